@@ -1,0 +1,13 @@
+pub mod Types
+pub mod Words
+pub mod Parts
+pub mod Straps
+pub mod State
+pub mod Registers
+pub mod Events
+pub mod Effects
+pub mod Order
+pub mod Steps
+pub mod Traces
+pub mod Listing
+pub mod Marks

@@ -1,0 +1,209 @@
+-- Document 01, "Marked examples", and beside them "Readings we have already paid for" and the winner table, as one table of what the
+-- definitions give and what the paper says. proofs/Marks.antt proves it whole.
+-- Assumes nothing.
+use mathlib.Core.Path.{_≡_}
+use Prim.Native.Char.{code}
+use Prim.Native.String.{String, [] as empty, _∷_ as _then_}
+use Rattle.arbiter.specs.Types.{ℕ, zero, suc, List, [], _∷_, _++_, map, Master, Zero, One, Turn, Claims, Raw, Answer, Device, Strapped, Address, Unlisted}
+use Rattle.arbiter.specs.Straps.{pins, addressOf}
+use Rattle.arbiter.specs.Steps.{step, run}
+use Rattle.arbiter.specs.Listing.{listing}
+
+-- ---- a row: what is found, and what the paper says
+
+pub data Shown : Type 0 where
+  text : List ℕ → Shown
+  answers : Answer → Shown
+  turn : Turn → Shown
+  strapped : Strapped → Shown
+
+infix 15 _is_
+pub record Row : Type 0 where
+  pub found : Shown
+  pub paper : Shown
+
+abbrev pub _is_ : Shown → Shown → Row
+x is y = record { found = x; paper = y }
+
+-- ---- the ten events, with the numbers of 01's table; m is 0 or 1
+
+abbrev pub raw : ℕ → ℕ → ℕ → ℕ → Raw
+raw kind x y z = record { kind = kind; x = x; y = y; z = z }
+
+abbrev pub command : ℕ → ℕ → Raw
+command m c = raw 0 m c 0
+
+abbrev pub write : ℕ → ℕ → Raw
+write m v = raw 1 m v 0
+
+abbrev pub read : ℕ → Raw
+read m = raw 2 m 0 0
+
+abbrev pub stop : ℕ → Raw
+stop m = raw 3 m 0 0
+
+abbrev pub pair : ℕ → ℕ → Raw
+pair v0 v1 = raw 4 v0 v1 0
+
+abbrev pub lines : ℕ → ℕ → ℕ → Raw
+lines scl sda intin = raw 5 scl sda intin
+
+abbrev pub tick : Raw
+tick = raw 6 0 0 0
+
+abbrev pub pulse : ℕ → Raw
+pulse sda = raw 7 sda 0 0
+
+-- m sets register p to v, from COMMAND to STOP; both have CONTR open for writing; an event so often
+abbrev pub sets : ℕ → ℕ → ℕ → List Raw
+sets m p v = command m p ∷ write m v ∷ stop m ∷ []
+
+abbrev pub bothAtContr : List Raw
+bothAtContr = command 0 1 ∷ command 1 1 ∷ []
+
+abbrev pub times : ℕ → Raw → List Raw
+times zero e = []
+times (suc n) e = e ∷ times n e
+
+-- ---- what is asked of a fresh device
+
+-- the answer to an event that comes after these events
+infix 18 after_on_
+abbrev pub after_on_ : List Raw → Raw → Shown
+after es on e = answers (step (run es) e .answer)
+
+abbrev pub turnAfter : List Raw → Shown
+turnAfter es = turn ((run es) .arb .turn)
+
+-- ---- what the paper says
+
+abbrev pub bytes : ℕ → ℕ → ℕ → ℕ → Shown
+bytes outcome byte owner levels = answers (record { outcome = outcome; read = byte; owner = owner; lines = levels })
+
+abbrev pub characters : String → List ℕ
+characters empty = []
+characters (c then s) = code c ∷ characters s
+
+-- ---- M1 to M11
+
+abbrev pub m1 : List ℕ
+m1 = 0x04 ∷ 0 ∷ 0 ∷ 0 ∷ 0 ∷ 0x04 ∷ 0 ∷ 0 ∷ 0 ∷ 1 ∷ 0 ∷ 1 ∷ 0 ∷ 5 ∷ 0 ∷ 3 ∷ 0 ∷ 0 ∷ 0 ∷ 2 ∷ 0 ∷ 0 ∷ 0 ∷ []
+
+abbrev pub reserve2 : List Raw
+reserve2 = sets 0 3 2 ++ sets 0 1 0x01
+
+abbrev pub initialising : List Raw
+initialising = sets 0 1 0x0D
+
+abbrev pub clockStuck : List Raw
+clockStuck = sets 0 1 0x45 ++ lines 0 1 1 ∷ []
+
+unfoldable pub marked : List Row
+marked =
+    -- M1 the listing, and a refused trace
+    (text (listing m1) is text (characters "70 0004\n0000000C\n0000000C\n0000050C\n0007050C\n"))
+    ∷ (text (listing (0x05 ∷ [])) is text (characters "R10\n"))
+    -- M2 RT 2, bus idle: owner after one tick, lost at the second
+    ∷ (after reserve2 on tick is bytes 0 0 0x01 0x0C)
+    ∷ (after reserve2 ++ tick ∷ [] on tick is bytes 0 0 0x00 0x0C)
+    -- M3 RT 2, START before the second tick: kept; lost in the LINES event that is the STOP
+    ∷ (after reserve2 ++ tick ∷ lines 1 0 1 ∷ [] on tick is bytes 0 0 0x01 0x04)
+    ∷ (after reserve2 ++ tick ∷ lines 1 0 1 ∷ tick ∷ [] on lines 1 1 1 is bytes 0 0 0x00 0x0C)
+    -- M4 RT 0, idle timer off: owner after 255 idle ticks
+    ∷ (after sets 0 1 0x01 ++ times 254 tick on tick is bytes 0 0 0x01 0x0C)
+    -- M5 RT 0, idle timer on: owner after 100 idle ticks, lost at 101
+    ∷ (after sets 0 1 0x21 ++ times 99 tick on tick is bytes 0 0 0x01 0x0C)
+    ∷ (after sets 0 1 0x21 ++ times 100 tick on tick is bytes 0 0 0x00 0x0C)
+    -- M6 PAIR of 01h to both CONTR: 0 claims; of 81h: 1 claims. The claimant is granted at its own STOP, whichever comes first
+    ∷ (turnAfter (bothAtContr ++ pair 0x01 0x01 ∷ []) is turn (Claims Zero))
+    ∷ (after bothAtContr ++ pair 0x01 0x01 ∷ [] on stop 1 is bytes 0 0 0x00 0x0C)
+    ∷ (after bothAtContr ++ pair 0x01 0x01 ∷ stop 1 ∷ [] on stop 0 is bytes 0 0 0x01 0x0C)
+    ∷ (turnAfter (bothAtContr ++ pair 0x81 0x81 ∷ []) is turn (Claims One))
+    ∷ (after bothAtContr ++ pair 0x81 0x81 ∷ [] on stop 0 is bytes 0 0 0x00 0x0C)
+    ∷ (after bothAtContr ++ pair 0x81 0x81 ∷ stop 0 ∷ [] on stop 1 is bytes 0 0 0x02 0x0C)
+    -- M7 CONTR written FFh, read before the STOP: FDh
+    ∷ (after command 0 1 ∷ write 0 0xFF ∷ [] on read 0 is bytes 0 0xFD 0x00 0x0C)
+    -- M8 COMMAND 08h: outcome 1; 81h: outcome 0
+    ∷ (after [] on command 0 0x08 is bytes 1 0 0x00 0x0C)
+    ∷ (after [] on command 0 0x81 is bytes 0 0 0x00 0x0C)
+    -- M9 eight PULSE 0 then PULSE 1 closes the switch; nine PULSE 0 fail: the flag shows in STATUS
+    ∷ (after initialising ++ times 8 (pulse 0) on pulse 1 is bytes 0 0 0x05 0x0C)
+    ∷ (after initialising ++ times 8 (pulse 0) on pulse 0 is bytes 0 0 0x01 0x0C)
+    ∷ (after initialising ++ times 9 (pulse 0) ++ command 0 2 ∷ [] on read 0 is bytes 0 0xCA 0x01 0x0C)
+    -- M10 straps 1,0,0,0: refusal 8; straps 1,1,1,3: 0Fh
+    ∷ (strapped (addressOf (pins 1 0 0 0)) is strapped Unlisted)
+    ∷ (text (listing (0x04 ∷ 1 ∷ 0 ∷ 0 ∷ 0 ∷ 0 ∷ 0 ∷ [])) is text (characters "R8\n"))
+    ∷ (strapped (addressOf (pins 1 1 1 3)) is strapped (Address 0x0F))
+    -- M11 SMBUS_DIS set, SCL low: connected at 34 ticks, not at 35, still granted
+    ∷ (after clockStuck ++ times 33 tick on tick is bytes 0 0 0x05 0x08)
+    ∷ (after clockStuck ++ times 34 tick on tick is bytes 0 0 0x01 0x08)
+    ∷ []
+
+-- ---- readings we have already paid for
+
+unfoldable pub paidFor : List Row
+paidFor =
+    -- RT 00h is not "already run out", with the partner waiting as on the day of the incident
+    (after sets 0 1 0x01 ++ sets 1 1 0x01 ++ times 1000 tick on tick is bytes 0 0 0x01 0x0C)
+    -- and its partner's turn comes with a reserve: RT 50
+    ∷ (after sets 0 3 50 ++ sets 0 1 0x01 ++ sets 1 1 0x01 ++ times 48 tick on tick is bytes 0 0 0x01 0x0C)
+    ∷ (after sets 0 3 50 ++ sets 0 1 0x01 ++ sets 1 1 0x01 ++ times 49 tick on tick is bytes 0 0 0x02 0x0C)
+    -- a grant is given at the STOP, not with the LOCK_REQ byte
+    ∷ (after command 0 1 ∷ [] on write 0 0x01 is bytes 0 0 0x00 0x0C)
+    ∷ (after command 0 1 ∷ write 0 0x01 ∷ times 3 tick on stop 0 is bytes 0 0 0x01 0x0C)
+    -- the idle timer does not cut an unexpired reserve
+    ∷ (after sets 0 3 200 ++ sets 0 1 0x21 ++ times 198 tick on tick is bytes 0 0 0x01 0x0C)
+    ∷ (after sets 0 3 200 ++ sets 0 1 0x21 ++ times 199 tick on tick is bytes 0 0 0x00 0x0C)
+    -- a released owner does not claim again before its waiting partner
+    ∷ (after sets 0 1 0x01 ++ sets 1 1 0x01 ++ command 0 1 ∷ [] on write 0 0x00 is bytes 0 0 0x02 0x0C)
+    ∷ (after sets 0 1 0x01 ++ sets 1 1 0x01 ++ command 0 1 ∷ write 0 0x00 ∷ write 0 0x01 ∷ [] on stop 0 is bytes 0 0 0x02 0x0C)
+    -- a write pointer stays at 7: a second byte is still acknowledged; a read pointer goes to 0, the ID
+    ∷ (after command 0 0x87 ∷ write 0 0x11 ∷ [] on write 0 0x22 is bytes 0 0 0x00 0x0C)
+    ∷ (after command 0 0x87 ∷ read 0 ∷ [] on read 0 is bytes 0 0x38 0x00 0x0C)
+    ∷ []
+
+-- ---- the winner table, seen from outside: both ask in one PAIR, and both stop
+
+-- nobody, or m alone, was granted before
+abbrev pub never : List Raw
+never = []
+
+abbrev pub was : ℕ → List Raw
+was m = sets m 1 0x01 ++ sets m 1 0x00
+
+abbrev pub contest : List Raw → ℕ → ℕ → Shown
+contest before v0 v1 = after before ++ bothAtContr ++ pair v0 v1 ∷ stop 0 ∷ [] on stop 1
+
+abbrev pub owner0 : Shown
+owner0 = bytes 0 0 0x01 0x0C
+
+abbrev pub owner1 : Shown
+owner1 = bytes 0 0 0x02 0x0C
+
+unfoldable pub winners : List Row
+winners =
+    -- row 00: 0,1,0
+    (contest never 0x01 0x01 is owner0)
+    ∷ (contest (was 0) 0x01 0x01 is owner1)
+    ∷ (contest (was 1) 0x01 0x01 is owner0)
+    -- row 01: 1,1,1
+    ∷ (contest never 0x01 0x81 is owner1)
+    ∷ (contest (was 0) 0x01 0x81 is owner1)
+    ∷ (contest (was 1) 0x01 0x81 is owner1)
+    -- row 10: 0,0,0
+    ∷ (contest never 0x81 0x01 is owner0)
+    ∷ (contest (was 0) 0x81 0x01 is owner0)
+    ∷ (contest (was 1) 0x81 0x01 is owner0)
+    -- row 11: 1,1,0
+    ∷ (contest never 0x81 0x81 is owner1)
+    ∷ (contest (was 0) 0x81 0x81 is owner1)
+    ∷ (contest (was 1) 0x81 0x81 is owner0)
+    ∷ []
+
+-- ---- the one statement: every row's finding is what the paper says
+
+abbrev pub table : List Row
+table = marked ++ paidFor ++ winners
+
+abbrev pub MarksHold : Type 0
+MarksHold = map (λ (r : Row). r .found) table ≡ map (λ (r : Row). r .paper) table

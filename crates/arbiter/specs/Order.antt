@@ -1,0 +1,214 @@
+-- Document 01, "Order inside a step", parts 2 to 7. Part 1, the event's own effect, is in Effects.
+-- Assumes nothing.
+use Rattle.arbiter.specs.Types.{ℕ, _+_, Bool, true, false, not, _&&_, _||_, eqb, ltb, Master, Zero, One, Turn, Nobody, Claims, Owns, Last, Never, Was, Side, Bus, Switch, Apart, Initialising, Closed, Arbitration, Device, Event, Command, Write, Read, Stop, Pair, Lines, Tick, Pulse, Reset, GeneralCall}
+use Rattle.arbiter.specs.Words.{if_then_else_, partner, sameMaster, side, device}
+use Rattle.arbiter.specs.Parts.{withLockReq, withBusConnect, withBusInit, withLost, withGranted, withContr, withInts, withIdle, withTurn, withSwitch, withInitFail, withSide, withBus, withArb}
+use Rattle.arbiter.specs.State.{atRest, sclHigh, sdaHigh, isIdle}
+use Rattle.arbiter.specs.Registers.{disconnected, released}
+use Rattle.arbiter.specs.Events.{softReset}
+use Rattle.arbiter.specs.Effects.{idleLimit}
+
+-- ---- kinds of event that a part asks for
+
+abbrev pub isReset : Event → Bool
+isReset (Command m c) = false
+isReset (Write m v) = false
+isReset (Read m) = false
+isReset (Stop m) = false
+isReset (Pair v0 v1) = false
+isReset (Lines scl sda intin) = false
+isReset Tick = false
+isReset (Pulse sda) = false
+isReset Reset = true
+isReset (GeneralCall m b) = softReset b
+
+abbrev pub isTick : Event → Bool
+isTick (Command m c) = false
+isTick (Write m v) = false
+isTick (Read m) = false
+isTick (Stop m) = false
+isTick (Pair v0 v1) = false
+isTick (Lines scl sda intin) = false
+isTick Tick = true
+isTick (Pulse sda) = false
+isTick Reset = false
+isTick (GeneralCall m b) = false
+
+-- ---- 2. levels
+
+-- "SDA falling with SCL high before and after is START (busy); rising is STOP (not busy)."
+abbrev pub isStart : Bus → Bus → Bool
+isStart before after = sclHigh before && sclHigh after && sdaHigh before && not (sdaHigh after)
+
+abbrev pub isStop : Bus → Bus → Bool
+isStop before after = sclHigh before && sclHigh after && not (sdaHigh before) && sdaHigh after
+
+-- "Resets detect neither and clear busy."
+abbrev pub busyAfter : Event → Bus → Bus → Bool
+busyAfter e before b = not (isReset e) && (b .busy || isStart before b) && not (isStop before b)
+
+abbrev pub settledBus : Bool → Bus → Bus
+settledBus busy b =
+    record {
+      outscl = b .outscl;
+      outsda = b .outsda;
+      intin = b .intin;
+      drivescl = b .drivescl;
+      drivesda = b .drivesda;
+      busy = busy;
+      hold = b .hold;
+      idle = if not busy && sclHigh b && sdaHigh b then b .idle else 0;
+      lowscl = if sclHigh b then 0 else b .lowscl;
+      lowsda = if sdaHigh b then 0 else b .lowsda;
+    }
+
+-- "A high line zeroes its low count; idle means not busy and both high; not idle zeroes the idle count." `before` is the bus before the event.
+unfoldable pub levels : Event → Bus → Device → Device
+levels e before d = withBus (settledBus (busyAfter e before (d .bus)) (d .bus)) d
+
+-- ---- 3. losses
+
+-- "The granted master loses if its reserve was 1 to 255 and that many ticks have passed since the grant, and the bus is idle. With
+-- reserve 00h, it loses exactly if IDLE_TIMER_DIS is 1 and the idle count is 101." RT does not change while granted, so the owner's RT
+-- is the reserve of its grant.
+abbrev pub runsOut : Side → ℕ → Bus → Bool
+runsOut s reserve b = if eqb (s .rt) 0 then s .contr .idletimer && eqb (b .idle) idleLimit else eqb reserve 0 && isIdle b
+
+-- "A loss clears LOCK_REQ and sets its bit 1."
+abbrev pub loser : Side → Side
+loser s = withInts (withLost true (s .ints)) (withContr (withLockReq false (s .contr)) s)
+
+unfoldable pub lost : Master → Device → Device
+lost m d = device m (disconnected (loser (side m d))) (side (partner m) d) (released (d .bus)) (withTurn Nobody (d .arb))
+
+unfoldable pub lossesFrom : Turn → Device → Device
+lossesFrom Nobody d = d
+lossesFrom (Claims m) d = d
+lossesFrom (Owns m) d = if runsOut (side m d) (d .arb .reserve) (d .bus) then lost m d else d
+
+unfoldable pub losses : Device → Device
+losses d = lossesFrom (d .arb .turn) d
+
+-- ---- 4. "SCL low for 35 ticks, at the tick that makes 35: the granted master's BUS_CONNECT is cleared if its SMBUS_DIS is 1. The grant stays."
+
+abbrev pub cutTicks : ℕ
+cutTicks = 35
+
+unfoldable pub cutFrom : Event → Turn → Device → Device
+cutFrom e Nobody d = d
+cutFrom e (Claims m) d = d
+cutFrom e (Owns m) d =
+    if isTick e && eqb (d .bus .lowscl) cutTicks && (side m d) .contr .smbusdis then withSide m (disconnected (side m d)) d else d
+
+unfoldable pub cut : Event → Device → Device
+cut e d = cutFrom e (d .arb .turn) d
+
+-- ---- 5. claim
+
+-- "four rows of three winners, one row for each pair of priorities, one column each for last granted none, 0, 1"
+abbrev pub column : Last → Master → Master → Master → Master
+column Never none zero one = none
+column (Was Zero) none zero one = zero
+column (Was One) none zero one = one
+
+abbrev pub winner : Bool → Bool → Last → Master
+winner false false last = column last Zero One Zero
+winner false true last = column last One One One
+winner true false last = column last Zero Zero Zero
+winner true true last = column last One One Zero
+
+-- "With no claimant, the one requester claims; if both request, the winner table decides"
+abbrev pub claimBy : Bool → Bool → Master → Turn
+claimBy false false w = Nobody
+claimBy true false w = Claims Zero
+claimBy false true w = Claims One
+claimBy true true w = Claims w
+
+abbrev pub newClaim : Device → Turn
+newClaim d =
+    claimBy (d .side0 .contr .lockreq) (d .side1 .contr .lockreq) (winner (d .side0 .contr .priority) (d .side1 .contr .priority) (d .arb .last))
+
+-- "A claimant whose LOCK_REQ is 0 drops out; a granted master stays the claimant."
+abbrev pub claimAfter : Turn → Device → Turn
+claimAfter Nobody d = newClaim d
+claimAfter (Claims m) d = if (side m d) .contr .lockreq then Claims m else newClaim d
+claimAfter (Owns m) d = Owns m
+
+unfoldable pub claim : Device → Device
+claim d = withArb (withTurn (claimAfter (d .arb .turn) d) (d .arb)) d
+
+-- ---- 6. "Grant: a claimant not yet granted, with its port at rest and no hold is granted. Reserve count = RT, idle count = 0, last
+-- granted = it, its bit 2 set."
+
+abbrev pub grantedArb : Master → ℕ → Arbitration → Arbitration
+grantedArb m rt a = record { turn = Owns m; last = Was m; reserve = rt; switch = a .switch; initfail = a .initfail }
+
+unfoldable pub granted : Master → Device → Device
+granted m d =
+    device m (withInts (withGranted true ((side m d) .ints)) (side m d)) (side (partner m) d) (withIdle 0 (d .bus)) (grantedArb m ((side m d) .rt) (d .arb))
+
+unfoldable pub grantFrom : Turn → Device → Device
+grantFrom Nobody d = d
+grantFrom (Claims m) d = if atRest ((side m d) .port) && eqb (d .bus .hold) 0 then granted m d else d
+grantFrom (Owns m) d = d
+
+unfoldable pub grant : Device → Device
+grant d = grantFrom (d .arb .turn) d
+
+-- ---- 7. connection
+
+-- what the event says of the initialisation's clock: none, SDA low or SDA high
+pub data Clock : Type 0 where
+  silent low high : Clock
+
+abbrev pub clockOf : Event → Clock
+clockOf (Command m c) = silent
+clockOf (Write m v) = silent
+clockOf (Read m) = silent
+clockOf (Stop m) = silent
+clockOf (Pair v0 v1) = silent
+clockOf (Lines scl sda intin) = silent
+clockOf Tick = silent
+clockOf (Pulse false) = low
+clockOf (Pulse true) = high
+clockOf Reset = silent
+clockOf (GeneralCall m b) = silent
+
+abbrev pub switched : Switch → Device → Device
+switched w d = withArb (withSwitch w (d .arb)) d
+
+-- "When grant and BUS_CONNECT become both true with BUS_INIT set, initialisation starts and BUS_INIT_FAIL clears."
+unfoldable pub joined : Master → Device → Device
+joined m d =
+    if (side m d) .contr .businit then withArb (withInitFail false (withSwitch (Initialising m 0) (d .arb))) d else switched (Closed m) d
+
+-- "A PULSE of 1 ends it: BUS_INIT clears, the switch closes."
+abbrev pub initialised : Master → Device → Device
+initialised m d = switched (Closed m) (withSide m (withContr (withBusInit false ((side m d) .contr)) (side m d)) d)
+
+-- "The ninth PULSE of 0 ends it: BUS_INIT and BUS_CONNECT clear, BUS_INIT_FAIL sets."
+abbrev pub failedSide : Side → Side
+failedSide s = withContr (withBusInit false (withBusConnect false (s .contr))) s
+
+abbrev pub initFailed : Master → Device → Device
+initFailed m d = withArb (withInitFail true (withSwitch Apart (d .arb))) (withSide m (failedSide (side m d)) d)
+
+unfoldable pub clocked : Clock → Master → ℕ → Device → Device
+clocked silent m n d = d
+clocked high m n d = initialised m d
+clocked low m n d = if ltb n 8 then switched (Initialising m (n + 1)) d else initFailed m d
+
+-- Grant and BUS_CONNECT are both true of m. They were before, too, if the switch was already m's; else they have become so.
+unfoldable pub keptJoined : Clock → Master → Switch → Device → Device
+keptJoined c m Apart d = joined m d
+keptJoined c m (Initialising k n) d = if sameMaster m k then clocked c m n d else joined m d
+keptJoined c m (Closed k) d = if sameMaster m k then d else joined m d
+
+-- "Losing either grant or BUS_CONNECT abandons it and leaves BUS_INIT .. Otherwise the switch is closed exactly if both are true."
+unfoldable pub connectFrom : Clock → Turn → Device → Device
+connectFrom c Nobody d = switched Apart d
+connectFrom c (Claims m) d = switched Apart d
+connectFrom c (Owns m) d = if (side m d) .contr .busconnect then keptJoined c m (d .arb .switch) d else switched Apart d
+
+unfoldable pub connect : Event → Device → Device
+connect e d = connectFrom (clockOf e) (d .arb .turn) d

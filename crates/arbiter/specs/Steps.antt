@@ -1,0 +1,88 @@
+-- Document 01, "Order inside a step" as a whole, "Answers", and a run of events from power-up.
+-- Assumes nothing.
+use Rattle.arbiter.specs.Types.{ℕ, _+_, _*_, Bool, true, false, List, [], _∷_, Master, Zero, One, Turn, Nobody, Claims, Owns, Switch, Apart, Initialising, Closed, Device, Raw, Event, Command, Write, Read, Stop, Pair, Lines, Tick, Pulse, Reset, GeneralCall, Decoded, Reads, UnknownKind, BadField, Outcome, Done, NotAcknowledged, OutOfSequence, Answer, Stepped}
+use Rattle.arbiter.specs.Words.{if_then_else_, num, side}
+use Rattle.arbiter.specs.State.{isInitialising, sclHigh, sdaHigh}
+use Rattle.arbiter.specs.Registers.{registerByte, output}
+use Rattle.arbiter.specs.Events.{decode, inSequence, outcome, outcomeNumber}
+use Rattle.arbiter.specs.Effects.{effect, powerUp}
+use Rattle.arbiter.specs.Order.{levels, losses, cut, claim, grant, connect}
+
+-- ---- the seven parts, one after the other
+
+unfoldable pub parts : Event → Device → Device
+parts e d = connect e (grant (claim (cut e (losses (levels e (d .bus) (effect e d))))))
+
+-- ---- the answer: "outcome; byte read or 00; bits 0-1 owner (0 none, 1 master 0, 2 master 1), bits 2-3 switch likewise, bit 4 initialising;
+-- then bit 0 INT0 asserted, 1 INT1 asserted, 2 SCL high, 3 SDA high. All after the step."
+
+abbrev pub masterNumber : Master → ℕ
+masterNumber Zero = 1
+masterNumber One = 2
+
+abbrev pub ownerNumber : Turn → ℕ
+ownerNumber Nobody = 0
+ownerNumber (Claims m) = 0
+ownerNumber (Owns m) = masterNumber m
+
+abbrev pub switchNumber : Switch → ℕ
+switchNumber Apart = 0
+switchNumber (Initialising m n) = 0
+switchNumber (Closed m) = masterNumber m
+
+unfoldable pub ownerByte : Device → ℕ
+ownerByte d = ownerNumber (d .arb .turn) + 4 * switchNumber (d .arb .switch) + 16 * num (isInitialising (d .arb .switch))
+
+unfoldable pub linesByte : Device → ℕ
+linesByte d = num (output Zero d) + 2 * num (output One d) + 4 * num (sclHigh (d .bus)) + 8 * num (sdaHigh (d .bus))
+
+-- with the device as it is after the step
+abbrev pub answer : ℕ → ℕ → Device → Answer
+answer number byte d = record { outcome = number; read = byte; owner = ownerByte d; lines = linesByte d }
+
+-- READ "hands out the byte" of the register that the pointer named before it
+unfoldable pub byteRead : Event → Device → ℕ
+byteRead (Command m c) d = 0
+byteRead (Write m v) d = 0
+byteRead (Read m) d = registerByte ((side m d) .pointer) m d
+byteRead (Stop m) d = 0
+byteRead (Pair v0 v1) d = 0
+byteRead (Lines scl sda intin) d = 0
+byteRead Tick d = 0
+byteRead (Pulse sda) d = 0
+byteRead Reset d = 0
+byteRead (GeneralCall m b) d = 0
+
+-- ---- a step
+
+-- "2 / 3 / 4 .. device unchanged, byte read 00; the run goes on"
+unfoldable pub refused : ℕ → Device → Stepped
+refused number d = record { device = d; answer = answer number 0 d }
+
+unfoldable pub taken : Event → Device → Stepped
+taken e d = record { device = parts e d; answer = answer (outcomeNumber (outcome e d)) (byteRead e d) (parts e d) }
+
+unfoldable pub stepEvent : Event → Device → Stepped
+stepEvent e d = if inSequence e d then taken e d else refused 4 d
+
+-- "an event that does not read as one is taken out first"
+unfoldable pub stepDecoded : Decoded → Device → Stepped
+stepDecoded (Reads e) d = stepEvent e d
+stepDecoded UnknownKind d = refused 2 d
+stepDecoded BadField d = refused 3 d
+
+unfoldable pub step : Device → Raw → Stepped
+step d r = stepDecoded (decode r) d
+
+-- ---- a run: raw events one after the other, refused ones included
+
+unfoldable pub runFrom : Device → List Raw → Device
+runFrom d [] = d
+runFrom d (r ∷ rs) = runFrom (step d r .device) rs
+
+unfoldable pub answersFrom : Device → List Raw → List Answer
+answersFrom d [] = []
+answersFrom d (r ∷ rs) = step d r .answer ∷ answersFrom (step d r .device) rs
+
+unfoldable pub run : List Raw → Device
+run rs = runFrom powerUp rs

@@ -1,0 +1,101 @@
+-- Document 01, "Answers and the trace": how bytes read as a trace, the refusals in their order, and what a trace's run leaves.
+-- Assumes nothing.
+use Rattle.arbiter.specs.Types.{ℕ, zero, suc, _+_, _*_, Bool, true, false, not, List, [], _∷_, _++_, eqb, ltb, length, drop, getD, Device, Raw, Answer, Pins, Strapped, Address, Unlisted, Refusal, TraceCut, TooManyEvents, BytesAfterEnd, BadStraps, NoRoom, BadCount, TraceRead, Accepted, Refused, Report}
+use Rattle.arbiter.specs.Words.{if_then_else_}
+use Rattle.arbiter.specs.Straps.{pins, addressOf}
+use Rattle.arbiter.specs.Effects.{powerUp}
+use Rattle.arbiter.specs.Steps.{answersFrom, run}
+
+-- ---- the parts of a trace: "a count byte 4 and the pins AD3 to AD0; then a two-byte low-first count n up to 4,096, and n events"
+
+abbrev pub pinCount : ℕ
+pinCount = 4
+
+abbrev pub mostEvents : ℕ
+mostEvents = 4096
+
+abbrev pub byteAt : ℕ → List ℕ → ℕ
+byteAt i t = getD t i 0
+
+abbrev pub pinsIn : List ℕ → Pins
+pinsIn t = pins (byteAt 1 t) (byteAt 2 t) (byteAt 3 t) (byteAt 4 t)
+
+abbrev pub countIn : List ℕ → ℕ
+countIn t = byteAt 5 t + 256 * byteAt 6 t
+
+-- where the events start, and where n of them end
+abbrev pub headBytes : ℕ
+headBytes = 7
+
+abbrev pub wholeBytes : ℕ → ℕ
+wholeBytes n = headBytes + 4 * n
+
+-- the first n events of these bytes
+abbrev pub rawIn : List ℕ → Raw
+rawIn t = record { kind = byteAt 0 t; x = byteAt 1 t; y = byteAt 2 t; z = byteAt 3 t }
+
+unfoldable pub rawsIn : ℕ → List ℕ → List Raw
+rawsIn zero t = []
+rawsIn (suc n) t = rawIn t ∷ rawsIn n (drop 4 t)
+
+abbrev pub eventsIn : ℕ → List ℕ → List Raw
+eventsIn n t = rawsIn n (drop headBytes t)
+
+-- ---- the refusals: "Trace order: first count missing 5, wrong 10, pins missing 5, pins 8, n missing 5, 6, events missing 5, 7, 9."
+
+-- from the count of events on; `room` is the length of the answer buffer
+unfoldable pub readCounted : ℕ → List ℕ → ℕ → TraceRead
+readCounted address t room =
+    if ltb (length t) headBytes then Refused TraceCut
+    else if ltb mostEvents (countIn t) then Refused TooManyEvents
+    else if ltb (length t) (wholeBytes (countIn t)) then Refused TraceCut
+    else if ltb (wholeBytes (countIn t)) (length t) then Refused BytesAfterEnd
+    else if ltb room (4 * countIn t) then Refused NoRoom
+    else Accepted address (countIn t)
+
+unfoldable pub readStrapped : Strapped → List ℕ → ℕ → TraceRead
+readStrapped (Address a) t room = readCounted a t room
+readStrapped Unlisted t room = Refused BadStraps
+
+unfoldable pub readTrace : List ℕ → ℕ → TraceRead
+readTrace t room =
+    if ltb (length t) 1 then Refused TraceCut
+    else if not (eqb (byteAt 0 t) pinCount) then Refused BadCount
+    else if ltb (length t) 5 then Refused TraceCut
+    else readStrapped (addressOf (pinsIn t)) t room
+
+-- ---- the paper's numbers: "5 / 6 / 7 trace cut / n above 4,096 / bytes after the end", "8 pin code above 3 or unlisted strapping",
+-- "9 answer room under 4n", "10 first count not 4"
+
+abbrev pub refusalNumber : Refusal → ℕ
+refusalNumber TraceCut = 5
+refusalNumber TooManyEvents = 6
+refusalNumber BytesAfterEnd = 7
+refusalNumber BadStraps = 8
+refusalNumber NoRoom = 9
+refusalNumber BadCount = 10
+
+-- ---- what a run of a trace leaves: "an accepted trace reports n events"; a refused one "answers untouched, 0 events, fresh device"
+
+unfoldable pub reportOf : TraceRead → List ℕ → Report
+reportOf (Accepted address n) t = record { number = 0; address = address; events = n; device = run (eventsIn n t) }
+reportOf (Refused r) t = record { number = refusalNumber r; address = 0; events = 0; device = powerUp }
+
+abbrev pub bytesOf : List Answer → List ℕ
+bytesOf [] = []
+bytesOf (a ∷ rest) = a .outcome ∷ a .read ∷ a .owner ∷ a .lines ∷ bytesOf rest
+
+abbrev pub answersIn : ℕ → List ℕ → List Answer
+answersIn n t = answersFrom powerUp (eventsIn n t)
+
+-- "Answer bytes past 4n stay."
+unfoldable pub bufferOf : TraceRead → List ℕ → List ℕ → List ℕ
+bufferOf (Accepted address n) t buffer = bytesOf (answersIn n t) ++ drop (4 * n) buffer
+bufferOf (Refused r) t buffer = buffer
+
+-- the report of a trace, and the answer buffer after it
+unfoldable pub report : List ℕ → List ℕ → Report
+report t buffer = reportOf (readTrace t (length buffer)) t
+
+unfoldable pub bufferAfter : List ℕ → List ℕ → List ℕ
+bufferAfter t buffer = bufferOf (readTrace t (length buffer)) t buffer

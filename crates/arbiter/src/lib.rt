@@ -1,0 +1,218 @@
+// The arbiter's types. What they mean is written in specs/, one file for each section of document 01; specs/Lib.antt lists them in its order.
+
+// ---- who
+
+// The two masters, each at its own upstream port.
+pub enum Master {
+    Zero,
+    One,
+}
+
+// Whose turn it is: nobody asks, m is the claimant and waits, m is granted and owns the bus.
+pub enum Turn {
+    Nobody,
+    Claims(Master),
+    Owns(Master),
+}
+
+// The last granted master.
+pub enum Last {
+    Never,
+    Was(Master),
+}
+
+// ---- one master's port and registers
+
+// A port is at rest, open (but not for writing), or open for writing.
+pub enum Port {
+    Rest,
+    Open,
+    Writing,
+}
+
+// The eight registers, by name. The pointer of a port is one of them.
+pub enum Register {
+    Id,
+    Contr,
+    Status,
+    Rt,
+    IntStatus,
+    IntMask,
+    MailLow,
+    MailHigh,
+}
+
+// CONTR as it is stored: LOCK_GRANT is not, for it is read off the turn.
+pub struct Control {
+    pub priority: bool,
+    pub smbusdis: bool,
+    pub idletimer: bool,
+    pub swrst: bool,
+    pub businit: bool,
+    pub busconnect: bool,
+    pub lockreq: bool,
+}
+
+// INT_STATUS bits 5 to 0 as they are stored: bit 6 is not, for it equals BUS_HUNG.
+pub struct Interrupts {
+    pub mailfull: bool,
+    pub mailemptied: bool,
+    pub test: bool,
+    pub granted: bool,
+    pub lost: bool,
+    pub intin: bool,
+}
+
+// A master's own mailbox.
+pub struct Mailbox {
+    pub low: u8,
+    pub high: u8,
+    pub full: bool,
+}
+
+pub struct Side {
+    pub port: Port,
+    pub auto: bool,
+    pub pointer: Register,
+    pub contr: Control,
+    pub rt: u8,
+    pub ints: Interrupts,
+    pub mask: u8,
+    pub mail: Mailbox,
+}
+
+// ---- what the two share
+
+// The downstream bus: outside levels and INT_IN, the two drives, the hold, and what is counted. True is high, or released.
+pub struct Bus {
+    pub outscl: bool,
+    pub outsda: bool,
+    pub intin: bool,
+    pub drivescl: bool,
+    pub drivesda: bool,
+    pub busy: bool,
+    pub hold: u8,
+    pub idle: u8,
+    pub lowscl: u16,
+    pub lowsda: u16,
+}
+
+// The switch says by itself whom it connects: apart, initialising for m after so many PULSEs of 0, or closed for m.
+pub enum Switch {
+    Apart,
+    Initialising(Master, u8),
+    Closed(Master),
+}
+
+pub struct Arbitration {
+    pub turn: Turn,
+    pub last: Last,
+    pub reserve: u8,
+    pub switch: Switch,
+    pub initfail: bool,
+}
+
+pub struct Device {
+    pub side0: Side,
+    pub side1: Side,
+    pub bus: Bus,
+    pub arb: Arbitration,
+}
+
+// ---- events and answers
+
+// The four bytes of an event as they come: the kind and three fields.
+pub struct Raw {
+    pub kind: u8,
+    pub x: u8,
+    pub y: u8,
+    pub z: u8,
+}
+
+// The ten kinds of event.
+pub enum Event {
+    Command(Master, u8),
+    Write(Master, u8),
+    Read(Master),
+    Stop(Master),
+    Pair(u8, u8),
+    Lines(bool, bool, bool),
+    Tick,
+    Pulse(bool),
+    Reset,
+    GeneralCall(Master, u8),
+}
+
+// Four bytes read as an event, or they do not: an unknown kind, or a field out of range or unused and not 0.
+pub enum Decoded {
+    Reads(Event),
+    UnknownKind,
+    BadField,
+}
+
+// What a device makes of an event that reads as one.
+pub enum Outcome {
+    Done,
+    NotAcknowledged,
+    OutOfSequence,
+}
+
+// The four bytes of an answer: the outcome's number, the byte read, owner and switch, outputs and levels.
+pub struct Answer {
+    pub outcome: u8,
+    pub read: u8,
+    pub owner: u8,
+    pub lines: u8,
+}
+
+// The new device, and the answer.
+pub struct Stepped {
+    pub device: Device,
+    pub answer: Answer,
+}
+
+// ---- straps and traces
+
+// The codes of the four address pins.
+pub struct Pins {
+    pub ad3: u8,
+    pub ad2: u8,
+    pub ad1: u8,
+    pub ad0: u8,
+}
+
+// The address of a strapping.
+pub enum Strapped {
+    Address(u8),
+    Unlisted,
+}
+
+// The strapping of an address.
+pub enum Strapping {
+    Straps(Pins),
+    Outside,
+}
+
+// Why a whole trace is refused.
+pub enum Refusal {
+    TraceCut,
+    TooManyEvents,
+    BytesAfterEnd,
+    BadStraps,
+    NoRoom,
+    BadCount,
+}
+
+// A trace is accepted, with its address and its count of events, or refused.
+pub enum TraceRead {
+    Accepted(u8, usize),
+    Refused(Refusal),
+}
+
+// What a run of a trace reports beside the answers.
+pub struct Report {
+    pub number: u8,
+    pub address: u8,
+    pub events: usize,
+    pub device: Device,
+}
