@@ -42,10 +42,11 @@ loop-less c = search needs
 
 loop-again : tie.Need-loop-again Inv-loop μ-loop
 loop-again c =
-    let loop = c .before .before .before .before .before .loop in
-    (search needs,
-    below-more _ _ (loop .inv .1)
-    (other-pins _ _ _ (sym (c .before .same-pins .ensures) ∙ c .if1 .left) (c .before .before .before .entry-at .ensures .by-class)))
+    let loop = c .before .before .before .before .before .loop in (
+      search needs,
+      below-more _ _ (loop .inv .1)
+          (other-pins _ _ _ (sym (c .before .same-pins .ensures) ∙ c .if1 .left) (c .before .before .before .entry-at .ensures .by-class)),
+    )
 
 returns-2 : tie.Need-returns-2 Inv-loop μ-loop
 returns-2 c =
