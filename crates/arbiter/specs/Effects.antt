@@ -1,10 +1,10 @@
 -- Document 01, "Events", the table's last column, and part 1 of a step: the event's own effect.
 -- Assumes nothing.
-use Rattle.arbiter.specs.Types.{ℕ, _+_, _-_, _%_, Bool, true, false, not, _&&_, _||_, eqb, ltb, Master, Zero, One, Turn, Nobody, Last, Never, Port, Rest, Open, Writing, Register, Id, Contr, Status, Rt, IntStatus, IntMask, MailLow, MailHigh, Side, Bus, Switch, Apart, Arbitration, Device, Event, Command, Write, Read, Stop, Pair, Lines, Tick, Pulse, Reset, GeneralCall}
+use Rattle.arbiter.specs.Types.{ℕ, _+_, _-_, _%_, Bool, true, false, not, _&&_, eqb, ltb, Master, Zero, One, Turn, Nobody, Never, Rest, Open, Writing, Register, Id, Contr, Status, Rt, IntStatus, IntMask, MailLow, MailHigh, Side, Bus, Apart, Arbitration, Device, Event, Command, Write, Read, Stop, Pair, Lines, Tick, Pulse, Reset, GeneralCall}
 use Rattle.arbiter.specs.Words.{if_then_else_, bit, partner, side, device}
-use Rattle.arbiter.specs.Parts.{withPort, withAuto, withPointer, withInts, withMail, withMailEmptied, withIntIn, withTurn, withSide}
+use Rattle.arbiter.specs.Parts.{withPort, withAuto, withPointer, withInts, withMail, withTurn, withReserve, withSide}
 use Rattle.arbiter.specs.State.{owns, sclHigh, sdaHigh, isIdle, hungLimit}
-use Rattle.arbiter.specs.Registers.{ownWritten, mailWritten, drivesWritten, turnWritten}
+use Rattle.arbiter.specs.Registers.{mailEmptiedInt, intInInt, raised, ownWritten, mailWritten, drivesWritten, turnWritten}
 use Rattle.arbiter.specs.Events.{goodCommand, softReset}
 
 -- ---- the pointer
@@ -106,7 +106,7 @@ abbrev pub readerSide : Side → Side
 readerSide s = withPort Open (readRisen (withMail (record { low = s .mail .low; high = s .mail .high; full = s .mail .full && not (empties s) }) s))
 
 abbrev pub senderSide : Bool → Side → Side
-senderSide emptied s = withInts (withMailEmptied (s .ints .mailemptied || emptied) (s .ints)) s
+senderSide emptied s = withInts (raised mailEmptiedInt emptied (s .ints)) s
 
 unfoldable pub wasRead : Master → Device → Device
 wasRead m d = device m (readerSide (side m d)) (senderSide (empties (side m d)) (side (partner m) d)) (d .bus) (d .arb)
@@ -114,7 +114,7 @@ wasRead m d = device m (readerSide (side m d)) (senderSide (empties (side m d)) 
 -- ---- LINES: "outside levels, 0 or 1 ..; a fall of INT_IN sets bit 0 for both"
 
 abbrev pub intInFallen : Bool → Side → Side
-intInFallen fell s = withInts (withIntIn (s .ints .intin || fell) (s .ints)) s
+intInFallen fell s = withInts (raised intInInt fell (s .ints)) s
 
 abbrev pub outside : Bool → Bool → Bool → Bus → Bus
 outside scl sda intin b =
@@ -150,7 +150,7 @@ tickedBus b =
     }
 
 abbrev pub tickedArb : Arbitration → Arbitration
-tickedArb a = record { turn = a .turn; last = a .last; reserve = a .reserve - 1; switch = a .switch; initfail = a .initfail }
+tickedArb a = withReserve (a .reserve - 1) a
 
 unfoldable pub ticked : Device → Device
 ticked d = record { side0 = d .side0; side1 = d .side1; bus = tickedBus (d .bus); arb = tickedArb (d .arb) }
@@ -160,14 +160,14 @@ ticked d = record { side0 = d .side0; side1 = d .side1; bus = tickedBus (d .bus)
 unfoldable pub freshSide : Side
 freshSide =
     record {
-      port = Rest;
-      auto = false;
       pointer = Id;
-      contr = record { priority = false; smbusdis = false; idletimer = false; swrst = false; businit = false; busconnect = false; lockreq = false };
       rt = 0;
-      ints = record { mailfull = false; mailemptied = false; test = false; granted = false; lost = false; intin = false };
-      mask = 0x7F;
+      contr = record { priority = false; smbusdis = false; idletimer = false; swrst = false; businit = false; busconnect = false; lockreq = false };
+      ints = 0;
       mail = record { low = 0; high = 0; full = false };
+      auto = false;
+      port = Rest;
+      mask = 0x7F;
     }
 
 -- "Drives start released"; SCL is held for so many ticks
@@ -176,7 +176,7 @@ freshBus hold b =
     record { outscl = b .outscl; outsda = b .outsda; intin = b .intin; drivescl = true; drivesda = true; busy = false; hold = hold; idle = 0; lowscl = 0; lowsda = 0 }
 
 abbrev pub freshArb : Arbitration
-freshArb = record { turn = Nobody; last = Never; reserve = 0; switch = Apart; initfail = false }
+freshArb = record { last = Never; initfail = false; switch = Apart; reserve = 0; turn = Nobody }
 
 unfoldable pub wasReset : ℕ → Device → Device
 wasReset hold d = record { side0 = freshSide; side1 = freshSide; bus = freshBus hold (d .bus); arb = freshArb }

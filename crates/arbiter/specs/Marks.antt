@@ -4,7 +4,7 @@
 use mathlib.Core.Path.{_≡_}
 use Prim.Native.Char.{code}
 use Prim.Native.String.{String, [] as empty, _∷_ as _then_}
-use Rattle.arbiter.specs.Types.{ℕ, zero, suc, List, [], _∷_, _++_, map, Master, Zero, One, Turn, Claims, Raw, Answer, Device, Strapped, Address, Unlisted}
+use Rattle.arbiter.specs.Types.{ℕ, zero, suc, List, [], _∷_, _++_, map, Zero, One, Turn, Claims, Raw, Answer, Strapped, Address, Unlisted}
 use Rattle.arbiter.specs.Straps.{pins, addressOf}
 use Rattle.arbiter.specs.Steps.{step, run}
 use Rattle.arbiter.specs.Listing.{listing}

@@ -2,9 +2,9 @@
 -- Assumes nothing.
 use Rattle.arbiter.specs.Types.{ℕ, _+_, Bool, true, false, not, _&&_, _||_, eqb, ltb, Master, Zero, One, Turn, Nobody, Claims, Owns, Last, Never, Was, Side, Bus, Switch, Apart, Initialising, Closed, Arbitration, Device, Event, Command, Write, Read, Stop, Pair, Lines, Tick, Pulse, Reset, GeneralCall}
 use Rattle.arbiter.specs.Words.{if_then_else_, partner, sameMaster, side, device}
-use Rattle.arbiter.specs.Parts.{withLockReq, withBusConnect, withBusInit, withLost, withGranted, withContr, withInts, withIdle, withTurn, withSwitch, withInitFail, withSide, withBus, withArb}
+use Rattle.arbiter.specs.Parts.{withLockReq, withBusConnect, withBusInit, withContr, withInts, withIdle, withTurn, withSwitch, withInitFail, withSide, withBus, withArb}
 use Rattle.arbiter.specs.State.{atRest, sclHigh, sdaHigh, isIdle}
-use Rattle.arbiter.specs.Registers.{disconnected, released}
+use Rattle.arbiter.specs.Registers.{grantedInt, lostInt, raised, disconnected, released}
 use Rattle.arbiter.specs.Events.{softReset}
 use Rattle.arbiter.specs.Effects.{idleLimit}
 
@@ -76,7 +76,7 @@ runsOut s reserve b = if eqb (s .rt) 0 then s .contr .idletimer && eqb (b .idle)
 
 -- "A loss clears LOCK_REQ and sets its bit 1."
 abbrev pub loser : Side → Side
-loser s = withInts (withLost true (s .ints)) (withContr (withLockReq false (s .contr)) s)
+loser s = withInts (raised lostInt true (s .ints)) (withContr (withLockReq false (s .contr)) s)
 
 unfoldable pub lost : Master → Device → Device
 lost m d = device m (disconnected (loser (side m d))) (side (partner m) d) (released (d .bus)) (withTurn Nobody (d .arb))
@@ -141,11 +141,11 @@ claim d = withArb (withTurn (claimAfter (d .arb .turn) d) (d .arb)) d
 -- granted = it, its bit 2 set."
 
 abbrev pub grantedArb : Master → ℕ → Arbitration → Arbitration
-grantedArb m rt a = record { turn = Owns m; last = Was m; reserve = rt; switch = a .switch; initfail = a .initfail }
+grantedArb m rt a = record { last = Was m; initfail = a .initfail; switch = a .switch; reserve = rt; turn = Owns m }
 
 unfoldable pub granted : Master → Device → Device
 granted m d =
-    device m (withInts (withGranted true ((side m d) .ints)) (side m d)) (side (partner m) d) (withIdle 0 (d .bus)) (grantedArb m ((side m d) .rt) (d .arb))
+    device m (withInts (raised grantedInt true ((side m d) .ints)) (side m d)) (side (partner m) d) (withIdle 0 (d .bus)) (grantedArb m ((side m d) .rt) (d .arb))
 
 unfoldable pub grantFrom : Turn → Device → Device
 grantFrom Nobody d = d

@@ -1,6 +1,6 @@
 -- One part of a record replaced by another, everything else kept: `withPort p s` is s with the port p.
 -- Assumes nothing.
-use Rattle.arbiter.specs.Types.{ℕ, Bool, true, Master, Turn, Last, Port, Register, Control, Interrupts, Mailbox, Side, Bus, Switch, Arbitration, Device}
+use Rattle.arbiter.specs.Types.{ℕ, Bool, Master, Turn, Port, Register, Control, Mailbox, Side, Bus, Switch, Arbitration, Device}
 use Rattle.arbiter.specs.Words.{partner, side, device}
 
 -- ---- CONTR
@@ -17,51 +17,31 @@ abbrev pub withBusInit : Bool → Control → Control
 withBusInit x c =
     record { priority = c .priority; smbusdis = c .smbusdis; idletimer = c .idletimer; swrst = c .swrst; businit = x; busconnect = c .busconnect; lockreq = c .lockreq }
 
--- ---- INT_STATUS
-
-abbrev pub withMailFull : Bool → Interrupts → Interrupts
-withMailFull x i = record { mailfull = x; mailemptied = i .mailemptied; test = i .test; granted = i .granted; lost = i .lost; intin = i .intin }
-
-abbrev pub withMailEmptied : Bool → Interrupts → Interrupts
-withMailEmptied x i = record { mailfull = i .mailfull; mailemptied = x; test = i .test; granted = i .granted; lost = i .lost; intin = i .intin }
-
-abbrev pub withTest : Bool → Interrupts → Interrupts
-withTest x i = record { mailfull = i .mailfull; mailemptied = i .mailemptied; test = x; granted = i .granted; lost = i .lost; intin = i .intin }
-
-abbrev pub withGranted : Bool → Interrupts → Interrupts
-withGranted x i = record { mailfull = i .mailfull; mailemptied = i .mailemptied; test = i .test; granted = x; lost = i .lost; intin = i .intin }
-
-abbrev pub withLost : Bool → Interrupts → Interrupts
-withLost x i = record { mailfull = i .mailfull; mailemptied = i .mailemptied; test = i .test; granted = i .granted; lost = x; intin = i .intin }
-
-abbrev pub withIntIn : Bool → Interrupts → Interrupts
-withIntIn x i = record { mailfull = i .mailfull; mailemptied = i .mailemptied; test = i .test; granted = i .granted; lost = i .lost; intin = x }
-
 -- ---- one side
 
 abbrev pub withPort : Port → Side → Side
-withPort x s = record { port = x; auto = s .auto; pointer = s .pointer; contr = s .contr; rt = s .rt; ints = s .ints; mask = s .mask; mail = s .mail }
+withPort x s = record { pointer = s .pointer; rt = s .rt; contr = s .contr; ints = s .ints; mail = s .mail; auto = s .auto; port = x; mask = s .mask }
 
 abbrev pub withAuto : Bool → Side → Side
-withAuto x s = record { port = s .port; auto = x; pointer = s .pointer; contr = s .contr; rt = s .rt; ints = s .ints; mask = s .mask; mail = s .mail }
+withAuto x s = record { pointer = s .pointer; rt = s .rt; contr = s .contr; ints = s .ints; mail = s .mail; auto = x; port = s .port; mask = s .mask }
 
 abbrev pub withPointer : Register → Side → Side
-withPointer x s = record { port = s .port; auto = s .auto; pointer = x; contr = s .contr; rt = s .rt; ints = s .ints; mask = s .mask; mail = s .mail }
+withPointer x s = record { pointer = x; rt = s .rt; contr = s .contr; ints = s .ints; mail = s .mail; auto = s .auto; port = s .port; mask = s .mask }
 
 abbrev pub withContr : Control → Side → Side
-withContr x s = record { port = s .port; auto = s .auto; pointer = s .pointer; contr = x; rt = s .rt; ints = s .ints; mask = s .mask; mail = s .mail }
+withContr x s = record { pointer = s .pointer; rt = s .rt; contr = x; ints = s .ints; mail = s .mail; auto = s .auto; port = s .port; mask = s .mask }
 
 abbrev pub withRt : ℕ → Side → Side
-withRt x s = record { port = s .port; auto = s .auto; pointer = s .pointer; contr = s .contr; rt = x; ints = s .ints; mask = s .mask; mail = s .mail }
+withRt x s = record { pointer = s .pointer; rt = x; contr = s .contr; ints = s .ints; mail = s .mail; auto = s .auto; port = s .port; mask = s .mask }
 
-abbrev pub withInts : Interrupts → Side → Side
-withInts x s = record { port = s .port; auto = s .auto; pointer = s .pointer; contr = s .contr; rt = s .rt; ints = x; mask = s .mask; mail = s .mail }
+abbrev pub withInts : ℕ → Side → Side
+withInts x s = record { pointer = s .pointer; rt = s .rt; contr = s .contr; ints = x; mail = s .mail; auto = s .auto; port = s .port; mask = s .mask }
 
 abbrev pub withMask : ℕ → Side → Side
-withMask x s = record { port = s .port; auto = s .auto; pointer = s .pointer; contr = s .contr; rt = s .rt; ints = s .ints; mask = x; mail = s .mail }
+withMask x s = record { pointer = s .pointer; rt = s .rt; contr = s .contr; ints = s .ints; mail = s .mail; auto = s .auto; port = s .port; mask = x }
 
 abbrev pub withMail : Mailbox → Side → Side
-withMail x s = record { port = s .port; auto = s .auto; pointer = s .pointer; contr = s .contr; rt = s .rt; ints = s .ints; mask = s .mask; mail = x }
+withMail x s = record { pointer = s .pointer; rt = s .rt; contr = s .contr; ints = s .ints; mail = x; auto = s .auto; port = s .port; mask = s .mask }
 
 -- ---- the bus
 
@@ -76,16 +56,16 @@ withIdle x b =
 -- ---- the arbitration
 
 abbrev pub withTurn : Turn → Arbitration → Arbitration
-withTurn x a = record { turn = x; last = a .last; reserve = a .reserve; switch = a .switch; initfail = a .initfail }
+withTurn x a = record { last = a .last; initfail = a .initfail; switch = a .switch; reserve = a .reserve; turn = x }
 
 abbrev pub withReserve : ℕ → Arbitration → Arbitration
-withReserve x a = record { turn = a .turn; last = a .last; reserve = x; switch = a .switch; initfail = a .initfail }
+withReserve x a = record { last = a .last; initfail = a .initfail; switch = a .switch; reserve = x; turn = a .turn }
 
 abbrev pub withSwitch : Switch → Arbitration → Arbitration
-withSwitch x a = record { turn = a .turn; last = a .last; reserve = a .reserve; switch = x; initfail = a .initfail }
+withSwitch x a = record { last = a .last; initfail = a .initfail; switch = x; reserve = a .reserve; turn = a .turn }
 
 abbrev pub withInitFail : Bool → Arbitration → Arbitration
-withInitFail x a = record { turn = a .turn; last = a .last; reserve = a .reserve; switch = a .switch; initfail = x }
+withInitFail x a = record { last = a .last; initfail = x; switch = a .switch; reserve = a .reserve; turn = a .turn }
 
 -- ---- the device
 

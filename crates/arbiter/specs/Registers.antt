@@ -1,8 +1,8 @@
 -- Document 01, "Registers, one set per master": what a master reads, when an output is asserted, and what a written byte does.
 -- Assumes nothing.
-use Rattle.arbiter.specs.Types.{ℕ, _%_, Bool, true, false, not, _&&_, _||_, Master, Turn, Nobody, Register, Id, Contr, Status, Rt, IntStatus, IntMask, MailLow, MailHigh, Control, Interrupts, Mailbox, Side, Bus, Device}
+use Rattle.arbiter.specs.Types.{ℕ, _-_, _%_, Bool, true, false, not, _&&_, _||_, eqb, bitAnd, bitOr, Master, Turn, Nobody, Register, Id, Contr, Status, Rt, IntStatus, IntMask, MailLow, MailHigh, Control, Side, Bus, Device}
 use Rattle.arbiter.specs.Words.{if_then_else_, bit, byteOf, partner, side}
-use Rattle.arbiter.specs.Parts.{withBusConnect, withTest, withMailFull, withContr, withRt, withInts, withMask, withMail, withDrives}
+use Rattle.arbiter.specs.Parts.{withBusConnect, withContr, withRt, withInts, withMask, withMail, withDrives}
 use Rattle.arbiter.specs.State.{owns, sclHigh, sdaHigh, busHung}
 
 -- ---- as they are read
@@ -19,9 +19,35 @@ statusByte m d =
     byteOf (sdaHigh (d .bus)) (sclHigh (d .bus)) false ((side m d) .mail .full) (not ((side (partner m) d) .mail .full)) (busHung (d .bus)) (d .arb .initfail)
     (owns (partner m) d)
 
--- "4 INT_STATUS: 6 hung, 5 mail full, 4 mail emptied, 3 test, 2 granted, 1 lost, 0 INT_IN" and "bit 6 equals BUS_HUNG"
-unfoldable pub intStatusByte : Bool → Interrupts → ℕ
-intStatusByte hung i = byteOf false hung (i .mailfull) (i .mailemptied) (i .test) (i .granted) (i .lost) (i .intin)
+-- "4 INT_STATUS: 6 hung, 5 mail full, 4 mail emptied, 3 test, 2 granted, 1 lost, 0 INT_IN", each as the byte that has this bit alone
+abbrev pub hungInt : ℕ
+hungInt = 0x40
+
+abbrev pub mailFullInt : ℕ
+mailFullInt = 0x20
+
+abbrev pub mailEmptiedInt : ℕ
+mailEmptiedInt = 0x10
+
+abbrev pub testInt : ℕ
+testInt = 0x08
+
+abbrev pub grantedInt : ℕ
+grantedInt = 0x04
+
+abbrev pub lostInt : ℕ
+lostInt = 0x02
+
+abbrev pub intInInt : ℕ
+intInInt = 0x01
+
+-- the interrupts i with this one set too, if it happened
+abbrev pub raised : ℕ → Bool → ℕ → ℕ
+raised this happened i = bitOr i (if happened then this else 0)
+
+-- bits 5 to 0 are kept, "bit 6 equals BUS_HUNG"
+abbrev pub intStatusByte : Bool → ℕ → ℕ
+intStatusByte hung i = raised hungInt hung i
 
 -- what m reads of each register
 unfoldable pub registerByte : Register → Master → Device → ℕ
@@ -35,14 +61,12 @@ registerByte MailLow m d = (side m d) .mail .low
 registerByte MailHigh m d = (side m d) .mail .high
 
 -- "An output is asserted exactly if some status bit of 6 to 0 that is set has mask 0."
-abbrev pub unmasked : ℕ → Bool → ℕ → Bool
-unmasked k status mask = status && not (bit k mask)
+-- The bits of 6 to 0 that have mask 0 are those of 7Fh less the mask.
+abbrev pub unmasked : ℕ → ℕ
+unmasked mask = 0x7F - mask % 128
 
-unfoldable pub isAsserted : Bool → Interrupts → ℕ → Bool
-isAsserted hung i mask =
-    unmasked 6 hung mask || unmasked 5 (i .mailfull) mask || unmasked 4 (i .mailemptied) mask || unmasked 3 (i .test) mask || unmasked 2 (i .granted) mask
-    || unmasked 1 (i .lost) mask
-    || unmasked 0 (i .intin) mask
+unfoldable pub isAsserted : Bool → ℕ → ℕ → Bool
+isAsserted hung i mask = not (eqb (bitAnd (intStatusByte hung i) (unmasked mask)) 0)
 
 abbrev pub output : Master → Device → Bool
 output m d = isAsserted (busHung (d .bus)) ((side m d) .ints) ((side m d) .mask)
@@ -68,23 +92,15 @@ controlOf v =
     record { priority = bit 7 v; smbusdis = bit 6 v; idletimer = bit 5 v; swrst = bit 4 v; businit = bit 3 v; busconnect = bit 2 v; lockreq = bit 0 v }
 
 -- "INT_STATUS bits 5 to 0 stay until written 1"
-abbrev pub cleared : ℕ → Interrupts → Interrupts
-cleared v i =
-    record {
-      mailfull = i .mailfull && not (bit 5 v);
-      mailemptied = i .mailemptied && not (bit 4 v);
-      test = i .test && not (bit 3 v);
-      granted = i .granted && not (bit 2 v);
-      lost = i .lost && not (bit 1 v);
-      intin = i .intin && not (bit 0 v);
-    }
+abbrev pub cleared : ℕ → ℕ → ℕ
+cleared v i = bitAnd i (0x3F - v % 64)
 
 -- to the writer's own registers: "A write of RT while granted is acknowledged and not stored"; "STATUS write: bit 5 = 1 sets the test
 -- interrupt"; "5 INT_MSK .. bit 7 reads 0"; ID is read only, and mail goes to the partner
 unfoldable pub ownWritten : Bool → Register → ℕ → Side → Side
 ownWritten granted Id v s = s
 ownWritten granted Contr v s = if withdraws granted v then disconnected (withContr (controlOf v) s) else withContr (controlOf v) s
-ownWritten granted Status v s = withInts (withTest (s .ints .test || bit 5 v) (s .ints)) s
+ownWritten granted Status v s = withInts (raised testInt (bit 5 v) (s .ints)) s
 ownWritten granted Rt v s = if granted then s else withRt v s
 ownWritten granted IntStatus v s = withInts (cleared v (s .ints)) s
 ownWritten granted IntMask v s = withMask (v % 128) s
@@ -97,7 +113,7 @@ abbrev pub mailLow : ℕ → Side → Side
 mailLow v s = withMail (record { low = v; high = s .mail .high; full = s .mail .full }) s
 
 abbrev pub mailHigh : ℕ → Side → Side
-mailHigh v s = withInts (withMailFull true (s .ints)) (withMail (record { low = s .mail .low; high = v; full = true }) s)
+mailHigh v s = withInts (raised mailFullInt true (s .ints)) (withMail (record { low = s .mail .low; high = v; full = true }) s)
 
 unfoldable pub mailWritten : Register → ℕ → Side → Side
 mailWritten Id v s = s

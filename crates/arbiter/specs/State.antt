@@ -1,7 +1,7 @@
 -- What a state shows, in document 01's words: who owns and who is connected, a port at rest, the levels of the lines, an idle bus, BUS_HUNG.
 -- Assumes nothing.
 use Rattle.arbiter.specs.Types.{ℕ, Bool, true, false, not, _&&_, _||_, eqb, Master, Turn, Nobody, Claims, Owns, Port, Rest, Open, Writing, Bus, Switch, Apart, Initialising, Closed, Device}
-use Rattle.arbiter.specs.Words.{sameMaster, side}
+use Rattle.arbiter.specs.Words.{sameMaster}
 
 -- ---- turn and switch
 

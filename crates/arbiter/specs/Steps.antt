@@ -1,6 +1,6 @@
 -- Document 01, "Order inside a step" as a whole, "Answers", and a run of events from power-up.
 -- Assumes nothing.
-use Rattle.arbiter.specs.Types.{ℕ, _+_, _*_, Bool, true, false, List, [], _∷_, Master, Zero, One, Turn, Nobody, Claims, Owns, Switch, Apart, Initialising, Closed, Device, Raw, Event, Command, Write, Read, Stop, Pair, Lines, Tick, Pulse, Reset, GeneralCall, Decoded, Reads, UnknownKind, BadField, Outcome, Done, NotAcknowledged, OutOfSequence, Answer, Stepped}
+use Rattle.arbiter.specs.Types.{ℕ, _+_, _*_, List, [], _∷_, Master, Zero, One, Turn, Nobody, Claims, Owns, Switch, Apart, Initialising, Closed, Device, Raw, Event, Command, Write, Read, Stop, Pair, Lines, Tick, Pulse, Reset, GeneralCall, Decoded, Reads, UnknownKind, BadField, Answer, Stepped}
 use Rattle.arbiter.specs.Words.{if_then_else_, num, side}
 use Rattle.arbiter.specs.State.{isInitialising, sclHigh, sdaHigh}
 use Rattle.arbiter.specs.Registers.{registerByte, output}

@@ -1,6 +1,6 @@
 -- Document 01, "Straps": from the four pins to the address, and from the address to its pins.
 -- Assumes nothing.
-use Rattle.arbiter.specs.Types.{ℕ, _+_, _*_, _/_, _%_, Bool, true, false, not, _&&_, List, [], _∷_, _++_, map, eqb, ltb, Pins, Strapped, Address, Unlisted, Strapping, Straps, Outside}
+use Rattle.arbiter.specs.Types.{ℕ, _+_, _*_, _%_, Bool, true, false, not, _&&_, List, [], _∷_, _++_, map, eqb, ltb, Pins, Strapped, Address, Unlisted, Strapping, Straps, Outside}
 use Rattle.arbiter.specs.Words.{if_then_else_}
 
 -- "Pin codes: 0 VSS, 1 VDD, 2 pull-down, 3 pull-up. VSS and VDD are ties, the others resistors."

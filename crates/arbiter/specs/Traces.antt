@@ -1,6 +1,6 @@
 -- Document 01, "Answers and the trace": how bytes read as a trace, the refusals in their order, and what a trace's run leaves.
 -- Assumes nothing.
-use Rattle.arbiter.specs.Types.{ℕ, zero, suc, _+_, _*_, Bool, true, false, not, List, [], _∷_, _++_, eqb, ltb, length, drop, getD, Device, Raw, Answer, Pins, Strapped, Address, Unlisted, Refusal, TraceCut, TooManyEvents, BytesAfterEnd, BadStraps, NoRoom, BadCount, TraceRead, Accepted, Refused, Report}
+use Rattle.arbiter.specs.Types.{ℕ, zero, suc, _+_, _*_, not, List, [], _∷_, _++_, eqb, ltb, length, drop, getD, Raw, Answer, Pins, Strapped, Address, Unlisted, Refusal, TraceCut, TooManyEvents, BytesAfterEnd, BadStraps, NoRoom, BadCount, TraceRead, Accepted, Refused, Report}
 use Rattle.arbiter.specs.Words.{if_then_else_}
 use Rattle.arbiter.specs.Straps.{pins, addressOf}
 use Rattle.arbiter.specs.Effects.{powerUp}

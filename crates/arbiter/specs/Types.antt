@@ -4,6 +4,7 @@ pub use Prim.Native.Nat.{ℕ, zero, suc, _+_, _*_, _-_, _/_, _%_, _^_}
 pub use mathlib.Core.Bool.{Bool, true, false, not, _&&_, _||_}
 pub use mathlib.Core.List.{List, [], _∷_, _++_, map}
 pub use lib.Dec.{eqb, ltb}
+pub use lib.Bits.{bitAnd, bitOr}
 pub use lib.ListN.{length, drop, getD}
 pub use Rattle.arbiter.specs.declared.Master.{Master}
 pub use Rattle.arbiter.specs.declared.Master.the-variants.{Zero, One}
@@ -16,7 +17,6 @@ pub use Rattle.arbiter.specs.declared.Port.the-variants.{Rest, Open, Wri
 pub use Rattle.arbiter.specs.declared.Register.{Register}
 pub use Rattle.arbiter.specs.declared.Register.the-variants.{Id, Contr, Status, Rt, IntStatus, IntMask, MailLow, MailHigh}
 pub use Rattle.arbiter.specs.declared.Control.{Control}
-pub use Rattle.arbiter.specs.declared.Interrupts.{Interrupts}
 pub use Rattle.arbiter.specs.declared.Mailbox.{Mailbox}
 pub use Rattle.arbiter.specs.declared.Side.{Side}
 pub use Rattle.arbiter.specs.declared.Bus.{Bus}

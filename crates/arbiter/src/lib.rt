@@ -53,16 +53,6 @@ pub struct Control {
     pub lockreq: bool,
 }
 
-// INT_STATUS bits 5 to 0 as they are stored: bit 6 is not, for it equals BUS_HUNG.
-pub struct Interrupts {
-    pub mailfull: bool,
-    pub mailemptied: bool,
-    pub test: bool,
-    pub granted: bool,
-    pub lost: bool,
-    pub intin: bool,
-}
-
 // A master's own mailbox.
 pub struct Mailbox {
     pub low: u8,
@@ -70,15 +60,17 @@ pub struct Mailbox {
     pub full: bool,
 }
 
+// A master's registers and its port. INT_STATUS keeps its bits 5 to 0 as a byte: bit 6 equals BUS_HUNG and is not stored. The order of
+// the fields, here and below, is the one measured to run fastest.
 pub struct Side {
-    pub port: Port,
-    pub auto: bool,
     pub pointer: Register,
-    pub contr: Control,
     pub rt: u8,
-    pub ints: Interrupts,
-    pub mask: u8,
+    pub contr: Control,
+    pub ints: u8,
     pub mail: Mailbox,
+    pub auto: bool,
+    pub port: Port,
+    pub mask: u8,
 }
 
 // ---- what the two share
@@ -105,11 +97,11 @@ pub enum Switch {
 }
 
 pub struct Arbitration {
-    pub turn: Turn,
     pub last: Last,
-    pub reserve: u8,
-    pub switch: Switch,
     pub initfail: bool,
+    pub switch: Switch,
+    pub reserve: u8,
+    pub turn: Turn,
 }
 
 pub struct Device {

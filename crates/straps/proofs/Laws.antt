@@ -5,9 +5,9 @@ use mathlib.Core.Bool.{Bool, true, false, not, _&&_, false≢true, and-eq-true-i
 use Prim.Native.Nat.{ℕ, _+_, _-_, _≤_, _<_}
 use native.Mathlib.Omega.{arith}
 use lib.Dec.{eqb, ltb}
-use borrow.Author.Tests.{ltb-true, ltb-false, eqb-true, not-true, lt-ltb, le-ltb, eq-eqb}
+use borrow.Author.Tests.{ltb-true, ltb-false, eqb-true, not-true, eq-eqb}
 use Rattle.arbiter.specs.Words.{if_then_else_}
-use Rattle.arbiter.specs.Straps.{isTie, isCode, listed, firstAddress, lowBits, inRange, addressOf, hasAddress, pins, settings, firstWith, strapsOf}
+use Rattle.arbiter.specs.Straps.{isTie, isCode, listed, firstAddress, lowBits, inRange, addressOf, hasAddress, pins, settings, strapsOf}
 use Rattle.arbiter.specs.declared.Pins.{Pins}
 use Rattle.arbiter.specs.declared.Strapped.{Strapped}
 use Rattle.arbiter.specs.declared.Strapped.the-variants.{Address, Unlisted}
