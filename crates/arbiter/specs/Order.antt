@@ -1,6 +1,6 @@
 -- Document 01, "Order inside a step", parts 2 to 7. Part 1, the event's own effect, is in Effects.
 -- Assumes nothing.
-use Rattle.arbiter.specs.Types.{ℕ, _+_, Bool, true, false, not, _&&_, _||_, eqb, ltb, Master, Zero, One, Turn, Nobody, Claims, Owns, Last, Never, Was, Side, Bus, Switch, Apart, Initialising, Closed, Arbitration, Device, Event, Command, Write, Read, Stop, Pair, Lines, Tick, Pulse, Reset, GeneralCall}
+use Rattle.arbiter.specs.Types.{ℕ, _+_, Bool, true, false, not, _&&_, _||_, eqb, ltb, Master, Zero, One, Turn, Nobody, Claims, Owns, Last, Never, Was, Side, Bus, Switch, Apart, Initialising, Closed, Arbitration, Device, Clock, NoClock, ClockLow, ClockHigh, Event, Command, Write, Read, Stop, Pair, Lines, Tick, Pulse, Reset, GeneralCall}
 use Rattle.arbiter.specs.Words.{if_then_else_, partner, sameMaster, side, device}
 use Rattle.arbiter.specs.Parts.{withLockReq, withBusConnect, withBusInit, withContr, withInts, withIdle, withTurn, withSwitch, withInitFail, withSide, withBus, withArb}
 use Rattle.arbiter.specs.State.{atRest, sclHigh, sdaHigh, isIdle}
@@ -8,7 +8,7 @@ use Rattle.arbiter.specs.Registers.{grantedInt, lostInt, raised, disconn
 use Rattle.arbiter.specs.Events.{softReset}
 use Rattle.arbiter.specs.Effects.{idleLimit}
 
--- ---- kinds of event that a part asks for
+-- ---- what a part asks of the event
 
 abbrev pub isReset : Event → Bool
 isReset (Command m c) = false
@@ -34,6 +34,20 @@ isTick (Pulse sda) = false
 isTick Reset = false
 isTick (GeneralCall m b) = false
 
+-- what it says of the initialisation's clock
+abbrev pub clockOf : Event → Clock
+clockOf (Command m c) = NoClock
+clockOf (Write m v) = NoClock
+clockOf (Read m) = NoClock
+clockOf (Stop m) = NoClock
+clockOf (Pair v0 v1) = NoClock
+clockOf (Lines scl sda intin) = NoClock
+clockOf Tick = NoClock
+clockOf (Pulse false) = ClockLow
+clockOf (Pulse true) = ClockHigh
+clockOf Reset = NoClock
+clockOf (GeneralCall m b) = NoClock
+
 -- ---- 2. levels
 
 -- "SDA falling with SCL high before and after is START (busy); rising is STOP (not busy)."
@@ -44,8 +58,8 @@ abbrev pub isStop : Bus → Bus → Bool
 isStop before after = sclHigh before && sclHigh after && not (sdaHigh before) && sdaHigh after
 
 -- "Resets detect neither and clear busy."
-abbrev pub busyAfter : Event → Bus → Bus → Bool
-busyAfter e before b = not (isReset e) && (b .busy || isStart before b) && not (isStop before b)
+abbrev pub busyAfter : Bool → Bus → Bus → Bool
+busyAfter reset before b = not reset && (b .busy || isStart before b) && not (isStop before b)
 
 abbrev pub settledBus : Bool → Bus → Bus
 settledBus busy b =
@@ -63,8 +77,8 @@ settledBus busy b =
     }
 
 -- "A high line zeroes its low count; idle means not busy and both high; not idle zeroes the idle count." `before` is the bus before the event.
-unfoldable pub levels : Event → Bus → Device → Device
-levels e before d = withBus (settledBus (busyAfter e before (d .bus)) (d .bus)) d
+unfoldable pub levels : Bool → Bus → Device → Device
+levels reset before d = withBus (settledBus (busyAfter reset before (d .bus)) (d .bus)) d
 
 -- ---- 3. losses
 
@@ -94,14 +108,14 @@ losses d = lossesFrom (d .arb .turn) d
 abbrev pub cutTicks : ℕ
 cutTicks = 35
 
-unfoldable pub cutFrom : Event → Turn → Device → Device
-cutFrom e Nobody d = d
-cutFrom e (Claims m) d = d
-cutFrom e (Owns m) d =
-    if isTick e && eqb (d .bus .lowscl) cutTicks && (side m d) .contr .smbusdis then withSide m (disconnected (side m d)) d else d
+unfoldable pub cutFrom : Bool → Turn → Device → Device
+cutFrom tick Nobody d = d
+cutFrom tick (Claims m) d = d
+cutFrom tick (Owns m) d =
+    if tick && eqb (d .bus .lowscl) cutTicks && (side m d) .contr .smbusdis then withSide m (disconnected (side m d)) d else d
 
-unfoldable pub cut : Event → Device → Device
-cut e d = cutFrom e (d .arb .turn) d
+unfoldable pub cut : Bool → Device → Device
+cut tick d = cutFrom tick (d .arb .turn) d
 
 -- ---- 5. claim
 
@@ -157,23 +171,6 @@ grant d = grantFrom (d .arb .turn) d
 
 -- ---- 7. connection
 
--- what the event says of the initialisation's clock: none, SDA low or SDA high
-pub data Clock : Type 0 where
-  silent low high : Clock
-
-abbrev pub clockOf : Event → Clock
-clockOf (Command m c) = silent
-clockOf (Write m v) = silent
-clockOf (Read m) = silent
-clockOf (Stop m) = silent
-clockOf (Pair v0 v1) = silent
-clockOf (Lines scl sda intin) = silent
-clockOf Tick = silent
-clockOf (Pulse false) = low
-clockOf (Pulse true) = high
-clockOf Reset = silent
-clockOf (GeneralCall m b) = silent
-
 abbrev pub switched : Switch → Device → Device
 switched w d = withArb (withSwitch w (d .arb)) d
 
@@ -194,9 +191,9 @@ abbrev pub initFailed : Master → Device → Device
 initFailed m d = withArb (withInitFail true (withSwitch Apart (d .arb))) (withSide m (failedSide (side m d)) d)
 
 unfoldable pub clocked : Clock → Master → ℕ → Device → Device
-clocked silent m n d = d
-clocked high m n d = initialised m d
-clocked low m n d = if ltb n 8 then switched (Initialising m (n + 1)) d else initFailed m d
+clocked NoClock m n d = d
+clocked ClockHigh m n d = initialised m d
+clocked ClockLow m n d = if ltb n 8 then switched (Initialising m (n + 1)) d else initFailed m d
 
 -- Grant and BUS_CONNECT are both true of m. They were before, too, if the switch was already m's; else they have become so.
 unfoldable pub keptJoined : Clock → Master → Switch → Device → Device
@@ -210,5 +207,5 @@ connectFrom c Nobody d = switched Apart d
 connectFrom c (Claims m) d = switched Apart d
 connectFrom c (Owns m) d = if (side m d) .contr .busconnect then keptJoined c m (d .arb .switch) d else switched Apart d
 
-unfoldable pub connect : Event → Device → Device
-connect e d = connectFrom (clockOf e) (d .arb .turn) d
+unfoldable pub connect : Clock → Device → Device
+connect c d = connectFrom c (d .arb .turn) d

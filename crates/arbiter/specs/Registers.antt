@@ -1,9 +1,21 @@
 -- Document 01, "Registers, one set per master": what a master reads, when an output is asserted, and what a written byte does.
 -- Assumes nothing.
 use Rattle.arbiter.specs.Types.{ℕ, _-_, _%_, Bool, true, false, not, _&&_, _||_, eqb, bitAnd, bitOr, Master, Turn, Nobody, Register, Id, Contr, Status, Rt, IntStatus, IntMask, MailLow, MailHigh, Control, Side, Bus, Device}
-use Rattle.arbiter.specs.Words.{if_then_else_, bit, byteOf, partner, side}
+use Rattle.arbiter.specs.Words.{if_then_else_, bit, worth, byteOf, partner, side}
 use Rattle.arbiter.specs.Parts.{withBusConnect, withContr, withRt, withInts, withMask, withMail, withDrives}
 use Rattle.arbiter.specs.State.{owns, sclHigh, sdaHigh, busHung}
+
+-- ---- their numbers: "0 ID", "1 CONTR", "2 STATUS", "3 RT", "4 INT_STATUS", "5 INT_MSK", "6 and 7 mailbox low and high"
+
+abbrev pub registerNumber : Register → ℕ
+registerNumber Id = 0
+registerNumber Contr = 1
+registerNumber Status = 2
+registerNumber Rt = 3
+registerNumber IntStatus = 4
+registerNumber IntMask = 5
+registerNumber MailLow = 6
+registerNumber MailHigh = 7
 
 -- ---- as they are read
 
@@ -14,10 +26,9 @@ contrByte granted c =
 
 -- "2 STATUS: 7 SDA and 6 SCL levels, 5 TEST_INT (reads 0), 4 own mailbox full, 3 partner's mailbox empty, 2 BUS_HUNG,
 -- 1 BUS_INIT_FAIL (each a single flag shown to both masters), 0 partner granted"
-unfoldable pub statusByte : Master → Device → ℕ
-statusByte m d =
-    byteOf (sdaHigh (d .bus)) (sclHigh (d .bus)) false ((side m d) .mail .full) (not ((side (partner m) d) .mail .full)) (busHung (d .bus)) (d .arb .initfail)
-    (owns (partner m) d)
+unfoldable pub statusByte : Bool → Side → Side → Bus → Bool → ℕ
+statusByte partnerGranted own other b initfail =
+    byteOf (sdaHigh b) (sclHigh b) false (own .mail .full) (not (other .mail .full)) (busHung b) initfail partnerGranted
 
 -- "4 INT_STATUS: 6 hung, 5 mail full, 4 mail emptied, 3 test, 2 granted, 1 lost, 0 INT_IN", each as the byte that has this bit alone
 abbrev pub hungInt : ℕ
@@ -43,22 +54,25 @@ intInInt = 0x01
 
 -- the interrupts i with this one set too, if it happened
 abbrev pub raised : ℕ → Bool → ℕ → ℕ
-raised this happened i = bitOr i (if happened then this else 0)
+raised this happened i = bitOr i (worth this happened)
 
 -- bits 5 to 0 are kept, "bit 6 equals BUS_HUNG"
 abbrev pub intStatusByte : Bool → ℕ → ℕ
 intStatusByte hung i = raised hungInt hung i
 
--- what m reads of each register
-unfoldable pub registerByte : Register → Master → Device → ℕ
-registerByte Id m d = 0x38
-registerByte Contr m d = contrByte (owns m d) ((side m d) .contr)
-registerByte Status m d = statusByte m d
-registerByte Rt m d = (side m d) .rt
-registerByte IntStatus m d = intStatusByte (busHung (d .bus)) ((side m d) .ints)
-registerByte IntMask m d = (side m d) .mask
-registerByte MailLow m d = (side m d) .mail .low
-registerByte MailHigh m d = (side m d) .mail .high
+-- what a master reads of each register: whether it is granted, whether its partner is, its own side, its partner's, the bus and BUS_INIT_FAIL
+unfoldable pub registerByte : Register → Bool → Bool → Side → Side → Bus → Bool → ℕ
+registerByte Id granted partnerGranted own other b initfail = 0x38
+registerByte Contr granted partnerGranted own other b initfail = contrByte granted (own .contr)
+registerByte Status granted partnerGranted own other b initfail = statusByte partnerGranted own other b initfail
+registerByte Rt granted partnerGranted own other b initfail = own .rt
+registerByte IntStatus granted partnerGranted own other b initfail = intStatusByte (busHung b) (own .ints)
+registerByte IntMask granted partnerGranted own other b initfail = own .mask
+registerByte MailLow granted partnerGranted own other b initfail = own .mail .low
+registerByte MailHigh granted partnerGranted own other b initfail = own .mail .high
+
+abbrev pub readsAt : Register → Master → Device → ℕ
+readsAt r m d = registerByte r (owns m d) (owns (partner m) d) (side m d) (side (partner m) d) (d .bus) (d .arb .initfail)
 
 -- "An output is asserted exactly if some status bit of 6 to 0 that is set has mask 0."
 -- The bits of 6 to 0 that have mask 0 are those of 7Fh less the mask.

@@ -1,17 +1,17 @@
 -- Document 01, "Order inside a step" as a whole, "Answers", and a run of events from power-up.
 -- Assumes nothing.
 use Rattle.arbiter.specs.Types.{ℕ, _+_, _*_, List, [], _∷_, Master, Zero, One, Turn, Nobody, Claims, Owns, Switch, Apart, Initialising, Closed, Device, Raw, Event, Command, Write, Read, Stop, Pair, Lines, Tick, Pulse, Reset, GeneralCall, Decoded, Reads, UnknownKind, BadField, Answer, Stepped}
-use Rattle.arbiter.specs.Words.{if_then_else_, num, side}
+use Rattle.arbiter.specs.Words.{if_then_else_, worth, side}
 use Rattle.arbiter.specs.State.{isInitialising, sclHigh, sdaHigh}
-use Rattle.arbiter.specs.Registers.{registerByte, output}
+use Rattle.arbiter.specs.Registers.{readsAt, output}
 use Rattle.arbiter.specs.Events.{decode, inSequence, outcome, outcomeNumber}
 use Rattle.arbiter.specs.Effects.{effect, powerUp}
-use Rattle.arbiter.specs.Order.{levels, losses, cut, claim, grant, connect}
+use Rattle.arbiter.specs.Order.{isReset, isTick, clockOf, levels, losses, cut, claim, grant, connect}
 
 -- ---- the seven parts, one after the other
 
 unfoldable pub parts : Event → Device → Device
-parts e d = connect e (grant (claim (cut e (losses (levels e (d .bus) (effect e d))))))
+parts e d = connect (clockOf e) (grant (claim (cut (isTick e) (losses (levels (isReset e) (d .bus) (effect e d))))))
 
 -- ---- the answer: "outcome; byte read or 00; bits 0-1 owner (0 none, 1 master 0, 2 master 1), bits 2-3 switch likewise, bit 4 initialising;
 -- then bit 0 INT0 asserted, 1 INT1 asserted, 2 SCL high, 3 SDA high. All after the step."
@@ -31,10 +31,10 @@ switchNumber (Initialising m n) = 0
 switchNumber (Closed m) = masterNumber m
 
 unfoldable pub ownerByte : Device → ℕ
-ownerByte d = ownerNumber (d .arb .turn) + 4 * switchNumber (d .arb .switch) + 16 * num (isInitialising (d .arb .switch))
+ownerByte d = ownerNumber (d .arb .turn) + 4 * switchNumber (d .arb .switch) + worth 16 (isInitialising (d .arb .switch))
 
 unfoldable pub linesByte : Device → ℕ
-linesByte d = num (output Zero d) + 2 * num (output One d) + 4 * num (sclHigh (d .bus)) + 8 * num (sdaHigh (d .bus))
+linesByte d = worth 1 (output Zero d) + worth 2 (output One d) + worth 4 (sclHigh (d .bus)) + worth 8 (sdaHigh (d .bus))
 
 -- with the device as it is after the step
 abbrev pub answer : ℕ → ℕ → Device → Answer
@@ -44,7 +44,7 @@ answer number byte d = record { outcome = number; read = byte; owner = ownerByte
 unfoldable pub byteRead : Event → Device → ℕ
 byteRead (Command m c) d = 0
 byteRead (Write m v) d = 0
-byteRead (Read m) d = registerByte ((side m d) .pointer) m d
+byteRead (Read m) d = readsAt ((side m d) .pointer) m d
 byteRead (Stop m) d = 0
 byteRead (Pair v0 v1) d = 0
 byteRead (Lines scl sda intin) d = 0

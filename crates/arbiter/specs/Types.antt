@@ -27,6 +27,8 @@ pub use Rattle.arbiter.specs.declared.Device.{Device}
 pub use Rattle.arbiter.specs.declared.Raw.{Raw}
 pub use Rattle.arbiter.specs.declared.Event.{Event}
 pub use Rattle.arbiter.specs.declared.Event.the-variants.{Command, Write, Read, Stop, Pair, Lines, Tick, Pulse, Reset, GeneralCall}
+pub use Rattle.arbiter.specs.declared.Clock.{Clock}
+pub use Rattle.arbiter.specs.declared.Clock.the-variants.{NoClock, ClockLow, ClockHigh}
 pub use Rattle.arbiter.specs.declared.Decoded.{Decoded}
 pub use Rattle.arbiter.specs.declared.Decoded.the-variants.{Reads, UnknownKind, BadField}
 pub use Rattle.arbiter.specs.declared.Outcome.{Outcome}

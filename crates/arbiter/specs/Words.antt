@@ -1,6 +1,6 @@
 -- Words that every other file uses: the choice by a test, a byte and its bits, and what belongs to one of the two masters.
 -- Assumes nothing.
-use Rattle.arbiter.specs.Types.{ℕ, _+_, _*_, _/_, _%_, _^_, Bool, true, false, eqb, Master, Zero, One, Side, Bus, Arbitration, Device}
+use Rattle.arbiter.specs.Types.{ℕ, _+_, _/_, _%_, _^_, Bool, true, false, eqb, Master, Zero, One, Side, Bus, Arbitration, Device}
 
 infixr 20 if_then_else_
 unfoldable pub if_then_else_ : {A : Type 0} → Bool → A → A → A
@@ -13,13 +13,14 @@ if false then x else y = y
 abbrev pub bit : ℕ → ℕ → Bool
 bit k v = eqb (v / 2 ^ k % 2) 1
 
-abbrev pub num : Bool → ℕ
-num true = 1
-num false = 0
+-- what a bit of weight k adds to its byte
+abbrev pub worth : ℕ → Bool → ℕ
+worth k b = if b then k else 0
 
 -- the byte of eight bits, bit 7 first
 unfoldable pub byteOf : Bool → Bool → Bool → Bool → Bool → Bool → Bool → Bool → ℕ
-byteOf b7 b6 b5 b4 b3 b2 b1 b0 = 128 * num b7 + 64 * num b6 + 32 * num b5 + 16 * num b4 + 8 * num b3 + 4 * num b2 + 2 * num b1 + num b0
+byteOf b7 b6 b5 b4 b3 b2 b1 b0 =
+    worth 128 b7 + worth 64 b6 + worth 32 b5 + worth 16 b4 + worth 8 b3 + worth 4 b2 + worth 2 b1 + worth 1 b0
 
 -- ---- the two masters
 

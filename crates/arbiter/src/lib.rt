@@ -135,6 +135,13 @@ pub enum Event {
     GeneralCall(Master, u8),
 }
 
+// The clock of an initialisation that an event is: none, or one with SDA low or high.
+pub enum Clock {
+    NoClock,
+    ClockLow,
+    ClockHigh,
+}
+
 // Four bytes read as an event, or they do not: an unknown kind, or a field out of range or unused and not 0.
 pub enum Decoded {
     Reads(Event),
