@@ -1,7 +1,7 @@
 -- Every row of specs/Marks.antt holds: antt computes each, and finds what the paper says.
 -- Assumes nothing.
 use mathlib.Core.Path.{refl}
-use Rattle.arbiter.specs.Words.{if_then_else_, byteOf}
+use Rattle.arbiter.specs.Words.{byteOf}
 use Rattle.arbiter.specs.Straps.{addressOf}
 use Rattle.arbiter.specs.Registers.{contrByte, statusByte, registerByte, isAsserted, ownWritten, mailWritten, drivesWritten, turnWritten}
 use Rattle.arbiter.specs.Events.{decode, inSequence, acknowledged, outcome}
@@ -13,7 +13,7 @@ use Rattle.arbiter.specs.Listing.{listingOf, listing}
 use Rattle.arbiter.specs.Marks.{marked, paidFor, winners, MarksHold}
 
 pub marks-hold : MarksHold
-unfolding if_then_else_ byteOf addressOf contrByte statusByte registerByte isAsserted ownWritten mailWritten drivesWritten turnWritten
+unfolding byteOf addressOf contrByte statusByte registerByte isAsserted ownWritten mailWritten drivesWritten turnWritten
     decode inSequence acknowledged outcome commanded written paired wasRead lined ticked freshSide wasReset powerUp effect
     levels lost lossesFrom losses cutFrom cut claim granted grantFrom grant joined clocked keptJoined connectFrom connect
     parts ownerByte linesByte byteRead refused taken stepEvent stepDecoded step runFrom answersFrom run

@@ -3,7 +3,7 @@
 use Rattle.arbiter.specs.Types.{ℕ, _+_, _/_, _%_, _^_, Bool, true, false, eqb, Master, Zero, One, Side, Bus, Arbitration, Device}
 
 infixr 20 if_then_else_
-unfoldable pub if_then_else_ : {A : Type 0} → Bool → A → A → A
+abbrev pub if_then_else_ : {A : Type 0} → Bool → A → A → A
 if true then x else y = x
 if false then x else y = y
 

@@ -20,7 +20,7 @@ use Rattle.straps.proofs.Every.{every, every-at}
 -- ---- pins that have an address are listed, and so each has a code
 
 listed-of : (p : Pins) (a : ℕ) → addressOf p ≡ Address a → listed p ≡ true
-unfolding addressOf if_then_else_
+unfolding addressOf
 listed-of p a e = go (listed p) e
   where
     go : (b : Bool) → (if b then Address (firstAddress p + lowBits p) else Unlisted) ≡ Address a → b ≡ true
@@ -67,7 +67,7 @@ abbrev allSettings : (Pins → Bool) → Bool
 allSettings f = every (λ a. every (λ b. every (λ c. every (λ d. f (pins a b c d)) 4) 4) 4) 2
 
 all-back : allSettings (λ p. backFrom p (addressOf p)) ≡ true
-unfolding addressOf if_then_else_ settings strapsOf
+unfolding addressOf settings strapsOf
 all-back = refl
 
 at-setting : (f : Pins → Bool) → allSettings f ≡ true → (p : Pins) → p .ad3 < 2 → p .ad2 < 4 → p .ad1 < 4 → p .ad0 < 4 → f p ≡ true
@@ -103,7 +103,7 @@ forthFrom a (Straps p) = hasAddress a (addressOf p)
 forthFrom a Outside = false
 
 all-forth : every (λ k. forthFrom (k + 8) (strapsOf (k + 8))) 112 ≡ true
-unfolding addressOf if_then_else_ settings strapsOf
+unfolding addressOf settings strapsOf
 all-forth = refl
 
 forth : (a : ℕ) (s : Strapping) → forthFrom a s ≡ true → (p : Pins) × (s ≡ Straps p) × (addressOf p ≡ Address a)
@@ -119,7 +119,7 @@ back-to-address a h =
     forth a (strapsOf a) (ap (λ (n : ℕ). forthFrom n (strapsOf n)) (sym e) ∙ every-at (λ k. forthFrom (k + 8) (strapsOf (k + 8))) 112 all-forth (a - 8) (omega arith))
 
 pub none-outside : NoneOutside
-unfolding strapsOf if_then_else_
+unfolding strapsOf
 none-outside a h = rw h
 
 -- ---- what a search over the table needs

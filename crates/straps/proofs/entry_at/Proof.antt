@@ -2,7 +2,6 @@
 -- Assumes nothing.
 use borrow.Author.Needs.{needs}
 use mathlib.Core.Path.{refl}
-use Rattle.arbiter.specs.Words.{if_then_else_}
 use Rattle.arbiter.specs.Straps.{addressOf}
 use Rattle.straps.proofs.Rows.{row}
 use Rattle.straps.proofs.entry_at.Statement.{statement}
@@ -33,7 +32,7 @@ cast-t19-2 : tie.Need-cast-t19-2
 cast-t19-2 c = search needs
 
 returns : tie.Need-returns
-unfolding addressOf if_then_else_
+unfolding addressOf
 returns c = row (get 4 (lts.T2 .locals) (lts.m1 reads.Pre reads.Post (c .args) (c .blocks))) refl (c .args .k) (search needs)
 
 pub entry-at-spec : {M : Type 1} → statement M

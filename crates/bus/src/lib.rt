@@ -1,0 +1,144 @@
+// The downstream bus: what it shows, one tick of its counts, its levels after an event, its drives, and a fresh one.
+ghost use mathlib.Core.Path.{_≡_};
+ghost use mathlib.Core.Bool.{true};
+ghost use Rattle.arbiter.specs.Parts.{withIdle};
+ghost use Rattle.arbiter.specs.State.{sclHigh, sdaHigh, isIdle, busHung};
+ghost use Rattle.arbiter.specs.Registers.{released};
+ghost use Rattle.arbiter.specs.Effects.{outside, tickedBus, freshBus};
+ghost use Rattle.arbiter.specs.Order.{busyAfter, settledBus};
+use arbiter::Bus;
+use bits::counted_u8;
+use bits::counted_u16;
+use bits::less_one;
+use bits::pick_u8;
+use bits::pick_u16;
+
+pub fn scl_high(b: Bus) -> bool
+    ensures { λ r. ⌜ r ≡ sclHigh b ⌝ }
+{
+    b.outscl & b.drivescl & (b.hold == 0)
+}
+
+pub fn sda_high(b: Bus) -> bool
+    ensures { λ r. ⌜ r ≡ sdaHigh b ⌝ }
+{
+    b.outsda & b.drivesda
+}
+
+pub fn is_idle(b: Bus) -> bool
+    ensures { λ r. ⌜ r ≡ isIdle b ⌝ }
+{
+    !b.busy & scl_high(b) & sda_high(b)
+}
+
+pub fn bus_hung(b: Bus) -> bool
+    ensures { λ r. ⌜ r ≡ busHung b ⌝ }
+{
+    (b.lowscl == 500) | (b.lowsda == 500)
+}
+
+// New outside levels.
+pub fn outside_of(scl: bool, sda: bool, intin: bool, b: Bus) -> Bus
+    ensures { λ r. ⌜ r ≡ outside scl sda intin b ⌝ }
+{
+    Bus {
+        outscl: scl,
+        outsda: sda,
+        intin,
+        drivescl: b.drivescl,
+        drivesda: b.drivesda,
+        busy: b.busy,
+        hold: b.hold,
+        idle: b.idle,
+        lowscl: b.lowscl,
+        lowsda: b.lowsda,
+    }
+}
+
+// A tick of the hold and of the counts, by the levels before it.
+pub fn ticked_bus(b: Bus) -> Bus
+    ensures { λ r. ⌜ r ≡ tickedBus b ⌝ }
+{
+    let scl = scl_high(b);
+    let sda = sda_high(b);
+    let idle = is_idle(b);
+    Bus {
+        outscl: b.outscl,
+        outsda: b.outsda,
+        intin: b.intin,
+        drivescl: b.drivescl,
+        drivesda: b.drivesda,
+        busy: b.busy,
+        hold: less_one(b.hold),
+        idle: counted_u8(101, idle, b.idle),
+        lowscl: counted_u16(500, !scl, b.lowscl),
+        lowsda: counted_u16(500, !sda, b.lowsda),
+    }
+}
+
+fn busy_after(reset: bool, before: Bus, b: Bus) -> bool
+    ensures { λ r. ⌜ r ≡ busyAfter reset before b ⌝ }
+{
+    let scl = scl_high(before) & scl_high(b);
+    let was = sda_high(before);
+    let sda = sda_high(b);
+    !reset & (b.busy | scl & was & !sda) & !(scl & !was & sda)
+}
+
+// Part 2: the levels after an event, with the bus as it was before it.
+pub fn settled_bus(reset: bool, before: Bus, b: Bus) -> Bus
+    ensures { λ r. ⌜ r ≡ settledBus (busyAfter reset before b) b ⌝ }
+{
+    let scl = scl_high(b);
+    let sda = sda_high(b);
+    let busy = busy_after(reset, before, b);
+    Bus {
+        outscl: b.outscl,
+        outsda: b.outsda,
+        intin: b.intin,
+        drivescl: b.drivescl,
+        drivesda: b.drivesda,
+        busy,
+        hold: b.hold,
+        idle: pick_u8(!busy & scl & sda, b.idle, 0),
+        lowscl: pick_u16(scl, 0, b.lowscl),
+        lowsda: pick_u16(sda, 0, b.lowsda),
+    }
+}
+
+// Both drives let go.
+pub fn released_bus(b: Bus) -> Bus
+    ensures { λ r. ⌜ r ≡ released b ⌝ }
+{
+    let mut n = b;
+    n.drivescl = true;
+    n.drivesda = true;
+    n
+}
+
+// The idle count from 0.
+pub fn idle_from_0(b: Bus) -> Bus
+    ensures { λ r. ⌜ r ≡ withIdle 0 b ⌝ }
+{
+    let mut n = b;
+    n.idle = 0;
+    n
+}
+
+// After a reset: the outside levels alone are kept, and SCL is held for so many ticks.
+pub fn fresh_bus(hold: u8, b: Bus) -> Bus
+    ensures { λ r. ⌜ r ≡ freshBus hold b ⌝ }
+{
+    Bus {
+        outscl: b.outscl,
+        outsda: b.outsda,
+        intin: b.intin,
+        drivescl: true,
+        drivesda: true,
+        busy: false,
+        hold,
+        idle: 0,
+        lowscl: 0,
+        lowsda: 0,
+    }
+}
