@@ -1,0 +1,50 @@
+use Rattle.arbiter.specs.Effects.{effect, lined, ticked, wasRead}
+use Rattle.arbiter.specs.Events.{acknowledged, inSequence}
+use Rattle.arbiter.specs.Steps.{byteRead}
+use Rattle.effects.specs.Effect.{effectOf}
+use borrow.Author.Needs.{needs}
+use Rattle.effects.proofs.on_command.Statement.{statement}
+use Rattle.effects.proofs.on_command.Tie as tie
+
+worth-of-requires : tie.Need-worth-of-requires
+worth-of-requires c κs = search needs
+
+enum-told : tie.Need-enum-told
+enum-told c = search needs
+
+commanded-side-requires : tie.Need-commanded-side-requires
+commanded-side-requires c κs = search needs
+
+did-so-requires : tie.Need-did-so-requires
+did-so-requires c κs = search needs
+
+enum-told-2 : tie.Need-enum-told-2
+enum-told-2 c = search needs
+
+commanded-side-requires-2 : tie.Need-commanded-side-requires-2
+commanded-side-requires-2 c κs = search needs
+
+did-so-requires-2 : tie.Need-did-so-requires-2
+did-so-requires-2 c κs = search needs
+
+returns : tie.Need-returns
+unfolding effectOf wasRead lined ticked effect byteRead inSequence acknowledged
+returns c = simp (← c .did-so .ensures, ← c .before .commanded-side .ensures, c .before .before .enum-told .given .1, c .before .before .before .match .keys1, ← c .before .before .before .before .before .before .before .before .worth-of .ensures .0)
+
+returns-2 : tie.Need-returns-2
+unfolding effectOf wasRead lined ticked effect byteRead inSequence acknowledged
+returns-2 c = simp (← c .did-so2 .ensures, ← c .before .commanded-side2 .ensures, c .before .before .enum-told2 .given .1, c .before .before .before .match .keys2, ← c .before .before .before .before .before .before .before .before .worth-of .ensures .0)
+
+pub on-command-spec : {M : Type 1} → statement M
+on-command-spec =
+    tie.close
+    (tie.spec
+    worth-of-requires
+    enum-told
+    commanded-side-requires
+    did-so-requires
+    enum-told-2
+    commanded-side-requires-2
+    did-so-requires-2
+    returns
+    returns-2)

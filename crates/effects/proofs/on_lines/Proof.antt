@@ -1,0 +1,33 @@
+use Rattle.arbiter.specs.Effects.{effect, lined, ticked, wasRead}
+use Rattle.arbiter.specs.Events.{acknowledged, inSequence}
+use Rattle.arbiter.specs.Steps.{byteRead}
+use Rattle.effects.specs.Effect.{effectOf}
+use borrow.Author.Needs.{needs}
+use Rattle.effects.proofs.on_lines.Statement.{statement}
+use Rattle.effects.proofs.on_lines.Tie as tie
+
+fallen-side-requires : tie.Need-fallen-side-requires
+fallen-side-requires c κs = search needs
+
+fallen-side-requires-2 : tie.Need-fallen-side-requires-2
+fallen-side-requires-2 c κs = search needs
+
+outside-of-requires : tie.Need-outside-of-requires
+outside-of-requires c κs = search needs
+
+did-so-requires : tie.Need-did-so-requires
+did-so-requires c κs = search needs
+
+returns : tie.Need-returns
+unfolding effectOf wasRead lined ticked effect byteRead inSequence acknowledged
+returns c = simp (c .did-so .ensures, c .before .outside-of .ensures, c .before .before .fallen-side2 .ensures, c .before .before .before .fallen-side .ensures)
+
+pub on-lines-spec : {M : Type 1} → statement M
+on-lines-spec =
+    tie.close
+    (tie.spec
+    fallen-side-requires
+    fallen-side-requires-2
+    outside-of-requires
+    did-so-requires
+    returns)

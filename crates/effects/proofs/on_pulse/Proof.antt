@@ -1,0 +1,28 @@
+use Rattle.arbiter.specs.Effects.{effect, lined, ticked, wasRead}
+use Rattle.arbiter.specs.Events.{acknowledged, inSequence}
+use Rattle.arbiter.specs.Steps.{byteRead}
+use Rattle.effects.specs.Effect.{effectOf}
+use borrow.Author.Needs.{needs}
+use Rattle.effects.proofs.on_pulse.Statement.{statement}
+use Rattle.effects.proofs.on_pulse.Tie as tie
+
+initialises-requires : tie.Need-initialises-requires
+initialises-requires c κs = search needs
+
+did-so-requires : tie.Need-did-so-requires
+did-so-requires c κs = search needs
+
+did-so-requires-2 : tie.Need-did-so-requires-2
+did-so-requires-2 c κs = search needs
+
+returns : tie.Need-returns
+unfolding effectOf wasRead lined ticked effect byteRead inSequence acknowledged
+returns c = simp (← c .did-so .ensures, c .before .if1 .taken, ← c .before .before .initialises .ensures)
+
+returns-2 : tie.Need-returns-2
+unfolding effectOf wasRead lined ticked effect byteRead inSequence acknowledged
+returns-2 c = simp (← c .did-so2 .ensures, c .before .if1 .left, ← c .before .before .initialises .ensures)
+
+pub on-pulse-spec : {M : Type 1} → statement M
+on-pulse-spec =
+    tie.close (tie.spec initialises-requires did-so-requires did-so-requires-2 returns returns-2)

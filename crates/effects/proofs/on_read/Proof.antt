@@ -1,0 +1,32 @@
+use Rattle.arbiter.specs.Effects.{effect, lined, ticked, wasRead}
+use Rattle.arbiter.specs.Events.{acknowledged, inSequence}
+use Rattle.arbiter.specs.Steps.{byteRead}
+use Rattle.effects.specs.Effect.{effectOf}
+use borrow.Author.Needs.{needs}
+use Rattle.effects.proofs.on_read.Statement.{statement}
+use Rattle.effects.proofs.on_read.Tie as tie
+
+enum-told : tie.Need-enum-told
+enum-told c = search needs
+
+read-by-0-requires : tie.Need-read-by-0-requires
+read-by-0-requires c κs = search needs
+
+enum-told-2 : tie.Need-enum-told-2
+enum-told-2 c = search needs
+
+read-by-1-requires : tie.Need-read-by-1-requires
+read-by-1-requires c κs = search needs
+
+returns : tie.Need-returns
+unfolding effectOf wasRead lined ticked effect byteRead inSequence acknowledged
+returns c = simp (← c .read-by-0 .ensures, c .before .enum-told .given .1, c .before .before .match .keys1)
+
+returns-2 : tie.Need-returns-2
+unfolding effectOf wasRead lined ticked effect byteRead inSequence acknowledged
+returns-2 c = simp (← c .read-by-1 .ensures, c .before .enum-told2 .given .1, c .before .before .match .keys2)
+
+pub on-read-spec : {M : Type 1} → statement M
+on-read-spec =
+    tie.close
+    (tie.spec enum-told read-by-0-requires enum-told-2 read-by-1-requires returns returns-2)

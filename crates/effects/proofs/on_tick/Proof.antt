@@ -1,0 +1,23 @@
+use Rattle.arbiter.specs.Effects.{effect, lined, ticked, wasRead}
+use Rattle.arbiter.specs.Events.{acknowledged, inSequence}
+use Rattle.arbiter.specs.Steps.{byteRead}
+use Rattle.effects.specs.Effect.{effectOf}
+use borrow.Author.Needs.{needs}
+use Rattle.effects.proofs.on_tick.Statement.{statement}
+use Rattle.effects.proofs.on_tick.Tie as tie
+
+ticked-bus-requires : tie.Need-ticked-bus-requires
+ticked-bus-requires c κs = search needs
+
+ticked-arb-requires : tie.Need-ticked-arb-requires
+ticked-arb-requires c κs = search needs
+
+did-so-requires : tie.Need-did-so-requires
+did-so-requires c κs = search needs
+
+returns : tie.Need-returns
+unfolding effectOf wasRead lined ticked effect byteRead inSequence acknowledged
+returns c = simp (c .did-so .ensures, c .before .ticked-arb .ensures, c .before .before .ticked-bus .ensures)
+
+pub on-tick-spec : {M : Type 1} → statement M
+on-tick-spec = tie.close (tie.spec ticked-bus-requires ticked-arb-requires did-so-requires returns)

@@ -1,0 +1,58 @@
+use Rattle.arbiter.specs.Effects.{paired}
+use borrow.Author.Needs.{needs}
+use Rattle.effects.proofs.paired_by.Statement.{statement}
+use Rattle.effects.proofs.paired_by.Tie as tie
+
+owns-turn-requires : tie.Need-owns-turn-requires
+owns-turn-requires c κs = search needs
+
+owns-turn-requires-2 : tie.Need-owns-turn-requires-2
+owns-turn-requires-2 c κs = search needs
+
+writer-side-requires : tie.Need-writer-side-requires
+writer-side-requires c κs = search needs
+
+mail-written-requires : tie.Need-mail-written-requires
+mail-written-requires c κs = search needs
+
+writer-side-requires-2 : tie.Need-writer-side-requires-2
+writer-side-requires-2 c κs = search needs
+
+mail-written-requires-2 : tie.Need-mail-written-requires-2
+mail-written-requires-2 c κs = search needs
+
+drives-written-requires : tie.Need-drives-written-requires
+drives-written-requires c κs = search needs
+
+drives-written-requires-2 : tie.Need-drives-written-requires-2
+drives-written-requires-2 c κs = search needs
+
+turn-written-requires : tie.Need-turn-written-requires
+turn-written-requires c κs = search needs
+
+turn-written-requires-2 : tie.Need-turn-written-requires-2
+turn-written-requires-2 c κs = search needs
+
+with-turn-requires : tie.Need-with-turn-requires
+with-turn-requires c κs = search needs
+
+returns : tie.Need-returns
+unfolding paired
+returns c = simp (c .with-turn .ensures, c .before .turn-written2 .ensures, c .before .before .turn-written .ensures, c .before .before .before .drives-written2 .ensures, c .before .before .before .before .drives-written .ensures, c .before .before .before .before .before .mail-written2 .ensures, c .before .before .before .before .before .before .writer-side2 .ensures, c .before .before .before .before .before .before .before .mail-written .ensures, c .before .before .before .before .before .before .before .before .writer-side .ensures, c .before .before .before .before .before .before .before .before .before .owns-turn2 .ensures, c .before .before .before .before .before .before .before .before .before .before .owns-turn .ensures)
+
+pub paired-by-spec : {M : Type 1} → statement M
+paired-by-spec =
+    tie.close
+    (tie.spec
+    owns-turn-requires
+    owns-turn-requires-2
+    writer-side-requires
+    mail-written-requires
+    writer-side-requires-2
+    mail-written-requires-2
+    drives-written-requires
+    drives-written-requires-2
+    turn-written-requires
+    turn-written-requires-2
+    with-turn-requires
+    returns)

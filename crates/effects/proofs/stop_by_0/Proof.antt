@@ -1,0 +1,38 @@
+use Rattle.arbiter.specs.Effects.{effect, lined, ticked, wasRead}
+use Rattle.arbiter.specs.Events.{acknowledged, inSequence}
+use Rattle.arbiter.specs.Steps.{byteRead}
+use Rattle.effects.specs.Effect.{effectOf}
+use borrow.Author.Needs.{needs}
+use Rattle.effects.proofs.stop_by_0.Statement.{statement}
+use Rattle.effects.proofs.stop_by_0.Tie as tie
+
+is-at-rest-requires : tie.Need-is-at-rest-requires
+is-at-rest-requires c κs = search needs
+
+did-so-requires : tie.Need-did-so-requires
+did-so-requires c κs = search needs
+
+stopped-side-requires : tie.Need-stopped-side-requires
+stopped-side-requires c κs = search needs
+
+did-so-requires-2 : tie.Need-did-so-requires-2
+did-so-requires-2 c κs = search needs
+
+returns : tie.Need-returns
+unfolding effectOf wasRead lined ticked effect byteRead inSequence acknowledged
+returns c = simp (← c .did-so .ensures, c .before .if1 .taken, ← c .before .before .is-at-rest .ensures)
+
+returns-2 : tie.Need-returns-2
+unfolding effectOf wasRead lined ticked effect byteRead inSequence acknowledged
+returns-2 c = simp (← c .did-so2 .ensures, ← c .before .stopped-side .ensures, c .before .before .if1 .left, ← c .before .before .before .is-at-rest .ensures)
+
+pub stop-by-0-spec : {M : Type 1} → statement M
+stop-by-0-spec =
+    tie.close
+    (tie.spec
+    is-at-rest-requires
+    did-so-requires
+    stopped-side-requires
+    did-so-requires-2
+    returns
+    returns-2)

@@ -1,0 +1,38 @@
+use Rattle.arbiter.specs.Effects.{written}
+use borrow.Author.Needs.{needs}
+use Rattle.effects.proofs.written_by_1.Statement.{statement}
+use Rattle.effects.proofs.written_by_1.Tie as tie
+
+owns-turn-requires : tie.Need-owns-turn-requires
+owns-turn-requires c κs = search needs
+
+writer-side-requires : tie.Need-writer-side-requires
+writer-side-requires c κs = search needs
+
+mail-written-requires : tie.Need-mail-written-requires
+mail-written-requires c κs = search needs
+
+drives-written-requires : tie.Need-drives-written-requires
+drives-written-requires c κs = search needs
+
+turn-written-requires : tie.Need-turn-written-requires
+turn-written-requires c κs = search needs
+
+with-turn-requires : tie.Need-with-turn-requires
+with-turn-requires c κs = search needs
+
+returns : tie.Need-returns
+unfolding written
+returns c = simp (c .with-turn .ensures, c .before .turn-written .ensures, c .before .before .drives-written .ensures, c .before .before .before .mail-written .ensures, c .before .before .before .before .writer-side .ensures, c .before .before .before .before .before .owns-turn .ensures)
+
+pub written-by-1-spec : {M : Type 1} → statement M
+written-by-1-spec =
+    tie.close
+    (tie.spec
+    owns-turn-requires
+    writer-side-requires
+    mail-written-requires
+    drives-written-requires
+    turn-written-requires
+    with-turn-requires
+    returns)

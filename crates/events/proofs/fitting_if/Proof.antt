@@ -1,0 +1,12 @@
+use borrow.Author.Needs.{needs}
+use Rattle.events.proofs.fitting_if.Statement.{statement}
+use Rattle.events.proofs.fitting_if.Tie as tie
+
+returns : tie.Need-returns
+returns c = simp (c .if1 .taken)
+
+returns-2 : tie.Need-returns-2
+returns-2 c = search needs
+
+pub fitting-if-spec : {M : Type 1} → statement M
+fitting-if-spec = tie.close (tie.spec returns returns-2)
