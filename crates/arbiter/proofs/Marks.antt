@@ -6,7 +6,7 @@ use Rattle.arbiter.specs.Straps.{addressOf}
 use Rattle.arbiter.specs.Registers.{contrByte, statusByte, registerByte, isAsserted, ownWritten, mailWritten, drivesWritten, turnWritten}
 use Rattle.arbiter.specs.Events.{decode, inSequence, acknowledged, outcome}
 use Rattle.arbiter.specs.Effects.{commanded, written, paired, wasRead, lined, ticked, freshSide, wasReset, powerUp, effect}
-use Rattle.arbiter.specs.Order.{levels, lost, lossesFrom, losses, cutFrom, cut, claim, granted, grantFrom, grant, joined, clocked, keptJoined, connectFrom, connect}
+use Rattle.arbiter.specs.Order.{levels, lost, lossesFrom, losses, cutFrom, cut, winner, claim, granted, grantFrom, grant, joined, clocked, keptJoined, connectFrom, connect}
 use Rattle.arbiter.specs.Steps.{parts, ownerByte, linesByte, byteRead, refused, taken, stepEvent, stepDecoded, step, runFrom, answersFrom, run}
 use Rattle.arbiter.specs.Traces.{rawsIn, readCounted, readStrapped, readTrace}
 use Rattle.arbiter.specs.Listing.{listingOf, listing}
@@ -15,7 +15,7 @@ use Rattle.arbiter.specs.Marks.{marked, paidFor, winners, MarksHold}
 pub marks-hold : MarksHold
 unfolding byteOf addressOf contrByte statusByte registerByte isAsserted ownWritten mailWritten drivesWritten turnWritten
     decode inSequence acknowledged outcome commanded written paired wasRead lined ticked freshSide wasReset powerUp effect
-    levels lost lossesFrom losses cutFrom cut claim granted grantFrom grant joined clocked keptJoined connectFrom connect
+    levels lost lossesFrom losses cutFrom cut winner claim granted grantFrom grant joined clocked keptJoined connectFrom connect
     parts ownerByte linesByte byteRead refused taken stepEvent stepDecoded step runFrom answersFrom run
     rawsIn readCounted readStrapped readTrace listingOf listing marked paidFor winners
 marks-hold = refl

@@ -1,11 +1,11 @@
 -- Document 01, "Order inside a step", parts 2 to 7. Part 1, the event's own effect, is in Effects.
 -- Assumes nothing.
-use Rattle.arbiter.specs.Types.{ℕ, _+_, Bool, true, false, not, _&&_, _||_, eqb, ltb, Master, Zero, One, Turn, Nobody, Claims, Owns, Last, Never, Was, Side, Bus, Switch, Apart, Initialising, Closed, Arbitration, Device, Clock, NoClock, ClockLow, ClockHigh, Event, Command, Write, Read, Stop, Pair, Lines, Tick, Pulse, Reset, GeneralCall}
-use Rattle.arbiter.specs.Words.{if_then_else_, partner, sameMaster, side, device}
+use Rattle.arbiter.specs.Types.{ℕ, _+_, Bool, true, false, not, _&&_, _||_, List, [], _∷_, eqb, ltb, getD, Master, Zero, One, Turn, Nobody, Claims, Owns, Last, Never, Was, Side, Bus, Switch, Apart, Initialising, Closed, Arbitration, Device, Clock, NoClock, ClockLow, ClockHigh, Event, Command, Write, Read, Stop, Pair, Lines, Tick, Pulse, Reset, GeneralCall}
+use Rattle.arbiter.specs.Words.{if_then_else_, worth, partner, sameMaster, side, device}
 use Rattle.arbiter.specs.Parts.{withLockReq, withBusConnect, withBusInit, withContr, withInts, withIdle, withTurn, withSwitch, withInitFail, withSide, withBus, withArb}
 use Rattle.arbiter.specs.State.{atRest, sclHigh, sdaHigh, isIdle}
 use Rattle.arbiter.specs.Registers.{grantedInt, lostInt, raised, disconnected, released}
-use Rattle.arbiter.specs.Events.{softReset}
+use Rattle.arbiter.specs.Events.{master, softReset}
 use Rattle.arbiter.specs.Effects.{idleLimit}
 
 -- ---- what a part asks of the event
@@ -120,16 +120,25 @@ cut tick d = cutFrom tick (d .arb .turn) d
 -- ---- 5. claim
 
 -- "four rows of three winners, one row for each pair of priorities, one column each for last granted none, 0, 1"
-abbrev pub column : Last → Master → Master → Master → Master
-column Never none zero one = none
-column (Was Zero) none zero one = zero
-column (Was One) none zero one = one
+abbrev pub winners : List (List ℕ)
+winners =
+    (0 ∷ 1 ∷ 0 ∷ [])
+    ∷ (1 ∷ 1 ∷ 1 ∷ [])
+    ∷ (0 ∷ 0 ∷ 0 ∷ [])
+    ∷ (1 ∷ 1 ∷ 0 ∷ [])
+    ∷ []
 
-abbrev pub winner : Bool → Bool → Last → Master
-winner false false last = column last Zero One Zero
-winner false true last = column last One One One
-winner true false last = column last Zero Zero Zero
-winner true true last = column last One One Zero
+-- "Rows 00 .. 01 .. 10 .. 11"
+abbrev pub row : Bool → Bool → ℕ
+row priority0 priority1 = worth 2 priority0 + worth 1 priority1
+
+abbrev pub column : Last → ℕ
+column Never = 0
+column (Was Zero) = 1
+column (Was One) = 2
+
+unfoldable pub winner : Bool → Bool → Last → Master
+winner priority0 priority1 last = master (getD (getD winners (row priority0 priority1) []) (column last) 0)
 
 -- "With no claimant, the one requester claims; if both request, the winner table decides"
 abbrev pub claimBy : Bool → Bool → Master → Turn

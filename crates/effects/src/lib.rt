@@ -1,8 +1,8 @@
 // Part 1 of a step: each event's own effect, with its outcome and the byte read. Out of sequence, outcome 4, changes nothing.
 ghost use mathlib.Core.Path.{_≡_};
 ghost use Rattle.arbiter.specs.Words.{if_then_else_, side};
-ghost use Rattle.arbiter.specs.Parts.{withTurn, withPort, withInts};
-ghost use Rattle.arbiter.specs.State.{isInitialising, atRest, forWriting};
+ghost use Rattle.arbiter.specs.Parts.{withPort};
+ghost use Rattle.arbiter.specs.State.{isInitialising, forWriting};
 ghost use Rattle.arbiter.specs.Events.{writable};
 ghost use Rattle.arbiter.specs.Effects.{registerAt, afterRead, commanded, written, paired, isMailHigh, empties, readerSide, senderSide, intInFallen, tickedArb, freshSide, freshArb, wasReset, powerUp};
 ghost use Rattle.arbiter.specs.declared.Master.the-variants.{Zero, One};
@@ -28,7 +28,10 @@ use bits::worth_of;
 use bus::fresh_bus;
 use bus::outside_of;
 use bus::ticked_bus;
-use masters::owns_turn;
+use parts::is_at_rest;
+use parts::owns_turn;
+use parts::with_ints;
+use parts::with_turn;
 use registers::drives_written;
 use registers::mail_written;
 use registers::raised_in;
@@ -53,16 +56,6 @@ fn did_so(d: Device, number: u8, byte: u8) -> Effect
 }
 
 // ---- what a state shows
-
-pub fn is_at_rest(p: Port) -> bool
-    ensures { λ r. ⌜ r ≡ atRest p ⌝ }
-{
-    match p {
-        Port::Rest => true,
-        Port::Open => false,
-        Port::Writing => false,
-    }
-}
 
 fn is_for_writing(p: Port) -> bool
     ensures { λ r. ⌜ r ≡ forWriting p ⌝ }
@@ -191,20 +184,6 @@ fn on_command(m: Master, c: u8, d: Device) -> Effect
 }
 
 // ---- WRITE and PAIR
-
-fn with_turn(t: Turn, a: Arbitration) -> Arbitration
-    ensures { λ r. ⌜ r ≡ withTurn t a ⌝ }
-{
-    let last = a.last;
-    let switch = a.switch;
-    Arbitration {
-        last,
-        initfail: a.initfail,
-        switch,
-        reserve: a.reserve,
-        turn: t,
-    }
-}
 
 fn written_by_0(v: u8, d: Device) -> Device
     ensures { λ r. ⌜ r ≡ written Zero v d ⌝ }
@@ -389,25 +368,6 @@ fn reader_side(s: Side) -> Side
         mail,
         auto: s.auto,
         port: Port::Open,
-        mask: s.mask,
-    }
-}
-
-fn with_ints(ints: u8, s: Side) -> Side
-    ensures { λ r. ⌜ r ≡ withInts ints s ⌝ }
-{
-    let contr = s.contr;
-    let mail = s.mail;
-    let pointer = s.pointer;
-    let port = s.port;
-    Side {
-        pointer,
-        rt: s.rt,
-        contr,
-        ints,
-        mail,
-        auto: s.auto,
-        port,
         mask: s.mask,
     }
 }

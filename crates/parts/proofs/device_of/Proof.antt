@@ -1,6 +1,6 @@
 use borrow.Author.Needs.{needs}
-use Rattle.masters.proofs.device_of.Statement.{statement}
-use Rattle.masters.proofs.device_of.Tie as tie
+use Rattle.parts.proofs.device_of.Statement.{statement}
+use Rattle.parts.proofs.device_of.Tie as tie
 
 enum-told : tie.Need-enum-told
 enum-told c = search needs

@@ -1,6 +1,6 @@
 use borrow.Author.Needs.{needs}
-use Rattle.masters.proofs.owns_turn.Statement.{statement}
-use Rattle.masters.proofs.owns_turn.Tie as tie
+use Rattle.parts.proofs.owns_turn.Statement.{statement}
+use Rattle.parts.proofs.owns_turn.Tie as tie
 
 enum-told : tie.Need-enum-told
 enum-told c = search needs

@@ -1,0 +1,48 @@
+use borrow.Author.Needs.{needs}
+use Rattle.arbitration.proofs.claim_after.Statement.{statement}
+use Rattle.arbitration.proofs.claim_after.Tie as tie
+
+enum-told : tie.Need-enum-told
+enum-told c = search needs
+
+new-claim-requires : tie.Need-new-claim-requires
+new-claim-requires c κs = search needs
+
+enum-known-t : tie.Need-enum-known-t
+enum-known-t c = search needs
+
+side-of-requires : tie.Need-side-of-requires
+side-of-requires c κs = search needs
+
+new-claim-requires-2 : tie.Need-new-claim-requires-2
+new-claim-requires-2 c κs = search needs
+
+enum-known-t-2 : tie.Need-enum-known-t-2
+enum-known-t-2 c = search needs
+
+returns : tie.Need-returns
+returns c = simp (← c .new-claim .ensures, c .before .enum-told .given .1, c .before .before .match .keys1)
+
+returns-2 : tie.Need-returns-2
+returns-2 c = simp (c .if1 .taken, ← c .before .side-of .ensures, c .before .before .before .t .given .1, c .before .before .before .before .match .keys2)
+
+returns-3 : tie.Need-returns-3
+returns-3 c = simp (← c .new-claim2 .ensures, c .before .if1 .left, ← c .before .before .side-of .ensures, c .before .before .before .before .t .given .1, c .before .before .before .before .before .match .keys2)
+
+returns-4 : tie.Need-returns-4
+returns-4 c = simp (c .before .t2 .given .1, c .before .before .match .keys3)
+
+pub claim-after-spec : {M : Type 1} → statement M
+claim-after-spec =
+    tie.close
+    (tie.spec
+    enum-told
+    new-claim-requires
+    enum-known-t
+    side-of-requires
+    new-claim-requires-2
+    enum-known-t-2
+    returns
+    returns-2
+    returns-3
+    returns-4)
