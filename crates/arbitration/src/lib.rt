@@ -1,7 +1,11 @@
 // Parts 3 to 6 of a step: losses, the cut after 35 ticks of low SCL, the claim, and the grant.
 ghost use mathlib.Core.Path.{_≡_};
-ghost use Rattle.arbiter.specs.Registers.{disconnected};
-ghost use Rattle.arbiter.specs.Order.{runsOut, loser, lost, losses, cut, column, winner, newClaim, claimAfter, claim, grantedArb, granted, grant};
+ghost use mathlib.Core.Bool.{false};
+ghost use Rattle.arbiter.specs.Words.{if_then_else_, side};
+ghost use Rattle.arbiter.specs.Registers.{disconnected, grantedInt, raised};
+ghost use Rattle.arbiter.specs.Parts.{withInts};
+ghost use Rattle.arbitration.specs.Cleared.{claimsTurn, contrUnless};
+ghost use Rattle.arbiter.specs.Order.{runsOut, loser, losses, cut, column, winner, claimBy, newClaim, claimAfter, claim, grantedArb, grant};
 ghost use Prim.Native.Nat.{_≤_};
 use arbiter::Arbitration;
 use arbiter::Bus;
@@ -11,28 +15,25 @@ use arbiter::Last;
 use arbiter::Master;
 use arbiter::Side;
 use arbiter::Turn;
+use bits::pick_u8;
 use bits::worth_of;
-use bus::idle_from_0;
+use bus::idle_kept;
 use bus::is_idle;
-use bus::released_bus;
-use parts::device_of;
+use bus::released_if;
+use parts::arb_with;
+use parts::device_with;
 use parts::is_at_rest;
-use parts::partner_of;
-use parts::side_of;
-use parts::with_contr;
-use parts::with_ints;
-use parts::with_side;
+use parts::last_of;
+use parts::owns_turn;
+use parts::pick_turn;
+use parts::pointer_of;
+use parts::port_of;
+use parts::same_master;
+use parts::side_with;
+use parts::switch_of;
+use parts::turn_of;
 use parts::with_turn;
 use registers::raised_in;
-
-// BUS_CONNECT cleared.
-fn disconnected_side(s: Side) -> Side
-    ensures { λ r. ⌜ r ≡ disconnected s ⌝ }
-{
-    let mut c = s.contr;
-    c.busconnect = false;
-    with_contr(c, s)
-}
 
 // ---- 3. losses
 
@@ -47,68 +48,95 @@ pub fn runs_out(s: Side, reserve: u8, b: Bus) -> bool
     }
 }
 
-fn loser_side(s: Side) -> Side
-    ensures { λ r. ⌜ r ≡ loser s ⌝ }
+fn lost_contr(on: bool, c: Control) -> Control
+    ensures { λ r. ⌜ r ≡ contrUnless on on c ⌝ }
 {
-    let mut c = s.contr;
-    c.lockreq = false;
-    with_ints(raised_in(s.ints, 0x02, true), with_contr(c, s))
+    Control {
+        priority: c.priority,
+        smbusdis: c.smbusdis,
+        idletimer: c.idletimer,
+        swrst: c.swrst,
+        businit: c.businit,
+        busconnect: !on & c.busconnect,
+        lockreq: !on & c.lockreq,
+    }
 }
 
-fn lost_by(m: Master, d: Device) -> Device
-    ensures { λ r. ⌜ r ≡ lost m d ⌝ }
+// A side whose grant is lost, if it is.
+fn lost_if(on: bool, s: Side) -> Side
+    ensures { λ r. ⌜ r ≡ (if on then disconnected (loser s) else s) ⌝ }
 {
-    let s = side_of(m, d);
-    let k = partner_of(m);
-    let p = side_of(k, d);
-    let b = d.bus;
-    let a = d.arb;
-    let side = disconnected_side(loser_side(s));
-    let bus = released_bus(b);
-    let arb = with_turn(Turn::Nobody, a);
-    device_of(m, side, p, bus, arb)
+    side_with(
+        pointer_of(s),
+        s.rt,
+        lost_contr(on, s.contr),
+        raised_in(s.ints, 0x02, on),
+        s.mail,
+        s.auto,
+        port_of(s),
+        s.mask,
+    )
 }
 
 pub fn losses_of(d: Device) -> Device
     ensures { λ r. ⌜ r ≡ losses d ⌝ }
 {
-    let a = d.arb;
-    let b = d.bus;
-    let turn = a.turn;
-    match turn {
-        Turn::Nobody => d,
-        Turn::Claims(_) => d,
-        Turn::Owns(m) => {
-            let s = side_of(m, d);
-            if runs_out(s, a.reserve, b) {
-                lost_by(m, d)
-            } else {
-                d
-            }
-        }
-    }
+    let lost0 = owns_turn(Master::Zero, turn_of(d.arb)) & runs_out(d.side0, d.arb.reserve, d.bus);
+    let lost1 = owns_turn(Master::One, turn_of(d.arb)) & runs_out(d.side1, d.arb.reserve, d.bus);
+    let turn = pick_turn(lost0 | lost1, Turn::Nobody, turn_of(d.arb));
+    device_with(
+        lost_if(lost0, d.side0),
+        lost_if(lost1, d.side1),
+        released_if(lost0 | lost1, d.bus),
+        with_turn(turn, d.arb),
+    )
 }
 
 // ---- 4. the cut
 
+fn cut_contr(on: bool, c: Control) -> Control
+    ensures { λ r. ⌜ r ≡ contrUnless on false c ⌝ }
+{
+    Control {
+        priority: c.priority,
+        smbusdis: c.smbusdis,
+        idletimer: c.idletimer,
+        swrst: c.swrst,
+        businit: c.businit,
+        busconnect: !on & c.busconnect,
+        lockreq: c.lockreq,
+    }
+}
+
+fn has_smbus_dis(c: Control) -> bool
+    ensures { λ r. ⌜ r ≡ c .smbusdis ⌝ }
+{
+    c.smbusdis
+}
+
+// A side whose BUS_CONNECT is cleared, if it is.
+fn cut_if(on: bool, s: Side) -> Side
+    ensures { λ r. ⌜ r ≡ (if on then disconnected s else s) ⌝ }
+{
+    side_with(
+        pointer_of(s),
+        s.rt,
+        cut_contr(on, s.contr),
+        s.ints,
+        s.mail,
+        s.auto,
+        port_of(s),
+        s.mask,
+    )
+}
+
 pub fn cut_at(tick: bool, d: Device) -> Device
     ensures { λ r. ⌜ r ≡ cut tick d ⌝ }
 {
-    let a = d.arb;
-    let b = d.bus;
-    let turn = a.turn;
-    match turn {
-        Turn::Nobody => d,
-        Turn::Claims(_) => d,
-        Turn::Owns(m) => {
-            let s = side_of(m, d);
-            if tick & (b.lowscl == 35) & s.contr.smbusdis {
-                with_side(m, disconnected_side(s), d)
-            } else {
-                d
-            }
-        }
-    }
+    let now = tick & (d.bus.lowscl == 35);
+    let cut0 = owns_turn(Master::Zero, turn_of(d.arb)) & (now & has_smbus_dis(d.side0.contr));
+    let cut1 = owns_turn(Master::One, turn_of(d.arb)) & (now & has_smbus_dis(d.side1.contr));
+    device_with(cut_if(cut0, d.side0), cut_if(cut1, d.side1), d.bus, d.arb)
 }
 
 // ---- 5. claim
@@ -137,13 +165,9 @@ fn winner_of(p0: bool, p1: bool, last: Last) -> Master
     if w == 0 { Master::Zero } else { Master::One }
 }
 
-fn new_claim(d: Device) -> Turn
-    ensures { λ r. ⌜ r ≡ newClaim d ⌝ }
+fn claim_by(c0: Control, c1: Control, last: Last) -> Turn
+    ensures { λ r. ⌜ r ≡ claimBy (c0 .lockreq) (c1 .lockreq) (winner (c0 .priority) (c1 .priority) last) ⌝ }
 {
-    let c0 = d.side0.contr;
-    let c1 = d.side1.contr;
-    let a = d.arb;
-    let last = a.last;
     if c0.lockreq {
         if c1.lockreq {
             Turn::Claims(winner_of(c0.priority, c1.priority, last))
@@ -159,19 +183,32 @@ fn new_claim(d: Device) -> Turn
     }
 }
 
+fn new_claim(d: Device) -> Turn
+    ensures { λ r. ⌜ r ≡ newClaim d ⌝ }
+{
+    claim_by(d.side0.contr, d.side1.contr, last_of(d.arb))
+}
+
+// m's LOCK_REQ.
+fn requests(m: Master, d: Device) -> bool
+    ensures { λ r. ⌜ r ≡ (side m d) .contr .lockreq ⌝ }
+{
+    match m {
+        Master::Zero => d.side0.contr.lockreq,
+        Master::One => d.side1.contr.lockreq,
+    }
+}
+
 fn claim_after(t: Turn, d: Device) -> Turn
     ensures { λ r. ⌜ r ≡ claimAfter t d ⌝ }
 {
     match t {
         Turn::Nobody => new_claim(d),
-        Turn::Claims(m) => {
-            let s = side_of(m, d);
-            if s.contr.lockreq {
-                Turn::Claims(m)
-            } else {
-                new_claim(d)
-            }
-        }
+        Turn::Claims(m) => if requests(m, d) {
+            Turn::Claims(m)
+        } else {
+            new_claim(d)
+        },
         Turn::Owns(m) => Turn::Owns(m),
     }
 }
@@ -179,65 +216,78 @@ fn claim_after(t: Turn, d: Device) -> Turn
 pub fn claim_of(d: Device) -> Device
     ensures { λ r. ⌜ r ≡ claim d ⌝ }
 {
-    let side0 = d.side0;
-    let side1 = d.side1;
-    let bus = d.bus;
-    let a = d.arb;
-    let turn = a.turn;
-    let arb = with_turn(claim_after(turn, d), a);
-    Device {
-        side0,
-        side1,
-        bus,
-        arb,
-    }
+    device_with(
+        d.side0,
+        d.side1,
+        d.bus,
+        with_turn(claim_after(turn_of(d.arb), d), d.arb),
+    )
 }
 
 // ---- 6. grant
 
-fn granted_arb(m: Master, rt: u8, a: Arbitration) -> Arbitration
-    ensures { λ r. ⌜ r ≡ grantedArb m rt a ⌝ }
+fn claims_turn(m: Master, t: Turn) -> bool
+    ensures { λ r. ⌜ r ≡ claimsTurn m t ⌝ }
 {
-    let switch = a.switch;
-    Arbitration {
-        last: Last::Was(m),
-        initfail: a.initfail,
-        switch,
-        reserve: rt,
-        turn: Turn::Owns(m),
+    match t {
+        Turn::Nobody => false,
+        Turn::Claims(k) => same_master(m, k),
+        Turn::Owns(_) => false,
     }
 }
 
-fn granted_to(m: Master, d: Device) -> Device
-    ensures { λ r. ⌜ r ≡ granted m d ⌝ }
+fn pick_last(test: bool, x: Last, y: Last) -> Last
+    ensures { λ r. ⌜ r ≡ (if test then x else y) ⌝ }
 {
-    let s = side_of(m, d);
-    let k = partner_of(m);
-    let p = side_of(k, d);
-    let b = d.bus;
-    let a = d.arb;
-    let side = with_ints(raised_in(s.ints, 0x04, true), s);
-    let bus = idle_from_0(b);
-    let arb = granted_arb(m, s.rt, a);
-    device_of(m, side, p, bus, arb)
+    if test { x } else { y }
+}
+
+fn pick_master(test: bool, x: Master, y: Master) -> Master
+    ensures { λ r. ⌜ r ≡ (if test then x else y) ⌝ }
+{
+    if test { x } else { y }
+}
+
+fn granted_if(on: bool, m: Master, rt: u8, a: Arbitration) -> Arbitration
+    ensures { λ r. ⌜ r ≡ (if on then grantedArb m rt a else a) ⌝ }
+{
+    arb_with(
+        pick_last(on, Last::Was(m), last_of(a)),
+        a.initfail,
+        switch_of(a),
+        pick_u8(on, rt, a.reserve),
+        pick_turn(on, Turn::Owns(m), turn_of(a)),
+    )
+}
+
+// A side that is told of its grant, if it is granted.
+fn told_if(on: bool, s: Side) -> Side
+    ensures { λ r. ⌜ r ≡ withInts (raised grantedInt on (s .ints)) s ⌝ }
+{
+    side_with(
+        pointer_of(s),
+        s.rt,
+        s.contr,
+        raised_in(s.ints, 0x04, on),
+        s.mail,
+        s.auto,
+        port_of(s),
+        s.mask,
+    )
 }
 
 pub fn grant_of(d: Device) -> Device
     ensures { λ r. ⌜ r ≡ grant d ⌝ }
 {
-    let a = d.arb;
-    let turn = a.turn;
-    match turn {
-        Turn::Nobody => d,
-        Turn::Owns(_) => d,
-        Turn::Claims(m) => {
-            let s = side_of(m, d);
-            let port = s.port;
-            if is_at_rest(port) & (d.bus.hold == 0) {
-                granted_to(m, d)
-            } else {
-                d
-            }
-        }
-    }
+    let free = d.bus.hold == 0;
+    let to0 = claims_turn(Master::Zero, turn_of(d.arb)) & (is_at_rest(port_of(d.side0)) & free);
+    let to1 = claims_turn(Master::One, turn_of(d.arb)) & (is_at_rest(port_of(d.side1)) & free);
+    let m = pick_master(to1, Master::One, Master::Zero);
+    let rt = pick_u8(to1, d.side1.rt, d.side0.rt);
+    device_with(
+        told_if(to0, d.side0),
+        told_if(to1, d.side1),
+        idle_kept(!(to0 | to1), d.bus),
+        granted_if(to0 | to1, m, rt, d.arb),
+    )
 }

@@ -1,6 +1,7 @@
 // The downstream bus: what it shows, one tick of its counts, its levels after an event, its drives, and a fresh one.
 ghost use mathlib.Core.Path.{_≡_};
-ghost use mathlib.Core.Bool.{true};
+ghost use mathlib.Core.Bool.{false};
+ghost use Rattle.arbiter.specs.Words.{if_then_else_};
 ghost use Rattle.arbiter.specs.Parts.{withIdle};
 ghost use Rattle.arbiter.specs.State.{sclHigh, sdaHigh, isIdle, busHung};
 ghost use Rattle.arbiter.specs.Registers.{released};
@@ -76,22 +77,23 @@ pub fn ticked_bus(b: Bus) -> Bus
     }
 }
 
-fn busy_after(reset: bool, before: Bus, b: Bus) -> bool
-    ensures { λ r. ⌜ r ≡ busyAfter reset before b ⌝ }
+fn busy_after(before: Bus, b: Bus) -> bool
+    ensures { λ r. ⌜ r ≡ busyAfter false before b ⌝ }
 {
     let scl = scl_high(before) & scl_high(b);
     let was = sda_high(before);
     let sda = sda_high(b);
-    !reset & (b.busy | scl & was & !sda) & !(scl & !was & sda)
+    (b.busy | scl & was & !sda) & !(scl & !was & sda)
 }
 
-// Part 2: the levels after an event, with the bus as it was before it.
-pub fn settled_bus(reset: bool, before: Bus, b: Bus) -> Bus
-    ensures { λ r. ⌜ r ≡ settledBus (busyAfter reset before b) b ⌝ }
+// Part 2: the levels after an event, with the bus as it was before it. A reset asks for no care: it clears busy by itself, and can only
+// let SDA rise.
+pub fn settled_bus(before: Bus, b: Bus) -> Bus
+    ensures { λ r. ⌜ r ≡ settledBus (busyAfter false before b) b ⌝ }
 {
     let scl = scl_high(b);
     let sda = sda_high(b);
-    let busy = busy_after(reset, before, b);
+    let busy = busy_after(before, b);
     Bus {
         outscl: b.outscl,
         outsda: b.outsda,
@@ -106,23 +108,40 @@ pub fn settled_bus(reset: bool, before: Bus, b: Bus) -> Bus
     }
 }
 
-// Both drives let go.
-pub fn released_bus(b: Bus) -> Bus
-    ensures { λ r. ⌜ r ≡ released b ⌝ }
+// Both drives let go, if a grant has ended.
+pub fn released_if(ended: bool, b: Bus) -> Bus
+    ensures { λ r. ⌜ r ≡ (if ended then released b else b) ⌝ }
 {
-    let mut n = b;
-    n.drivescl = true;
-    n.drivesda = true;
-    n
+    Bus {
+        outscl: b.outscl,
+        outsda: b.outsda,
+        intin: b.intin,
+        drivescl: ended | b.drivescl,
+        drivesda: ended | b.drivesda,
+        busy: b.busy,
+        hold: b.hold,
+        idle: b.idle,
+        lowscl: b.lowscl,
+        lowsda: b.lowsda,
+    }
 }
 
-// The idle count from 0.
-pub fn idle_from_0(b: Bus) -> Bus
-    ensures { λ r. ⌜ r ≡ withIdle 0 b ⌝ }
+// The idle count, or 0.
+pub fn idle_kept(kept: bool, b: Bus) -> Bus
+    ensures { λ r. ⌜ r ≡ withIdle (if kept then b .idle else 0) b ⌝ }
 {
-    let mut n = b;
-    n.idle = 0;
-    n
+    Bus {
+        outscl: b.outscl,
+        outsda: b.outsda,
+        intin: b.intin,
+        drivescl: b.drivescl,
+        drivesda: b.drivesda,
+        busy: b.busy,
+        hold: b.hold,
+        idle: pick_u8(kept, b.idle, 0),
+        lowscl: b.lowscl,
+        lowsda: b.lowsda,
+    }
 }
 
 // After a reset: the outside levels alone are kept, and SCL is held for so many ticks.

@@ -1,133 +1,186 @@
 // Part 7 of a step: the switch, and the initialisation before it closes.
 ghost use mathlib.Core.Path.{_≡_};
-ghost use Rattle.arbiter.specs.Parts.{withSwitch, withInitFail};
-ghost use Rattle.arbiter.specs.Order.{switched, joined, initialised, failedSide, initFailed, clocked, keptJoined, connect};
+ghost use Rattle.arbiter.specs.Parts.{withContr};
+ghost use Rattle.arbiter.specs.Order.{connect};
+ghost use Rattle.connection.specs.Links.{still, joining, clocking, linking, linkOf, contrEnded, arbLinked};
 use arbiter::Arbitration;
 use arbiter::Clock;
+use arbiter::Control;
 use arbiter::Device;
 use arbiter::Master;
 use arbiter::Side;
 use arbiter::Switch;
 use arbiter::Turn;
+use parts::arb_with;
+use parts::device_with;
+use parts::last_of;
+use parts::owns_turn;
+use parts::pointer_of;
+use parts::port_of;
 use parts::same_master;
-use parts::side_of;
-use parts::with_arb;
-use parts::with_side;
+use parts::side_with;
+use parts::switch_of;
+use parts::turn_of;
 
-fn switched_arb(w: Switch, fail: bool, a: Arbitration) -> Arbitration
-    ensures { λ r. ⌜ r ≡ withInitFail fail (withSwitch w a) ⌝ }
+// What becomes of the switch: an initialisation starts, ends, or ends in failure.
+pub struct Link {
+    pub switch: Switch,
+    pub starts: bool,
+    pub ends: bool,
+    pub fails: bool,
+}
+
+fn still_at(w: Switch) -> Link
+    ensures { λ r. ⌜ r ≡ still w ⌝ }
 {
-    let last = a.last;
-    let turn = a.turn;
-    Arbitration {
-        last,
-        initfail: fail,
+    Link {
         switch: w,
-        reserve: a.reserve,
-        turn,
+        starts: false,
+        ends: false,
+        fails: false,
     }
 }
 
-fn switched_to(w: Switch, d: Device) -> Device
-    ensures { λ r. ⌜ r ≡ switched w d ⌝ }
+// Grant and BUS_CONNECT have become both true of m.
+fn joining_by(m: Master, businit: bool) -> Link
+    ensures { λ r. ⌜ r ≡ joining m businit ⌝ }
 {
-    let a = d.arb;
-    with_arb(switched_arb(w, a.initfail, a), d)
-}
-
-// Grant and BUS_CONNECT have become both true.
-fn joined_by(m: Master, d: Device) -> Device
-    ensures { λ r. ⌜ r ≡ joined m d ⌝ }
-{
-    let s = side_of(m, d);
-    let a = d.arb;
-    if s.contr.businit {
-        with_arb(switched_arb(Switch::Initialising(m, 0), false, a), d)
+    if businit {
+        Link {
+            switch: Switch::Initialising(m, 0),
+            starts: true,
+            ends: false,
+            fails: false,
+        }
     } else {
-        switched_to(Switch::Closed(m), d)
+        still_at(Switch::Closed(m))
     }
 }
 
-fn initialised_by(m: Master, d: Device) -> Device
-    ensures { λ r. ⌜ r ≡ initialised m d ⌝ }
+// An initialisation of m after n PULSEs of 0 goes on.
+fn clocking_by(c: Clock, m: Master, n: u8, w: Switch) -> Link
+    ensures { λ r. ⌜ r ≡ clocking c m n w ⌝ }
 {
-    let mut s = side_of(m, d);
-    let mut c = s.contr;
-    c.businit = false;
-    s.contr = c;
-    switched_to(Switch::Closed(m), with_side(m, s, d))
+    match c {
+        Clock::NoClock => still_at(w),
+        Clock::ClockHigh => Link {
+            switch: Switch::Closed(m),
+            starts: false,
+            ends: true,
+            fails: false,
+        },
+        Clock::ClockLow => if n < 8 {
+            still_at(Switch::Initialising(m, n + 1))
+        } else {
+            Link {
+                switch: Switch::Apart,
+                starts: false,
+                ends: true,
+                fails: true,
+            }
+        },
+    }
 }
 
-fn failed_side(s: Side) -> Side
-    ensures { λ r. ⌜ r ≡ failedSide s ⌝ }
+// Grant and BUS_CONNECT are both true of m, and the switch was w.
+fn linking_by(c: Clock, m: Master, businit: bool, w: Switch) -> Link
+    ensures { λ r. ⌜ r ≡ linking c m businit w ⌝ }
 {
-    let mut n = s;
-    let mut c = s.contr;
-    c.businit = false;
-    c.busconnect = false;
-    n.contr = c;
-    n
+    match w {
+        Switch::Apart => joining_by(m, businit),
+        Switch::Initialising(k, n) => if same_master(m, k) {
+            clocking_by(c, m, n, w)
+        } else {
+            joining_by(m, businit)
+        },
+        Switch::Closed(k) => if same_master(m, k) {
+            still_at(w)
+        } else {
+            joining_by(m, businit)
+        },
+    }
 }
 
-fn init_failed(m: Master, d: Device) -> Device
-    ensures { λ r. ⌜ r ≡ initFailed m d ⌝ }
+fn link_of(c: Clock, t: Turn, c0: Control, c1: Control, w: Switch) -> Link
+    ensures { λ r. ⌜ r ≡ linkOf c t c0 c1 w ⌝ }
 {
-    let s = side_of(m, d);
-    let a = d.arb;
-    with_arb(
-        switched_arb(Switch::Apart, true, a),
-        with_side(m, failed_side(s), d),
+    match t {
+        Turn::Nobody => still_at(Switch::Apart),
+        Turn::Claims(_) => still_at(Switch::Apart),
+        Turn::Owns(m) => match m {
+            Master::Zero => if c0.busconnect {
+                linking_by(c, m, c0.businit, w)
+            } else {
+                still_at(Switch::Apart)
+            },
+            Master::One => if c1.busconnect {
+                linking_by(c, m, c1.businit, w)
+            } else {
+                still_at(Switch::Apart)
+            },
+        },
+    }
+}
+
+fn ended_contr(ends: bool, fails: bool, c: Control) -> Control
+    ensures { λ r. ⌜ r ≡ contrEnded ends fails c ⌝ }
+{
+    Control {
+        priority: c.priority,
+        smbusdis: c.smbusdis,
+        idletimer: c.idletimer,
+        swrst: c.swrst,
+        businit: !ends & c.businit,
+        busconnect: !fails & c.busconnect,
+        lockreq: c.lockreq,
+    }
+}
+
+// BUS_INIT and BUS_CONNECT cleared, each if it is.
+fn ended_side(ends: bool, fails: bool, s: Side) -> Side
+    ensures { λ r. ⌜ r ≡ withContr (contrEnded ends fails (s .contr)) s ⌝ }
+{
+    side_with(
+        pointer_of(s),
+        s.rt,
+        ended_contr(ends, fails, s.contr),
+        s.ints,
+        s.mail,
+        s.auto,
+        port_of(s),
+        s.mask,
     )
 }
 
-fn clocked_by(c: Clock, m: Master, n: u8, d: Device) -> Device
-    ensures { λ r. ⌜ r ≡ clocked c m n d ⌝ }
+fn linked_arb(l: Link, a: Arbitration) -> Arbitration
+    ensures { λ r. ⌜ r ≡ arbLinked l a ⌝ }
 {
-    match c {
-        Clock::NoClock => d,
-        Clock::ClockHigh => initialised_by(m, d),
-        Clock::ClockLow => if n < 8 {
-            switched_to(Switch::Initialising(m, n + 1), d)
-        } else {
-            init_failed(m, d)
-        },
-    }
-}
-
-fn kept_joined(c: Clock, m: Master, w: Switch, d: Device) -> Device
-    ensures { λ r. ⌜ r ≡ keptJoined c m w d ⌝ }
-{
-    match w {
-        Switch::Apart => joined_by(m, d),
-        Switch::Initialising(k, n) => if same_master(m, k) {
-            clocked_by(c, m, n, d)
-        } else {
-            joined_by(m, d)
-        },
-        Switch::Closed(k) => if same_master(m, k) {
-            d
-        } else {
-            joined_by(m, d)
-        },
-    }
+    let switch = l.switch;
+    arb_with(
+        last_of(a),
+        !l.starts & (l.fails | a.initfail),
+        switch,
+        a.reserve,
+        turn_of(a),
+    )
 }
 
 pub fn connect_of(c: Clock, d: Device) -> Device
     ensures { λ r. ⌜ r ≡ connect c d ⌝ }
 {
-    let a = d.arb;
-    let turn = a.turn;
-    let switch = a.switch;
-    match turn {
-        Turn::Nobody => switched_to(Switch::Apart, d),
-        Turn::Claims(_) => switched_to(Switch::Apart, d),
-        Turn::Owns(m) => {
-            let s = side_of(m, d);
-            if s.contr.busconnect {
-                kept_joined(c, m, switch, d)
-            } else {
-                switched_to(Switch::Apart, d)
-            }
-        }
-    }
+    let owns0 = owns_turn(Master::Zero, turn_of(d.arb));
+    let owns1 = owns_turn(Master::One, turn_of(d.arb));
+    let l = link_of(
+        c,
+        turn_of(d.arb),
+        d.side0.contr,
+        d.side1.contr,
+        switch_of(d.arb),
+    );
+    device_with(
+        ended_side(owns0 & l.ends, owns0 & l.fails, d.side0),
+        ended_side(owns1 & l.ends, owns1 & l.fails, d.side1),
+        d.bus,
+        linked_arb(l, d.arb),
+    )
 }

@@ -3,10 +3,16 @@
 use mathlib.Core.Path.{_≡_, refl}
 use mathlib.Core.Bool.{Bool, true, false, not, _&&_}
 use Prim.Native.Nat.{ℕ, _%_}
-use Rattle.arbiter.specs.Words.{if_then_else_, bit}
+use Rattle.arbiter.specs.Words.{if_then_else_, bit, partner, side, device}
 use Rattle.arbiter.specs.Parts.{withPort, withAuto, withPointer, withMail}
-use Rattle.arbiter.specs.Events.{goodCommand}
-use Rattle.arbiter.specs.Effects.{registerAt, afterRead, commanded, empties, readerSide}
+use Rattle.arbiter.specs.Registers.{readsAt}
+use Rattle.arbiter.specs.Events.{goodCommand, inSequence, acknowledged}
+use Rattle.arbiter.specs.Effects.{registerAt, afterRead, commanded, empties, readerSide, senderSide, wasRead, effect}
+use Rattle.arbiter.specs.Steps.{byteRead}
+use Rattle.arbiter.specs.declared.Master.{Master}
+use Rattle.arbiter.specs.declared.Event.the-variants.{Read}
+use Rattle.arbiter.specs.declared.Device.{Device}
+use Rattle.effects.specs.Effect.{did, effectOf}
 use Rattle.arbiter.specs.declared.Port.the-variants.{Open, Writing}
 use Rattle.arbiter.specs.declared.Side.{Side}
 
@@ -27,3 +33,9 @@ reader-law s = go (s .auto)
     go : (auto : Bool) → withPort Open (withPointer (if auto then afterRead (s .pointer) else s .pointer) (taken s)) ≡ withPort Open (if auto then withPointer (afterRead (s .pointer)) (taken s) else taken s)
     go true = refl
     go false = refl
+
+-- ---- READ, by either master
+
+pub read-law : (m : Master) (d : Device) → did (device m (readerSide (side m d)) (senderSide (empties (side m d)) (side (partner m) d)) (d .bus) (d .arb)) 0 (readsAt ((side m d) .pointer) m d) ≡ effectOf (Read m) d
+unfolding effectOf inSequence acknowledged effect wasRead byteRead
+read-law m d = refl

@@ -8,7 +8,7 @@ ghost use Rattle.arbiter.specs.Effects.{registerAt, afterRead, commanded, writt
 ghost use Rattle.arbiter.specs.declared.Master.the-variants.{Zero, One};
 ghost use Rattle.arbiter.specs.declared.Port.the-variants.{Rest, Open, Writing};
 ghost use Rattle.arbiter.specs.declared.Event.the-variants.{Command, Write, Read, Stop, Pair, Lines, Tick, Pulse, Reset, GeneralCall};
-ghost use Rattle.effects.specs.Effect.{did, effectOf};
+ghost use Rattle.effects.specs.Effect.{did, effectOf, mailUnless};
 use arbiter::Arbitration;
 use arbiter::Bus;
 use arbiter::Control;
@@ -28,9 +28,17 @@ use bits::worth_of;
 use bus::fresh_bus;
 use bus::outside_of;
 use bus::ticked_bus;
+use parts::arb_with;
+use parts::device_with;
 use parts::is_at_rest;
+use parts::last_of;
 use parts::owns_turn;
-use parts::with_ints;
+use parts::pick_register;
+use parts::pointer_of;
+use parts::port_of;
+use parts::side_with;
+use parts::switch_of;
+use parts::turn_of;
 use parts::with_turn;
 use registers::drives_written;
 use registers::mail_written;
@@ -45,7 +53,7 @@ pub struct Effect {
     pub read: u8,
 }
 
-fn did_so(d: Device, number: u8, byte: u8) -> Effect
+pub fn did_so(d: Device, number: u8, byte: u8) -> Effect
     ensures { λ r. ⌜ r ≡ did d number byte ⌝ }
 {
     Effect {
@@ -109,12 +117,6 @@ fn register_at(n: u8) -> Register
     }
 }
 
-fn pick_register(test: bool, x: Register, y: Register) -> Register
-    ensures { λ r. ⌜ r ≡ (if test then x else y) ⌝ }
-{
-    if test { x } else { y }
-}
-
 fn opened(for_writing: bool) -> Port
     ensures { λ r. ⌜ r ≡ (if «for_writing» then Writing else Open) ⌝ }
 {
@@ -129,114 +131,79 @@ fn commanded_side(c: u8, s: Side) -> Side
     ensures { λ r. ⌜ r ≡ commanded c s ⌝ }
 {
     let good = c / 8 % 16 == 0;
-    let old = s.pointer;
-    let new = register_at(c % 8);
-    let contr = s.contr;
-    let mail = s.mail;
-    Side {
-        pointer: pick_register(good, new, old),
-        rt: s.rt,
-        contr,
-        ints: s.ints,
-        mail,
-        auto: pick_bool(good, c / 128 % 2 == 1, s.auto),
-        port: opened(good),
-        mask: s.mask,
-    }
+    side_with(
+        pick_register(good, register_at(c % 8), pointer_of(s)),
+        s.rt,
+        s.contr,
+        s.ints,
+        s.mail,
+        pick_bool(good, c / 128 % 2 == 1, s.auto),
+        opened(good),
+        s.mask,
+    )
 }
 
 fn on_command(m: Master, c: u8, d: Device) -> Effect
     ensures { λ r. ⌜ r ≡ effectOf (Command m c) d ⌝ }
 {
     let number = worth_of(1, !(c / 8 % 16 == 0));
-    let s0 = d.side0;
-    let s1 = d.side1;
-    let bus = d.bus;
-    let arb = d.arb;
     match m {
-        Master::Zero => {
-            let side0 = commanded_side(c, s0);
-            did_so(
-                Device {
-                    side0,
-                    side1: s1,
-                    bus,
-                    arb,
-                },
-                number,
-                0,
-            )
-        }
-        Master::One => {
-            let side1 = commanded_side(c, s1);
-            did_so(
-                Device {
-                    side0: s0,
-                    side1,
-                    bus,
-                    arb,
-                },
-                number,
-                0,
-            )
-        }
+        Master::Zero => did_so(
+            device_with(commanded_side(c, d.side0), d.side1, d.bus, d.arb),
+            number,
+            0,
+        ),
+        Master::One => did_so(
+            device_with(d.side0, commanded_side(c, d.side1), d.bus, d.arb),
+            number,
+            0,
+        ),
     }
 }
 
 // ---- WRITE and PAIR
 
+fn is_connect(c: Control) -> bool
+    ensures { λ r. ⌜ r ≡ c .busconnect ⌝ }
+{
+    c.busconnect
+}
+
 fn written_by_0(v: u8, d: Device) -> Device
     ensures { λ r. ⌜ r ≡ written Zero v d ⌝ }
 {
-    let s = d.side0;
-    let p = d.side1;
-    let b = d.bus;
-    let a = d.arb;
-    let at = s.pointer;
-    let turn = a.turn;
-    let granted = owns_turn(Master::Zero, turn);
-    let side0 = writer_side(granted, v, s);
-    let side1 = mail_written(at, v, p);
-    let bus = drives_written(granted, s.contr.busconnect, at, v, b);
-    let arb = with_turn(turn_written(granted, at, v, turn), a);
-    Device {
-        side0,
-        side1,
-        bus,
-        arb,
-    }
+    let at = pointer_of(d.side0);
+    let granted = owns_turn(Master::Zero, turn_of(d.arb));
+    let connect = is_connect(d.side0.contr);
+    let turn = turn_written(granted, at, v, turn_of(d.arb));
+    device_with(
+        writer_side(granted, v, d.side0),
+        mail_written(at, v, d.side1),
+        drives_written(granted, connect, at, v, d.bus),
+        with_turn(turn, d.arb),
+    )
 }
 
 fn written_by_1(v: u8, d: Device) -> Device
     ensures { λ r. ⌜ r ≡ written One v d ⌝ }
 {
-    let s = d.side1;
-    let p = d.side0;
-    let b = d.bus;
-    let a = d.arb;
-    let at = s.pointer;
-    let turn = a.turn;
-    let granted = owns_turn(Master::One, turn);
-    let side1 = writer_side(granted, v, s);
-    let side0 = mail_written(at, v, p);
-    let bus = drives_written(granted, s.contr.busconnect, at, v, b);
-    let arb = with_turn(turn_written(granted, at, v, turn), a);
-    Device {
-        side0,
-        side1,
-        bus,
-        arb,
-    }
+    let at = pointer_of(d.side1);
+    let granted = owns_turn(Master::One, turn_of(d.arb));
+    let connect = is_connect(d.side1.contr);
+    let turn = turn_written(granted, at, v, turn_of(d.arb));
+    device_with(
+        mail_written(at, v, d.side0),
+        writer_side(granted, v, d.side1),
+        drives_written(granted, connect, at, v, d.bus),
+        with_turn(turn, d.arb),
+    )
 }
 
 fn on_write_0(v: u8, d: Device) -> Effect
     ensures { λ r. ⌜ r ≡ effectOf (Write Zero v) d ⌝ }
 {
-    let s = d.side0;
-    let port = s.port;
-    let at = s.pointer;
-    if is_for_writing(port) {
-        let ok = writable_at(at);
+    if is_for_writing(port_of(d.side0)) {
+        let ok = writable_at(pointer_of(d.side0));
         did_so(written_by_0(v, d), worth_of(1, !ok), 0)
     } else {
         did_so(d, 4, 0)
@@ -246,11 +213,8 @@ fn on_write_0(v: u8, d: Device) -> Effect
 fn on_write_1(v: u8, d: Device) -> Effect
     ensures { λ r. ⌜ r ≡ effectOf (Write One v) d ⌝ }
 {
-    let s = d.side1;
-    let port = s.port;
-    let at = s.pointer;
-    if is_for_writing(port) {
-        let ok = writable_at(at);
+    if is_for_writing(port_of(d.side1)) {
+        let ok = writable_at(pointer_of(d.side1));
         did_so(written_by_1(v, d), worth_of(1, !ok), 0)
     } else {
         did_so(d, 4, 0)
@@ -269,40 +233,32 @@ fn on_write(m: Master, v: u8, d: Device) -> Effect
 fn paired_by(v0: u8, v1: u8, d: Device) -> Device
     ensures { λ r. ⌜ r ≡ paired v0 v1 d ⌝ }
 {
-    let s0 = d.side0;
-    let s1 = d.side1;
-    let b = d.bus;
-    let a = d.arb;
-    let at0 = s0.pointer;
-    let at1 = s1.pointer;
-    let turn = a.turn;
-    let owns0 = owns_turn(Master::Zero, turn);
-    let owns1 = owns_turn(Master::One, turn);
-    let side0 = mail_written(at1, v1, writer_side(owns0, v0, s0));
-    let side1 = mail_written(at0, v0, writer_side(owns1, v1, s1));
-    let bus0 = drives_written(owns0, s0.contr.busconnect, at0, v0, b);
-    let bus = drives_written(owns1, s1.contr.busconnect, at1, v1, bus0);
-    let turn0 = turn_written(owns0, at0, v0, turn);
-    let arb = with_turn(turn_written(owns1, at1, v1, turn0), a);
-    Device {
-        side0,
-        side1,
-        bus,
-        arb,
-    }
+    let at0 = pointer_of(d.side0);
+    let at1 = pointer_of(d.side1);
+    let owns0 = owns_turn(Master::Zero, turn_of(d.arb));
+    let owns1 = owns_turn(Master::One, turn_of(d.arb));
+    let connect0 = is_connect(d.side0.contr);
+    let connect1 = is_connect(d.side1.contr);
+    let turn = turn_written(owns1, at1, v1, turn_written(owns0, at0, v0, turn_of(d.arb)));
+    device_with(
+        mail_written(at1, v1, writer_side(owns0, v0, d.side0)),
+        mail_written(at0, v0, writer_side(owns1, v1, d.side1)),
+        drives_written(
+            owns1,
+            connect1,
+            at1,
+            v1,
+            drives_written(owns0, connect0, at0, v0, d.bus),
+        ),
+        with_turn(turn, d.arb),
+    )
 }
 
 fn on_pair(v0: u8, v1: u8, d: Device) -> Effect
     ensures { λ r. ⌜ r ≡ effectOf (Pair v0 v1) d ⌝ }
 {
-    let s0 = d.side0;
-    let s1 = d.side1;
-    let port0 = s0.port;
-    let port1 = s1.port;
-    let at0 = s0.pointer;
-    let at1 = s1.pointer;
-    let ok = writable_at(at0) & writable_at(at1);
-    if is_for_writing(port0) & is_for_writing(port1) {
+    if is_for_writing(port_of(d.side0)) & is_for_writing(port_of(d.side1)) {
+        let ok = writable_at(pointer_of(d.side0)) & writable_at(pointer_of(d.side1));
         did_so(paired_by(v0, v1, d), worth_of(1, !ok), 0)
     } else {
         did_so(d, 4, 0)
@@ -344,96 +300,75 @@ fn is_mail_high(r: Register) -> bool
 fn empties_own(s: Side) -> bool
     ensures { λ r. ⌜ r ≡ empties s ⌝ }
 {
-    let at = s.pointer;
-    is_mail_high(at) & s.mail.full
+    is_mail_high(pointer_of(s)) & s.mail.full
+}
+
+fn emptied_if(emptied: bool, m: Mailbox) -> Mailbox
+    ensures { λ r. ⌜ r ≡ mailUnless emptied m ⌝ }
+{
+    Mailbox {
+        low: m.low,
+        high: m.high,
+        full: m.full & !emptied,
+    }
 }
 
 fn reader_side(s: Side) -> Side
     ensures { λ r. ⌜ r ≡ readerSide s ⌝ }
 {
-    let at = s.pointer;
-    let next = after_read(at);
-    let contr = s.contr;
-    let emptied = empties_own(s);
-    let mail = Mailbox {
-        low: s.mail.low,
-        high: s.mail.high,
-        full: s.mail.full & !emptied,
-    };
-    Side {
-        pointer: pick_register(s.auto, next, at),
-        rt: s.rt,
-        contr,
-        ints: s.ints,
-        mail,
-        auto: s.auto,
-        port: Port::Open,
-        mask: s.mask,
-    }
+    side_with(
+        pick_register(s.auto, after_read(pointer_of(s)), pointer_of(s)),
+        s.rt,
+        s.contr,
+        s.ints,
+        emptied_if(empties_own(s), s.mail),
+        s.auto,
+        Port::Open,
+        s.mask,
+    )
 }
 
 fn sender_side(emptied: bool, s: Side) -> Side
     ensures { λ r. ⌜ r ≡ senderSide emptied s ⌝ }
 {
-    with_ints(raised_in(s.ints, 0x10, emptied), s)
-}
-
-fn read_by_0(d: Device) -> Effect
-    ensures { λ r. ⌜ r ≡ effectOf (Read Zero) d ⌝ }
-{
-    let own = d.side0;
-    let other = d.side1;
-    let bus = d.bus;
-    let arb = d.arb;
-    let turn = arb.turn;
-    let granted = owns_turn(Master::Zero, turn);
-    let theirs = owns_turn(Master::One, turn);
-    let byte = register_byte(granted, theirs, own, other, bus, arb.initfail);
-    let side0 = reader_side(own);
-    let side1 = sender_side(empties_own(own), other);
-    did_so(
-        Device {
-            side0,
-            side1,
-            bus,
-            arb,
-        },
-        0,
-        byte,
-    )
-}
-
-fn read_by_1(d: Device) -> Effect
-    ensures { λ r. ⌜ r ≡ effectOf (Read One) d ⌝ }
-{
-    let own = d.side1;
-    let other = d.side0;
-    let bus = d.bus;
-    let arb = d.arb;
-    let turn = arb.turn;
-    let granted = owns_turn(Master::One, turn);
-    let theirs = owns_turn(Master::Zero, turn);
-    let byte = register_byte(granted, theirs, own, other, bus, arb.initfail);
-    let side1 = reader_side(own);
-    let side0 = sender_side(empties_own(own), other);
-    did_so(
-        Device {
-            side0,
-            side1,
-            bus,
-            arb,
-        },
-        0,
-        byte,
+    side_with(
+        pointer_of(s),
+        s.rt,
+        s.contr,
+        raised_in(s.ints, 0x10, emptied),
+        s.mail,
+        s.auto,
+        port_of(s),
+        s.mask,
     )
 }
 
 fn on_read(m: Master, d: Device) -> Effect
     ensures { λ r. ⌜ r ≡ effectOf (Read m) d ⌝ }
 {
+    let owns0 = owns_turn(Master::Zero, turn_of(d.arb));
+    let owns1 = owns_turn(Master::One, turn_of(d.arb));
     match m {
-        Master::Zero => read_by_0(d),
-        Master::One => read_by_1(d),
+        Master::Zero => did_so(
+            device_with(
+                reader_side(d.side0),
+                sender_side(empties_own(d.side0), d.side1),
+                d.bus,
+                d.arb,
+            ),
+            0,
+            register_byte(owns0, owns1, d.side0, d.side1, d.bus, d.arb.initfail),
+        ),
+        Master::One => did_so(
+            device_with(
+                sender_side(empties_own(d.side1), d.side0),
+                reader_side(d.side1),
+                d.bus,
+                d.arb,
+            ),
+            0,
+            register_byte(owns1, owns0, d.side1, d.side0, d.bus, d.arb.initfail),
+        ),
     }
 }
 
@@ -442,40 +377,26 @@ fn on_read(m: Master, d: Device) -> Effect
 fn stopped_side(s: Side) -> Side
     ensures { λ r. ⌜ r ≡ withPort Rest s ⌝ }
 {
-    let contr = s.contr;
-    let mail = s.mail;
-    let pointer = s.pointer;
-    Side {
-        pointer,
-        rt: s.rt,
-        contr,
-        ints: s.ints,
-        mail,
-        auto: s.auto,
-        port: Port::Rest,
-        mask: s.mask,
-    }
+    side_with(
+        pointer_of(s),
+        s.rt,
+        s.contr,
+        s.ints,
+        s.mail,
+        s.auto,
+        Port::Rest,
+        s.mask,
+    )
 }
 
 fn stop_by_0(d: Device) -> Effect
     ensures { λ r. ⌜ r ≡ effectOf (Stop Zero) d ⌝ }
 {
-    let s = d.side0;
-    let port = s.port;
-    let side1 = d.side1;
-    let bus = d.bus;
-    let arb = d.arb;
-    if is_at_rest(port) {
+    if is_at_rest(port_of(d.side0)) {
         did_so(d, 4, 0)
     } else {
-        let side0 = stopped_side(s);
         did_so(
-            Device {
-                side0,
-                side1,
-                bus,
-                arb,
-            },
+            device_with(stopped_side(d.side0), d.side1, d.bus, d.arb),
             0,
             0,
         )
@@ -485,22 +406,11 @@ fn stop_by_0(d: Device) -> Effect
 fn stop_by_1(d: Device) -> Effect
     ensures { λ r. ⌜ r ≡ effectOf (Stop One) d ⌝ }
 {
-    let s = d.side1;
-    let port = s.port;
-    let side0 = d.side0;
-    let bus = d.bus;
-    let arb = d.arb;
-    if is_at_rest(port) {
+    if is_at_rest(port_of(d.side1)) {
         did_so(d, 4, 0)
     } else {
-        let side1 = stopped_side(s);
         did_so(
-            Device {
-                side0,
-                side1,
-                bus,
-                arb,
-            },
+            device_with(d.side0, stopped_side(d.side1), d.bus, d.arb),
             0,
             0,
         )
@@ -521,27 +431,29 @@ fn on_stop(m: Master, d: Device) -> Effect
 fn fallen_side(fell: bool, s: Side) -> Side
     ensures { λ r. ⌜ r ≡ intInFallen fell s ⌝ }
 {
-    with_ints(raised_in(s.ints, 0x01, fell), s)
+    side_with(
+        pointer_of(s),
+        s.rt,
+        s.contr,
+        raised_in(s.ints, 0x01, fell),
+        s.mail,
+        s.auto,
+        port_of(s),
+        s.mask,
+    )
 }
 
 fn on_lines(scl: bool, sda: bool, intin: bool, d: Device) -> Effect
     ensures { λ r. ⌜ r ≡ effectOf (Lines scl sda intin) d ⌝ }
 {
-    let b = d.bus;
-    let s0 = d.side0;
-    let s1 = d.side1;
-    let arb = d.arb;
-    let fell = b.intin & !intin;
-    let side0 = fallen_side(fell, s0);
-    let side1 = fallen_side(fell, s1);
-    let bus = outside_of(scl, sda, intin, b);
+    let fell = d.bus.intin & !intin;
     did_so(
-        Device {
-            side0,
-            side1,
-            bus,
-            arb,
-        },
+        device_with(
+            fallen_side(fell, d.side0),
+            fallen_side(fell, d.side1),
+            outside_of(scl, sda, intin, d.bus),
+            d.arb,
+        ),
         0,
         0,
     )
@@ -550,34 +462,20 @@ fn on_lines(scl: bool, sda: bool, intin: bool, d: Device) -> Effect
 fn ticked_arb(a: Arbitration) -> Arbitration
     ensures { λ r. ⌜ r ≡ tickedArb a ⌝ }
 {
-    let last = a.last;
-    let switch = a.switch;
-    let turn = a.turn;
-    Arbitration {
-        last,
-        initfail: a.initfail,
-        switch,
-        reserve: less_one(a.reserve),
-        turn,
-    }
+    arb_with(
+        last_of(a),
+        a.initfail,
+        switch_of(a),
+        less_one(a.reserve),
+        turn_of(a),
+    )
 }
 
 fn on_tick(d: Device) -> Effect
     ensures { λ r. ⌜ r ≡ effectOf Tick d ⌝ }
 {
-    let side0 = d.side0;
-    let side1 = d.side1;
-    let b = d.bus;
-    let a = d.arb;
-    let bus = ticked_bus(b);
-    let arb = ticked_arb(a);
     did_so(
-        Device {
-            side0,
-            side1,
-            bus,
-            arb,
-        },
+        device_with(d.side0, d.side1, ticked_bus(d.bus), ticked_arb(d.arb)),
         0,
         0,
     )
@@ -586,9 +484,7 @@ fn on_tick(d: Device) -> Effect
 fn on_pulse(sda: bool, d: Device) -> Effect
     ensures { λ r. ⌜ r ≡ effectOf (Pulse sda) d ⌝ }
 {
-    let a = d.arb;
-    let switch = a.switch;
-    if initialises(switch) {
+    if initialises(switch_of(d.arb)) {
         did_so(d, 0, 0)
     } else {
         did_so(d, 4, 0)
@@ -639,14 +535,12 @@ fn fresh_arb() -> Arbitration
 fn reset_device(hold: u8, d: Device) -> Device
     ensures { λ r. ⌜ r ≡ wasReset hold d ⌝ }
 {
-    let b = d.bus;
-    let bus = fresh_bus(hold, b);
-    Device {
-        side0: fresh_side(),
-        side1: fresh_side(),
-        bus,
-        arb: fresh_arb(),
-    }
+    device_with(
+        fresh_side(),
+        fresh_side(),
+        fresh_bus(hold, d.bus),
+        fresh_arb(),
+    )
 }
 
 fn swrst_of(m: Master, d: Device) -> bool

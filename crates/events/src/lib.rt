@@ -1,7 +1,7 @@
 // Four bytes as an event, and what the parts of a step ask of one.
 ghost use mathlib.Core.Path.{_≡_};
 ghost use Rattle.arbiter.specs.Events.{master, fitting, decode, decodedNumber};
-ghost use Rattle.arbiter.specs.Order.{isReset, isTick, clockOf};
+ghost use Rattle.arbiter.specs.Order.{isTick, clockOf};
 use arbiter::Clock;
 use arbiter::Decoded;
 use arbiter::Event;
@@ -56,23 +56,6 @@ pub fn decoded_number(d: Decoded) -> u8
         Decoded::Reads(_) => 0,
         Decoded::UnknownKind => 2,
         Decoded::BadField => 3,
-    }
-}
-
-pub fn is_reset(e: Event) -> bool
-    ensures { λ r. ⌜ r ≡ isReset e ⌝ }
-{
-    match e {
-        Event::Command(_, _) => false,
-        Event::Write(_, _) => false,
-        Event::Read(_) => false,
-        Event::Stop(_) => false,
-        Event::Pair(_, _) => false,
-        Event::Lines(_, _, _) => false,
-        Event::Tick => false,
-        Event::Pulse(_) => false,
-        Event::Reset => true,
-        Event::GeneralCall(_, b) => b == 0x06,
     }
 }
 

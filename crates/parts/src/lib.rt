@@ -1,23 +1,142 @@
-// What belongs to one of the two masters, and one part of a side or a device replaced.
+// The parts of a device: taken out, put together, one replaced; and what belongs to one of the two masters.
+//
+// Structs are passed on as they stand and built by one call, never through a local copy: the step runs half as fast otherwise, since
+// the compiler then packs neighbouring fields into one word and takes them apart again at every step.
 ghost use mathlib.Core.Path.{_≡_};
-ghost use Rattle.arbiter.specs.Words.{partner, sameMaster, side, device};
+ghost use Rattle.arbiter.specs.Words.{if_then_else_, sameMaster};
 ghost use Rattle.arbiter.specs.State.{atRest, ownsTurn};
-ghost use Rattle.arbiter.specs.Parts.{withInts, withContr, withTurn, withSide, withArb};
+ghost use Rattle.arbiter.specs.Parts.{withTurn};
+ghost use Rattle.parts.specs.Whole.{sideWith, arbWith, deviceWith};
 use arbiter::Arbitration;
 use arbiter::Bus;
 use arbiter::Control;
 use arbiter::Device;
+use arbiter::Last;
+use arbiter::Mailbox;
 use arbiter::Master;
 use arbiter::Port;
+use arbiter::Register;
 use arbiter::Side;
+use arbiter::Switch;
 use arbiter::Turn;
 
-pub fn partner_of(m: Master) -> Master
-    ensures { λ r. ⌜ r ≡ partner m ⌝ }
+// ---- taken out
+
+pub fn pointer_of(s: Side) -> Register
+    ensures { λ r. ⌜ r ≡ s .pointer ⌝ }
 {
-    match m {
-        Master::Zero => Master::One,
-        Master::One => Master::Zero,
+    let p = s.pointer;
+    p
+}
+
+pub fn port_of(s: Side) -> Port
+    ensures { λ r. ⌜ r ≡ s .port ⌝ }
+{
+    let p = s.port;
+    p
+}
+
+pub fn turn_of(a: Arbitration) -> Turn
+    ensures { λ r. ⌜ r ≡ a .turn ⌝ }
+{
+    let t = a.turn;
+    t
+}
+
+pub fn last_of(a: Arbitration) -> Last
+    ensures { λ r. ⌜ r ≡ a .last ⌝ }
+{
+    let l = a.last;
+    l
+}
+
+pub fn switch_of(a: Arbitration) -> Switch
+    ensures { λ r. ⌜ r ≡ a .switch ⌝ }
+{
+    let w = a.switch;
+    w
+}
+
+// ---- put together
+
+pub fn side_with(
+    pointer: Register,
+    rt: u8,
+    contr: Control,
+    ints: u8,
+    mail: Mailbox,
+    auto: bool,
+    port: Port,
+    mask: u8,
+) -> Side
+    ensures { λ r. ⌜ r ≡ sideWith pointer rt contr ints mail auto port mask ⌝ }
+{
+    Side {
+        pointer,
+        rt,
+        contr,
+        ints,
+        mail,
+        auto,
+        port,
+        mask,
+    }
+}
+
+pub fn arb_with(last: Last, initfail: bool, switch: Switch, reserve: u8, turn: Turn) -> Arbitration
+    ensures { λ r. ⌜ r ≡ arbWith last initfail switch reserve turn ⌝ }
+{
+    Arbitration {
+        last,
+        initfail,
+        switch,
+        reserve,
+        turn,
+    }
+}
+
+pub fn device_with(side0: Side, side1: Side, bus: Bus, arb: Arbitration) -> Device
+    ensures { λ r. ⌜ r ≡ deviceWith side0 side1 bus arb ⌝ }
+{
+    Device {
+        side0,
+        side1,
+        bus,
+        arb,
+    }
+}
+
+// ---- one part replaced
+
+pub fn with_turn(turn: Turn, a: Arbitration) -> Arbitration
+    ensures { λ r. ⌜ r ≡ withTurn turn a ⌝ }
+{
+    arb_with(last_of(a), a.initfail, switch_of(a), a.reserve, turn)
+}
+
+// ---- chosen by a test
+
+pub fn pick_turn(test: bool, x: Turn, y: Turn) -> Turn
+    ensures { λ r. ⌜ r ≡ (if test then x else y) ⌝ }
+{
+    if test { x } else { y }
+}
+
+pub fn pick_register(test: bool, x: Register, y: Register) -> Register
+    ensures { λ r. ⌜ r ≡ (if test then x else y) ⌝ }
+{
+    if test { x } else { y }
+}
+
+// ---- what they show
+
+pub fn is_at_rest(p: Port) -> bool
+    ensures { λ r. ⌜ r ≡ atRest p ⌝ }
+{
+    match p {
+        Port::Rest => true,
+        Port::Open => false,
+        Port::Writing => false,
     }
 }
 
@@ -56,121 +175,5 @@ pub fn owns_turn(m: Master, t: Turn) -> bool
         Turn::Nobody => false,
         Turn::Claims(_) => false,
         Turn::Owns(k) => same_master(m, k),
-    }
-}
-
-pub fn side_of(m: Master, d: Device) -> Side
-    ensures { λ r. ⌜ r ≡ side m d ⌝ }
-{
-    match m {
-        Master::Zero => d.side0,
-        Master::One => d.side1,
-    }
-}
-
-// The device of m's side, its partner's side, the bus and the arbitration.
-pub fn device_of(m: Master, s: Side, p: Side, b: Bus, a: Arbitration) -> Device
-    ensures { λ r. ⌜ r ≡ device m s p b a ⌝ }
-{
-    match m {
-        Master::Zero => Device {
-            side0: s,
-            side1: p,
-            bus: b,
-            arb: a,
-        },
-        Master::One => Device {
-            side0: p,
-            side1: s,
-            bus: b,
-            arb: a,
-        },
-    }
-}
-
-// ---- one part replaced
-
-pub fn with_ints(ints: u8, s: Side) -> Side
-    ensures { λ r. ⌜ r ≡ withInts ints s ⌝ }
-{
-    let contr = s.contr;
-    let mail = s.mail;
-    let pointer = s.pointer;
-    let port = s.port;
-    Side {
-        pointer,
-        rt: s.rt,
-        contr,
-        ints,
-        mail,
-        auto: s.auto,
-        port,
-        mask: s.mask,
-    }
-}
-
-pub fn with_contr(c: Control, s: Side) -> Side
-    ensures { λ r. ⌜ r ≡ withContr c s ⌝ }
-{
-    let mail = s.mail;
-    let pointer = s.pointer;
-    let port = s.port;
-    Side {
-        pointer,
-        rt: s.rt,
-        contr: c,
-        ints: s.ints,
-        mail,
-        auto: s.auto,
-        port,
-        mask: s.mask,
-    }
-}
-
-pub fn with_turn(t: Turn, a: Arbitration) -> Arbitration
-    ensures { λ r. ⌜ r ≡ withTurn t a ⌝ }
-{
-    let last = a.last;
-    let switch = a.switch;
-    Arbitration {
-        last,
-        initfail: a.initfail,
-        switch,
-        reserve: a.reserve,
-        turn: t,
-    }
-}
-
-pub fn with_side(m: Master, s: Side, d: Device) -> Device
-    ensures { λ r. ⌜ r ≡ withSide m s d ⌝ }
-{
-    let k = partner_of(m);
-    let p = side_of(k, d);
-    let b = d.bus;
-    let a = d.arb;
-    device_of(m, s, p, b, a)
-}
-
-pub fn with_arb(a: Arbitration, d: Device) -> Device
-    ensures { λ r. ⌜ r ≡ withArb a d ⌝ }
-{
-    let side0 = d.side0;
-    let side1 = d.side1;
-    let bus = d.bus;
-    Device {
-        side0,
-        side1,
-        bus,
-        arb: a,
-    }
-}
-
-pub fn is_at_rest(p: Port) -> bool
-    ensures { λ r. ⌜ r ≡ atRest p ⌝ }
-{
-    match p {
-        Port::Rest => true,
-        Port::Open => false,
-        Port::Writing => false,
     }
 }

@@ -20,6 +20,10 @@ use bits::worth_of;
 use bus::bus_hung;
 use bus::scl_high;
 use bus::sda_high;
+use parts::pick_turn;
+use parts::pointer_of;
+use parts::port_of;
+use parts::side_with;
 
 pub fn register_number(r: Register) -> u8
     ensures { λ n. ⌜ n ≡ registerNumber r ⌝ }
@@ -53,6 +57,12 @@ fn contr_byte(granted: bool, c: Control) -> u8
     )
 }
 
+fn is_full(m: Mailbox) -> bool
+    ensures { λ r. ⌜ r ≡ m .full ⌝ }
+{
+    m.full
+}
+
 fn status_byte(theirs: bool, own: Side, other: Side, b: Bus, initfail: bool) -> u8
     ensures { λ r. ⌜ r ≡ statusByte theirs own other b initfail ⌝ }
 {
@@ -63,8 +73,8 @@ fn status_byte(theirs: bool, own: Side, other: Side, b: Bus, initfail: bool) -> 
         sda,
         scl,
         false,
-        own.mail.full,
-        !other.mail.full,
+        is_full(own.mail),
+        !is_full(other.mail),
         hung,
         initfail,
         theirs,
@@ -102,19 +112,13 @@ pub fn register_byte(
 ) -> u8
     ensures { λ r. ⌜ r ≡ registerByte (own .pointer) granted theirs own other b initfail ⌝ }
 {
-    let at = own.pointer;
+    let at = pointer_of(own);
     match at {
         Register::Id => 0x38,
-        Register::Contr => {
-            let c = own.contr;
-            contr_byte(granted, c)
-        }
+        Register::Contr => contr_byte(granted, own.contr),
         Register::Status => status_byte(theirs, own, other, b, initfail),
         Register::Rt => own.rt,
-        Register::IntStatus => {
-            let hung = bus_hung(b);
-            int_status_byte(hung, own.ints)
-        }
+        Register::IntStatus => int_status_byte(bus_hung(b), own.ints),
         Register::IntMask => own.mask,
         Register::MailLow => own.mail.low,
         Register::MailHigh => own.mail.high,
@@ -179,22 +183,17 @@ fn ints_after(clears: bool, tests: bool, v: u8, ints: u8) -> u8
 pub fn writer_side(granted: bool, v: u8, s: Side) -> Side
     ensures { λ r. ⌜ r ≡ writeRisen (ownWritten granted (s .pointer) v s) ⌝ }
 {
-    let at = s.pointer;
-    let n = register_number(at);
-    let old = s.contr;
-    let contr = contr_after(n == 1, granted, v, old);
-    let mail = s.mail;
-    let port = s.port;
-    Side {
-        pointer: risen(s.auto, at),
-        rt: pick_u8((n == 3) & !granted, v, s.rt),
-        contr,
-        ints: ints_after(n == 4, n == 2, v, s.ints),
-        mail,
-        auto: s.auto,
-        port,
-        mask: pick_u8(n == 5, v % 128, s.mask),
-    }
+    let n = register_number(pointer_of(s));
+    side_with(
+        risen(s.auto, pointer_of(s)),
+        pick_u8((n == 3) & !granted, v, s.rt),
+        contr_after(n == 1, granted, v, s.contr),
+        ints_after(n == 4, n == 2, v, s.ints),
+        s.mail,
+        s.auto,
+        port_of(s),
+        pick_u8(n == 5, v % 128, s.mask),
+    )
 }
 
 fn mail_after(n: u8, v: u8, m: Mailbox) -> Mailbox
@@ -212,21 +211,16 @@ pub fn mail_written(r: Register, v: u8, s: Side) -> Side
     ensures { λ n. ⌜ n ≡ mailWritten r v s ⌝ }
 {
     let n = register_number(r);
-    let old = s.mail;
-    let mail = mail_after(n, v, old);
-    let contr = s.contr;
-    let pointer = s.pointer;
-    let port = s.port;
-    Side {
-        pointer,
-        rt: s.rt,
-        contr,
-        ints: raised_in(s.ints, 0x20, (n == 7) & !old.full),
-        mail,
-        auto: s.auto,
-        port,
-        mask: s.mask,
-    }
+    side_with(
+        pointer_of(s),
+        s.rt,
+        s.contr,
+        raised_in(s.ints, 0x20, (n == 7) & !is_full(s.mail)),
+        mail_after(n, v, s.mail),
+        s.auto,
+        port_of(s),
+        s.mask,
+    )
 }
 
 // The drives after a byte that was written at the register r by a master with this BUS_CONNECT.
@@ -249,12 +243,6 @@ pub fn drives_written(granted: bool, connect: bool, r: Register, v: u8, b: Bus) 
         lowscl: b.lowscl,
         lowsda: b.lowsda,
     }
-}
-
-fn pick_turn(test: bool, x: Turn, y: Turn) -> Turn
-    ensures { λ r. ⌜ r ≡ (if test then x else y) ⌝ }
-{
-    if test { x } else { y }
 }
 
 // The turn after a byte that was written at the register r.

@@ -11,8 +11,8 @@ new-claim-requires c κs = search needs
 enum-known-t : tie.Need-enum-known-t
 enum-known-t c = search needs
 
-side-of-requires : tie.Need-side-of-requires
-side-of-requires c κs = search needs
+requests-requires : tie.Need-requests-requires
+requests-requires c κs = search needs
 
 new-claim-requires-2 : tie.Need-new-claim-requires-2
 new-claim-requires-2 c κs = search needs
@@ -24,10 +24,10 @@ returns : tie.Need-returns
 returns c = simp (← c .new-claim .ensures, c .before .enum-told .given .1, c .before .before .match .keys1)
 
 returns-2 : tie.Need-returns-2
-returns-2 c = simp (c .if1 .taken, ← c .before .side-of .ensures, c .before .before .before .t .given .1, c .before .before .before .before .match .keys2)
+returns-2 c = simp (c .if1 .taken, ← c .before .requests .ensures, c .before .before .before .t .given .1, c .before .before .before .before .match .keys2)
 
 returns-3 : tie.Need-returns-3
-returns-3 c = simp (← c .new-claim2 .ensures, c .before .if1 .left, ← c .before .before .side-of .ensures, c .before .before .before .before .t .given .1, c .before .before .before .before .before .match .keys2)
+returns-3 c = simp (← c .new-claim2 .ensures, c .before .if1 .left, ← c .before .before .requests .ensures, c .before .before .before .before .t .given .1, c .before .before .before .before .before .match .keys2)
 
 returns-4 : tie.Need-returns-4
 returns-4 c = simp (c .before .t2 .given .1, c .before .before .match .keys3)
@@ -39,7 +39,7 @@ claim-after-spec =
     enum-told
     new-claim-requires
     enum-known-t
-    side-of-requires
+    requests-requires
     new-claim-requires-2
     enum-known-t-2
     returns

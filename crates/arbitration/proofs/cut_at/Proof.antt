@@ -1,53 +1,51 @@
-use Rattle.arbiter.specs.Order.{cut, cutFrom}
 use borrow.Author.Needs.{needs}
+use Rattle.arbiter.specs.Order.{cut}
+use Rattle.arbitration.proofs.Laws.{cut-law}
 use Rattle.arbitration.proofs.cut_at.Statement.{statement}
 use Rattle.arbitration.proofs.cut_at.Tie as tie
 
-enum-told : tie.Need-enum-told
-enum-told c = search needs
+turn-of-requires : tie.Need-turn-of-requires
+turn-of-requires c κs = search needs
 
-enum-told-2 : tie.Need-enum-told-2
-enum-told-2 c = search needs
+owns-turn-requires : tie.Need-owns-turn-requires
+owns-turn-requires c κs = search needs
 
-enum-known-turn : tie.Need-enum-known-turn
-enum-known-turn c = search needs
+has-smbus-dis-requires : tie.Need-has-smbus-dis-requires
+has-smbus-dis-requires c κs = search needs
 
-side-of-requires : tie.Need-side-of-requires
-side-of-requires c κs = search needs
+turn-of-requires-2 : tie.Need-turn-of-requires-2
+turn-of-requires-2 c κs = search needs
 
-disconnected-side-requires : tie.Need-disconnected-side-requires
-disconnected-side-requires c κs = search needs
+owns-turn-requires-2 : tie.Need-owns-turn-requires-2
+owns-turn-requires-2 c κs = search needs
 
-with-side-requires : tie.Need-with-side-requires
-with-side-requires c κs = search needs
+has-smbus-dis-requires-2 : tie.Need-has-smbus-dis-requires-2
+has-smbus-dis-requires-2 c κs = search needs
+
+cut-if-requires : tie.Need-cut-if-requires
+cut-if-requires c κs = search needs
+
+cut-if-requires-2 : tie.Need-cut-if-requires-2
+cut-if-requires-2 c κs = search needs
+
+device-with-requires : tie.Need-device-with-requires
+device-with-requires c κs = search needs
 
 returns : tie.Need-returns
-unfolding cut cutFrom
-returns c = simp (c .enum-told .given .1, c .before .match .keys1)
-
-returns-2 : tie.Need-returns-2
-unfolding cut cutFrom
-returns-2 c = simp (c .enum-told2 .given .1, c .before .match .keys2)
-
-returns-3 : tie.Need-returns-3
-unfolding cut cutFrom
-returns-3 c = simp (← c .with-side .ensures, ← c .before .disconnected-side .ensures, c .before .before .if1 .taken, ← c .before .before .before .before .before .side-of .ensures, c .before .before .before .before .before .before .before .turn .given .1, c .before .before .before .before .before .before .before .before .match .keys3)
-
-returns-4 : tie.Need-returns-4
-unfolding cut cutFrom
-returns-4 c = simp (c .if1 .left, ← c .before .before .before .side-of .ensures, c .before .before .before .before .before .turn .given .1, c .before .before .before .before .before .before .match .keys3)
+unfolding cut
+returns c = simp (c .device-with .ensures, c .before .cut-if2 .ensures, c .before .before .cut-if .ensures, c .before .before .before .has-smbus-dis2 .ensures, c .before .before .before .before .owns-turn2 .ensures, c .before .before .before .before .before .turn-of2 .ensures, c .before .before .before .before .before .before .has-smbus-dis .ensures, c .before .before .before .before .before .before .before .owns-turn .ensures, c .before .before .before .before .before .before .before .before .turn-of .ensures) (cut-law _ _)
 
 pub cut-at-spec : {M : Type 1} → statement M
 cut-at-spec =
     tie.close
     (tie.spec
-    enum-told
-    enum-told-2
-    enum-known-turn
-    side-of-requires
-    disconnected-side-requires
-    with-side-requires
-    returns
-    returns-2
-    returns-3
-    returns-4)
+    turn-of-requires
+    owns-turn-requires
+    has-smbus-dis-requires
+    turn-of-requires-2
+    owns-turn-requires-2
+    has-smbus-dis-requires-2
+    cut-if-requires
+    cut-if-requires-2
+    device-with-requires
+    returns)

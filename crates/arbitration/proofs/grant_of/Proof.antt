@@ -1,53 +1,75 @@
-use Rattle.arbiter.specs.Order.{grant, grantFrom}
 use borrow.Author.Needs.{needs}
+use Rattle.arbiter.specs.Order.{grant}
+use Rattle.arbitration.proofs.Laws.{grant-law}
 use Rattle.arbitration.proofs.grant_of.Statement.{statement}
 use Rattle.arbitration.proofs.grant_of.Tie as tie
 
-enum-told : tie.Need-enum-told
-enum-told c = search needs
+turn-of-requires : tie.Need-turn-of-requires
+turn-of-requires c κs = search needs
 
-enum-told-2 : tie.Need-enum-told-2
-enum-told-2 c = search needs
+claims-turn-requires : tie.Need-claims-turn-requires
+claims-turn-requires c κs = search needs
 
-enum-known-turn : tie.Need-enum-known-turn
-enum-known-turn c = search needs
-
-side-of-requires : tie.Need-side-of-requires
-side-of-requires c κs = search needs
+port-of-requires : tie.Need-port-of-requires
+port-of-requires c κs = search needs
 
 is-at-rest-requires : tie.Need-is-at-rest-requires
 is-at-rest-requires c κs = search needs
 
-granted-to-requires : tie.Need-granted-to-requires
-granted-to-requires c κs = search needs
+turn-of-requires-2 : tie.Need-turn-of-requires-2
+turn-of-requires-2 c κs = search needs
+
+claims-turn-requires-2 : tie.Need-claims-turn-requires-2
+claims-turn-requires-2 c κs = search needs
+
+port-of-requires-2 : tie.Need-port-of-requires-2
+port-of-requires-2 c κs = search needs
+
+is-at-rest-requires-2 : tie.Need-is-at-rest-requires-2
+is-at-rest-requires-2 c κs = search needs
+
+pick-master-requires : tie.Need-pick-master-requires
+pick-master-requires c κs = search needs
+
+pick-u8-requires : tie.Need-pick-u8-requires
+pick-u8-requires c κs = search needs
+
+told-if-requires : tie.Need-told-if-requires
+told-if-requires c κs = search needs
+
+told-if-requires-2 : tie.Need-told-if-requires-2
+told-if-requires-2 c κs = search needs
+
+idle-kept-requires : tie.Need-idle-kept-requires
+idle-kept-requires c κs = search needs
+
+granted-if-requires : tie.Need-granted-if-requires
+granted-if-requires c κs = search needs
+
+device-with-requires : tie.Need-device-with-requires
+device-with-requires c κs = search needs
 
 returns : tie.Need-returns
-unfolding grant grantFrom
-returns c = simp (c .enum-told .given .1, c .before .match .keys1)
-
-returns-2 : tie.Need-returns-2
-unfolding grant grantFrom
-returns-2 c = simp (c .enum-told2 .given .1, c .before .match .keys2)
-
-returns-3 : tie.Need-returns-3
-unfolding grant grantFrom
-returns-3 c = simp (← c .granted-to .ensures, c .before .if1 .taken, ← c .before .before .before .is-at-rest .ensures, ← c .before .before .before .before .side-of .ensures, c .before .before .before .before .before .before .turn .given .1, c .before .before .before .before .before .before .before .match .keys3)
-
-returns-4 : tie.Need-returns-4
-unfolding grant grantFrom
-returns-4 c = simp (c .if1 .left, ← c .before .before .is-at-rest .ensures, ← c .before .before .before .side-of .ensures, c .before .before .before .before .before .turn .given .1, c .before .before .before .before .before .before .match .keys3)
+unfolding grant
+returns c = simp (c .device-with .ensures, c .before .granted-if .ensures, c .before .before .idle-kept .ensures, c .before .before .before .told-if2 .ensures, c .before .before .before .before .told-if .ensures, c .before .before .before .before .before .pick-u8 .ensures, c .before .before .before .before .before .before .pick-master .ensures, c .before .before .before .before .before .before .before .is-at-rest2 .ensures, c .before .before .before .before .before .before .before .before .port-of2 .ensures, c .before .before .before .before .before .before .before .before .before .claims-turn2 .ensures, c .before .before .before .before .before .before .before .before .before .before .turn-of2 .ensures, c .before .before .before .before .before .before .before .before .before .before .before .is-at-rest .ensures, c .before .before .before .before .before .before .before .before .before .before .before .before .port-of .ensures, c .before .before .before .before .before .before .before .before .before .before .before .before .before .claims-turn .ensures, c .before .before .before .before .before .before .before .before .before .before .before .before .before .before .turn-of .ensures) (grant-law _)
 
 pub grant-of-spec : {M : Type 1} → statement M
 grant-of-spec =
     tie.close
     (tie.spec
-    enum-told
-    enum-told-2
-    enum-known-turn
-    side-of-requires
+    turn-of-requires
+    claims-turn-requires
+    port-of-requires
     is-at-rest-requires
-    granted-to-requires
-    returns
-    returns-2
-    returns-3
-    returns-4)
+    turn-of-requires-2
+    claims-turn-requires-2
+    port-of-requires-2
+    is-at-rest-requires-2
+    pick-master-requires
+    pick-u8-requires
+    told-if-requires
+    told-if-requires-2
+    idle-kept-requires
+    granted-if-requires
+    device-with-requires
+    returns)

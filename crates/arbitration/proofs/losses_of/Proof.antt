@@ -1,53 +1,67 @@
-use Rattle.arbiter.specs.Order.{losses, lossesFrom}
 use borrow.Author.Needs.{needs}
+use Rattle.arbiter.specs.Order.{losses}
+use Rattle.arbitration.proofs.Laws.{losses-law}
 use Rattle.arbitration.proofs.losses_of.Statement.{statement}
 use Rattle.arbitration.proofs.losses_of.Tie as tie
 
-enum-told : tie.Need-enum-told
-enum-told c = search needs
+turn-of-requires : tie.Need-turn-of-requires
+turn-of-requires c κs = search needs
 
-enum-told-2 : tie.Need-enum-told-2
-enum-told-2 c = search needs
-
-enum-known-turn : tie.Need-enum-known-turn
-enum-known-turn c = search needs
-
-side-of-requires : tie.Need-side-of-requires
-side-of-requires c κs = search needs
+owns-turn-requires : tie.Need-owns-turn-requires
+owns-turn-requires c κs = search needs
 
 runs-out-requires : tie.Need-runs-out-requires
 runs-out-requires c κs = search needs
 
-lost-by-requires : tie.Need-lost-by-requires
-lost-by-requires c κs = search needs
+turn-of-requires-2 : tie.Need-turn-of-requires-2
+turn-of-requires-2 c κs = search needs
+
+owns-turn-requires-2 : tie.Need-owns-turn-requires-2
+owns-turn-requires-2 c κs = search needs
+
+runs-out-requires-2 : tie.Need-runs-out-requires-2
+runs-out-requires-2 c κs = search needs
+
+turn-of-requires-3 : tie.Need-turn-of-requires-3
+turn-of-requires-3 c κs = search needs
+
+pick-turn-requires : tie.Need-pick-turn-requires
+pick-turn-requires c κs = search needs
+
+lost-if-requires : tie.Need-lost-if-requires
+lost-if-requires c κs = search needs
+
+lost-if-requires-2 : tie.Need-lost-if-requires-2
+lost-if-requires-2 c κs = search needs
+
+released-if-requires : tie.Need-released-if-requires
+released-if-requires c κs = search needs
+
+with-turn-requires : tie.Need-with-turn-requires
+with-turn-requires c κs = search needs
+
+device-with-requires : tie.Need-device-with-requires
+device-with-requires c κs = search needs
 
 returns : tie.Need-returns
-unfolding losses lossesFrom
-returns c = simp (c .enum-told .given .1, c .before .match .keys1)
-
-returns-2 : tie.Need-returns-2
-unfolding losses lossesFrom
-returns-2 c = simp (c .enum-told2 .given .1, c .before .match .keys2)
-
-returns-3 : tie.Need-returns-3
-unfolding losses lossesFrom
-returns-3 c = simp (← c .lost-by .ensures, c .before .if1 .taken, ← c .before .before .runs-out .ensures, ← c .before .before .before .side-of .ensures, c .before .before .before .before .before .turn .given .1, c .before .before .before .before .before .before .match .keys3)
-
-returns-4 : tie.Need-returns-4
-unfolding losses lossesFrom
-returns-4 c = simp (c .if1 .left, ← c .before .runs-out .ensures, ← c .before .before .side-of .ensures, c .before .before .before .before .turn .given .1, c .before .before .before .before .before .match .keys3)
+unfolding losses
+returns c = simp (c .device-with .ensures, c .before .with-turn .ensures, c .before .before .released-if .ensures, c .before .before .before .lost-if2 .ensures, c .before .before .before .before .lost-if .ensures, c .before .before .before .before .before .pick-turn .ensures, c .before .before .before .before .before .before .turn-of3 .ensures, c .before .before .before .before .before .before .before .runs-out2 .ensures, c .before .before .before .before .before .before .before .before .owns-turn2 .ensures, c .before .before .before .before .before .before .before .before .before .turn-of2 .ensures, c .before .before .before .before .before .before .before .before .before .before .runs-out .ensures, c .before .before .before .before .before .before .before .before .before .before .before .owns-turn .ensures, c .before .before .before .before .before .before .before .before .before .before .before .before .turn-of .ensures) (losses-law _)
 
 pub losses-of-spec : {M : Type 1} → statement M
 losses-of-spec =
     tie.close
     (tie.spec
-    enum-told
-    enum-told-2
-    enum-known-turn
-    side-of-requires
+    turn-of-requires
+    owns-turn-requires
     runs-out-requires
-    lost-by-requires
-    returns
-    returns-2
-    returns-3
-    returns-4)
+    turn-of-requires-2
+    owns-turn-requires-2
+    runs-out-requires-2
+    turn-of-requires-3
+    pick-turn-requires
+    lost-if-requires
+    lost-if-requires-2
+    released-if-requires
+    with-turn-requires
+    device-with-requires
+    returns)

@@ -2,20 +2,14 @@ use borrow.Author.Needs.{needs}
 use Rattle.arbitration.proofs.new_claim.Statement.{statement}
 use Rattle.arbitration.proofs.new_claim.Tie as tie
 
-winner-of-requires : tie.Need-winner-of-requires
-winner-of-requires c κs = search needs
+last-of-requires : tie.Need-last-of-requires
+last-of-requires c κs = search needs
+
+claim-by-requires : tie.Need-claim-by-requires
+claim-by-requires c κs = search needs
 
 returns : tie.Need-returns
-returns c = simp (← c .winner-of .ensures, c .before .if2 .taken, c .before .before .if1 .taken)
-
-returns-2 : tie.Need-returns-2
-returns-2 c = simp (c .if2 .left, c .before .if1 .taken)
-
-returns-3 : tie.Need-returns-3
-returns-3 c = simp (c .if3 .taken, c .before .if1 .left)
-
-returns-4 : tie.Need-returns-4
-returns-4 c = simp (c .if3 .left, c .before .if1 .left)
+returns c = simp (c .claim-by .ensures, c .before .last-of .ensures)
 
 pub new-claim-spec : {M : Type 1} → statement M
-new-claim-spec = tie.close (tie.spec winner-of-requires returns returns-2 returns-3 returns-4)
+new-claim-spec = tie.close (tie.spec last-of-requires claim-by-requires returns)

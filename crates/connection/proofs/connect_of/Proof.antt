@@ -1,61 +1,59 @@
-use Rattle.arbiter.specs.Order.{connect, connectFrom}
 use borrow.Author.Needs.{needs}
+use Rattle.arbiter.specs.Order.{connect}
+use Rattle.connection.proofs.Laws.{connect-law}
 use Rattle.connection.proofs.connect_of.Statement.{statement}
 use Rattle.connection.proofs.connect_of.Tie as tie
 
-enum-told : tie.Need-enum-told
-enum-told c = search needs
+turn-of-requires : tie.Need-turn-of-requires
+turn-of-requires c κs = search needs
 
-switched-to-requires : tie.Need-switched-to-requires
-switched-to-requires c κs = search needs
+owns-turn-requires : tie.Need-owns-turn-requires
+owns-turn-requires c κs = search needs
 
-enum-told-2 : tie.Need-enum-told-2
-enum-told-2 c = search needs
+turn-of-requires-2 : tie.Need-turn-of-requires-2
+turn-of-requires-2 c κs = search needs
 
-switched-to-requires-2 : tie.Need-switched-to-requires-2
-switched-to-requires-2 c κs = search needs
+owns-turn-requires-2 : tie.Need-owns-turn-requires-2
+owns-turn-requires-2 c κs = search needs
 
-enum-known-turn : tie.Need-enum-known-turn
-enum-known-turn c = search needs
+turn-of-requires-3 : tie.Need-turn-of-requires-3
+turn-of-requires-3 c κs = search needs
 
-side-of-requires : tie.Need-side-of-requires
-side-of-requires c κs = search needs
+switch-of-requires : tie.Need-switch-of-requires
+switch-of-requires c κs = search needs
 
-kept-joined-requires : tie.Need-kept-joined-requires
-kept-joined-requires c κs = search needs
+link-of-requires : tie.Need-link-of-requires
+link-of-requires c κs = search needs
 
-switched-to-requires-3 : tie.Need-switched-to-requires-3
-switched-to-requires-3 c κs = search needs
+ended-side-requires : tie.Need-ended-side-requires
+ended-side-requires c κs = search needs
+
+ended-side-requires-2 : tie.Need-ended-side-requires-2
+ended-side-requires-2 c κs = search needs
+
+linked-arb-requires : tie.Need-linked-arb-requires
+linked-arb-requires c κs = search needs
+
+device-with-requires : tie.Need-device-with-requires
+device-with-requires c κs = search needs
 
 returns : tie.Need-returns
-unfolding connect connectFrom
-returns c = simp (← c .switched-to .ensures, c .before .enum-told .given .1, c .before .before .match .keys1)
-
-returns-2 : tie.Need-returns-2
-unfolding connect connectFrom
-returns-2 c = simp (← c .switched-to2 .ensures, c .before .enum-told2 .given .1, c .before .before .match .keys2)
-
-returns-3 : tie.Need-returns-3
-unfolding connect connectFrom
-returns-3 c = simp (← c .kept-joined .ensures, c .before .if1 .taken, ← c .before .before .side-of .ensures, c .before .before .before .before .turn .given .1, c .before .before .before .before .before .match .keys3)
-
-returns-4 : tie.Need-returns-4
-unfolding connect connectFrom
-returns-4 c = simp (← c .switched-to3 .ensures, c .before .if1 .left, ← c .before .before .side-of .ensures, c .before .before .before .before .turn .given .1, c .before .before .before .before .before .match .keys3)
+unfolding connect
+returns c = simp (c .device-with .ensures, c .before .linked-arb .ensures, c .before .before .ended-side2 .ensures, c .before .before .before .before .before .ended-side .ensures, c .before .before .before .before .before .before .before .before .link-of .ensures, c .before .before .before .before .before .before .before .before .before .switch-of .ensures, c .before .before .before .before .before .before .before .before .before .before .turn-of3 .ensures, c .before .before .before .before .before .before .before .before .before .before .before .owns-turn2 .ensures, c .before .before .before .before .before .before .before .before .before .before .before .before .turn-of2 .ensures, c .before .before .before .before .before .before .before .before .before .before .before .before .before .owns-turn .ensures, c .before .before .before .before .before .before .before .before .before .before .before .before .before .before .turn-of .ensures) (connect-law _ _)
 
 pub connect-of-spec : {M : Type 1} → statement M
 connect-of-spec =
     tie.close
     (tie.spec
-    enum-told
-    switched-to-requires
-    enum-told-2
-    switched-to-requires-2
-    enum-known-turn
-    side-of-requires
-    kept-joined-requires
-    switched-to-requires-3
-    returns
-    returns-2
-    returns-3
-    returns-4)
+    turn-of-requires
+    owns-turn-requires
+    turn-of-requires-2
+    owns-turn-requires-2
+    turn-of-requires-3
+    switch-of-requires
+    link-of-requires
+    ended-side-requires
+    ended-side-requires-2
+    linked-arb-requires
+    device-with-requires
+    returns)

@@ -2,14 +2,22 @@ use borrow.Author.Needs.{needs}
 use Rattle.effects.proofs.fallen_side.Statement.{statement}
 use Rattle.effects.proofs.fallen_side.Tie as tie
 
+pointer-of-requires : tie.Need-pointer-of-requires
+pointer-of-requires c κs = search needs
+
 raised-in-requires : tie.Need-raised-in-requires
 raised-in-requires c κs = search needs
 
-with-ints-requires : tie.Need-with-ints-requires
-with-ints-requires c κs = search needs
+port-of-requires : tie.Need-port-of-requires
+port-of-requires c κs = search needs
+
+side-with-requires : tie.Need-side-with-requires
+side-with-requires c κs = search needs
 
 returns : tie.Need-returns
-returns c = simp (c .with-ints .ensures, c .before .raised-in .ensures)
+returns c = simp (c .side-with .ensures, c .before .port-of .ensures, c .before .before .raised-in .ensures, c .before .before .before .pointer-of .ensures)
 
 pub fallen-side-spec : {M : Type 1} → statement M
-fallen-side-spec = tie.close (tie.spec raised-in-requires with-ints-requires returns)
+fallen-side-spec =
+    tie.close
+    (tie.spec pointer-of-requires raised-in-requires port-of-requires side-with-requires returns)

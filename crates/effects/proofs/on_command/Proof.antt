@@ -15,6 +15,9 @@ enum-told c = search needs
 commanded-side-requires : tie.Need-commanded-side-requires
 commanded-side-requires c κs = search needs
 
+device-with-requires : tie.Need-device-with-requires
+device-with-requires c κs = search needs
+
 did-so-requires : tie.Need-did-so-requires
 did-so-requires c κs = search needs
 
@@ -24,16 +27,19 @@ enum-told-2 c = search needs
 commanded-side-requires-2 : tie.Need-commanded-side-requires-2
 commanded-side-requires-2 c κs = search needs
 
+device-with-requires-2 : tie.Need-device-with-requires-2
+device-with-requires-2 c κs = search needs
+
 did-so-requires-2 : tie.Need-did-so-requires-2
 did-so-requires-2 c κs = search needs
 
 returns : tie.Need-returns
 unfolding effectOf wasRead lined ticked effect byteRead inSequence acknowledged
-returns c = simp (← c .did-so .ensures, ← c .before .commanded-side .ensures, c .before .before .enum-told .given .1, c .before .before .before .match .keys1, ← c .before .before .before .before .before .before .before .before .worth-of .ensures .0)
+returns c = simp (← c .did-so .ensures, ← c .before .device-with .ensures, ← c .before .before .commanded-side .ensures, c .before .before .before .enum-told .given .1, c .before .before .before .before .match .keys1, ← c .before .before .before .before .before .worth-of .ensures .0)
 
 returns-2 : tie.Need-returns-2
 unfolding effectOf wasRead lined ticked effect byteRead inSequence acknowledged
-returns-2 c = simp (← c .did-so2 .ensures, ← c .before .commanded-side2 .ensures, c .before .before .enum-told2 .given .1, c .before .before .before .match .keys2, ← c .before .before .before .before .before .before .before .before .worth-of .ensures .0)
+returns-2 c = simp (← c .did-so2 .ensures, ← c .before .device-with2 .ensures, ← c .before .before .commanded-side2 .ensures, c .before .before .before .enum-told2 .given .1, c .before .before .before .before .match .keys2, ← c .before .before .before .before .before .worth-of .ensures .0)
 
 pub on-command-spec : {M : Type 1} → statement M
 on-command-spec =
@@ -42,9 +48,11 @@ on-command-spec =
     worth-of-requires
     enum-told
     commanded-side-requires
+    device-with-requires
     did-so-requires
     enum-told-2
     commanded-side-requires-2
+    device-with-requires-2
     did-so-requires-2
     returns
     returns-2)

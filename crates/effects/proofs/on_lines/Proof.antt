@@ -15,12 +15,15 @@ fallen-side-requires-2 c κs = search needs
 outside-of-requires : tie.Need-outside-of-requires
 outside-of-requires c κs = search needs
 
+device-with-requires : tie.Need-device-with-requires
+device-with-requires c κs = search needs
+
 did-so-requires : tie.Need-did-so-requires
 did-so-requires c κs = search needs
 
 returns : tie.Need-returns
 unfolding effectOf wasRead lined ticked effect byteRead inSequence acknowledged
-returns c = simp (c .did-so .ensures, c .before .outside-of .ensures, c .before .before .fallen-side2 .ensures, c .before .before .before .fallen-side .ensures)
+returns c = simp (c .did-so .ensures, c .before .device-with .ensures, c .before .before .outside-of .ensures, c .before .before .before .fallen-side2 .ensures, c .before .before .before .before .fallen-side .ensures)
 
 pub on-lines-spec : {M : Type 1} → statement M
 on-lines-spec =
@@ -29,5 +32,6 @@ on-lines-spec =
     fallen-side-requires
     fallen-side-requires-2
     outside-of-requires
+    device-with-requires
     did-so-requires
     returns)

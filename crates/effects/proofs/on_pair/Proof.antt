@@ -6,17 +6,29 @@ use borrow.Author.Needs.{needs}
 use Rattle.effects.proofs.on_pair.Statement.{statement}
 use Rattle.effects.proofs.on_pair.Tie as tie
 
-writable-at-requires : tie.Need-writable-at-requires
-writable-at-requires c κs = search needs
-
-writable-at-requires-2 : tie.Need-writable-at-requires-2
-writable-at-requires-2 c κs = search needs
+port-of-requires : tie.Need-port-of-requires
+port-of-requires c κs = search needs
 
 is-for-writing-requires : tie.Need-is-for-writing-requires
 is-for-writing-requires c κs = search needs
 
+port-of-requires-2 : tie.Need-port-of-requires-2
+port-of-requires-2 c κs = search needs
+
 is-for-writing-requires-2 : tie.Need-is-for-writing-requires-2
 is-for-writing-requires-2 c κs = search needs
+
+pointer-of-requires : tie.Need-pointer-of-requires
+pointer-of-requires c κs = search needs
+
+writable-at-requires : tie.Need-writable-at-requires
+writable-at-requires c κs = search needs
+
+pointer-of-requires-2 : tie.Need-pointer-of-requires-2
+pointer-of-requires-2 c κs = search needs
+
+writable-at-requires-2 : tie.Need-writable-at-requires-2
+writable-at-requires-2 c κs = search needs
 
 paired-by-requires : tie.Need-paired-by-requires
 paired-by-requires c κs = search needs
@@ -32,20 +44,24 @@ did-so-requires-2 c κs = search needs
 
 returns : tie.Need-returns
 unfolding effectOf wasRead lined ticked effect byteRead inSequence acknowledged
-returns c = simp (← c .did-so .ensures, ← c .before .worth-of .ensures .0, ← c .before .before .paired-by .ensures, c .before .before .before .if1 .taken, ← c .before .before .before .before .is-for-writing2 .ensures, ← c .before .before .before .before .before .is-for-writing .ensures, ← c .before .before .before .before .before .before .writable-at2 .ensures, ← c .before .before .before .before .before .before .before .writable-at .ensures)
+returns c = simp (← c .did-so .ensures, ← c .before .worth-of .ensures .0, ← c .before .before .paired-by .ensures, ← c .before .before .before .writable-at2 .ensures, ← c .before .before .before .before .pointer-of2 .ensures, ← c .before .before .before .before .before .writable-at .ensures, ← c .before .before .before .before .before .before .pointer-of .ensures, c .before .before .before .before .before .before .before .if1 .taken, ← c .before .before .before .before .before .before .before .before .is-for-writing2 .ensures, ← c .before .before .before .before .before .before .before .before .before .port-of2 .ensures, ← c .before .before .before .before .before .before .before .before .before .before .is-for-writing .ensures, ← c .before .before .before .before .before .before .before .before .before .before .before .port-of .ensures)
 
 returns-2 : tie.Need-returns-2
 unfolding effectOf wasRead lined ticked effect byteRead inSequence acknowledged
-returns-2 c = simp (← c .did-so2 .ensures, c .before .if1 .left, ← c .before .before .is-for-writing2 .ensures, ← c .before .before .before .is-for-writing .ensures, ← c .before .before .before .before .writable-at2 .ensures, ← c .before .before .before .before .before .writable-at .ensures)
+returns-2 c = simp (← c .did-so2 .ensures, c .before .if1 .left, ← c .before .before .is-for-writing2 .ensures, ← c .before .before .before .port-of2 .ensures, ← c .before .before .before .before .is-for-writing .ensures, ← c .before .before .before .before .before .port-of .ensures)
 
 pub on-pair-spec : {M : Type 1} → statement M
 on-pair-spec =
     tie.close
     (tie.spec
-    writable-at-requires
-    writable-at-requires-2
+    port-of-requires
     is-for-writing-requires
+    port-of-requires-2
     is-for-writing-requires-2
+    pointer-of-requires
+    writable-at-requires
+    pointer-of-requires-2
+    writable-at-requires-2
     paired-by-requires
     worth-of-requires
     did-so-requires

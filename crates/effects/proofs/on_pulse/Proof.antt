@@ -6,6 +6,9 @@ use borrow.Author.Needs.{needs}
 use Rattle.effects.proofs.on_pulse.Statement.{statement}
 use Rattle.effects.proofs.on_pulse.Tie as tie
 
+switch-of-requires : tie.Need-switch-of-requires
+switch-of-requires c κs = search needs
+
 initialises-requires : tie.Need-initialises-requires
 initialises-requires c κs = search needs
 
@@ -17,12 +20,19 @@ did-so-requires-2 c κs = search needs
 
 returns : tie.Need-returns
 unfolding effectOf wasRead lined ticked effect byteRead inSequence acknowledged
-returns c = simp (← c .did-so .ensures, c .before .if1 .taken, ← c .before .before .initialises .ensures)
+returns c = simp (← c .did-so .ensures, c .before .if1 .taken, ← c .before .before .initialises .ensures, ← c .before .before .before .switch-of .ensures)
 
 returns-2 : tie.Need-returns-2
 unfolding effectOf wasRead lined ticked effect byteRead inSequence acknowledged
-returns-2 c = simp (← c .did-so2 .ensures, c .before .if1 .left, ← c .before .before .initialises .ensures)
+returns-2 c = simp (← c .did-so2 .ensures, c .before .if1 .left, ← c .before .before .initialises .ensures, ← c .before .before .before .switch-of .ensures)
 
 pub on-pulse-spec : {M : Type 1} → statement M
 on-pulse-spec =
-    tie.close (tie.spec initialises-requires did-so-requires did-so-requires-2 returns returns-2)
+    tie.close
+    (tie.spec
+    switch-of-requires
+    initialises-requires
+    did-so-requires
+    did-so-requires-2
+    returns
+    returns-2)

@@ -1,32 +1,94 @@
-use Rattle.arbiter.specs.Effects.{effect, lined, ticked, wasRead}
-use Rattle.arbiter.specs.Events.{acknowledged, inSequence}
-use Rattle.arbiter.specs.Steps.{byteRead}
-use Rattle.effects.specs.Effect.{effectOf}
 use borrow.Author.Needs.{needs}
+use mathlib.Core.Path.{sym, _∙_, ap}
+use Rattle.arbiter.specs.declared.Master.{Master}
+use Rattle.arbiter.specs.declared.Master.the-variants.{Zero, One}
+use Rattle.arbiter.specs.declared.Event.the-variants.{Read}
+use Rattle.effects.specs.Effect.{effectOf}
+use Rattle.effects.proofs.Laws.{read-law}
 use Rattle.effects.proofs.on_read.Statement.{statement}
 use Rattle.effects.proofs.on_read.Tie as tie
+
+turn-of-requires : tie.Need-turn-of-requires
+turn-of-requires c κs = search needs
+
+owns-turn-requires : tie.Need-owns-turn-requires
+owns-turn-requires c κs = search needs
+
+turn-of-requires-2 : tie.Need-turn-of-requires-2
+turn-of-requires-2 c κs = search needs
+
+owns-turn-requires-2 : tie.Need-owns-turn-requires-2
+owns-turn-requires-2 c κs = search needs
 
 enum-told : tie.Need-enum-told
 enum-told c = search needs
 
-read-by-0-requires : tie.Need-read-by-0-requires
-read-by-0-requires c κs = search needs
+reader-side-requires : tie.Need-reader-side-requires
+reader-side-requires c κs = search needs
+
+empties-own-requires : tie.Need-empties-own-requires
+empties-own-requires c κs = search needs
+
+sender-side-requires : tie.Need-sender-side-requires
+sender-side-requires c κs = search needs
+
+device-with-requires : tie.Need-device-with-requires
+device-with-requires c κs = search needs
+
+register-byte-requires : tie.Need-register-byte-requires
+register-byte-requires c κs = search needs
+
+did-so-requires : tie.Need-did-so-requires
+did-so-requires c κs = search needs
 
 enum-told-2 : tie.Need-enum-told-2
 enum-told-2 c = search needs
 
-read-by-1-requires : tie.Need-read-by-1-requires
-read-by-1-requires c κs = search needs
+empties-own-requires-2 : tie.Need-empties-own-requires-2
+empties-own-requires-2 c κs = search needs
+
+sender-side-requires-2 : tie.Need-sender-side-requires-2
+sender-side-requires-2 c κs = search needs
+
+reader-side-requires-2 : tie.Need-reader-side-requires-2
+reader-side-requires-2 c κs = search needs
+
+device-with-requires-2 : tie.Need-device-with-requires-2
+device-with-requires-2 c κs = search needs
+
+register-byte-requires-2 : tie.Need-register-byte-requires-2
+register-byte-requires-2 c κs = search needs
+
+did-so-requires-2 : tie.Need-did-so-requires-2
+did-so-requires-2 c κs = search needs
 
 returns : tie.Need-returns
-unfolding effectOf wasRead lined ticked effect byteRead inSequence acknowledged
-returns c = simp (← c .read-by-0 .ensures, c .before .enum-told .given .1, c .before .before .match .keys1)
+returns c = simp (c .did-so .ensures, c .before .register-byte .ensures, c .before .before .device-with .ensures, c .before .before .before .sender-side .ensures, c .before .before .before .before .empties-own .ensures, c .before .before .before .before .before .reader-side .ensures, c .before .before .before .before .before .before .before .before .owns-turn2 .ensures, c .before .before .before .before .before .before .before .before .before .turn-of2 .ensures, c .before .before .before .before .before .before .before .before .before .before .owns-turn .ensures, c .before .before .before .before .before .before .before .before .before .before .before .turn-of .ensures) (read-law Zero (c .before .before .before .before .before .before .before .before .before .before .before .before .args .d) ∙ ap (λ (m : Master). effectOf (Read m) (c .before .before .before .before .before .before .before .before .before .before .before .before .args .d)) (sym (c .before .before .before .before .before .before .enum-told .given .1)))
 
 returns-2 : tie.Need-returns-2
-unfolding effectOf wasRead lined ticked effect byteRead inSequence acknowledged
-returns-2 c = simp (← c .read-by-1 .ensures, c .before .enum-told2 .given .1, c .before .before .match .keys2)
+returns-2 c = simp (c .did-so2 .ensures, c .before .register-byte2 .ensures, c .before .before .device-with2 .ensures, c .before .before .before .reader-side2 .ensures, c .before .before .before .before .sender-side2 .ensures, c .before .before .before .before .before .empties-own2 .ensures, c .before .before .before .before .before .before .before .before .owns-turn2 .ensures, c .before .before .before .before .before .before .before .before .before .turn-of2 .ensures, c .before .before .before .before .before .before .before .before .before .before .owns-turn .ensures, c .before .before .before .before .before .before .before .before .before .before .before .turn-of .ensures) (read-law One (c .before .before .before .before .before .before .before .before .before .before .before .before .args .d) ∙ ap (λ (m : Master). effectOf (Read m) (c .before .before .before .before .before .before .before .before .before .before .before .before .args .d)) (sym (c .before .before .before .before .before .before .enum-told2 .given .1)))
 
 pub on-read-spec : {M : Type 1} → statement M
 on-read-spec =
     tie.close
-    (tie.spec enum-told read-by-0-requires enum-told-2 read-by-1-requires returns returns-2)
+    (tie.spec
+    turn-of-requires
+    owns-turn-requires
+    turn-of-requires-2
+    owns-turn-requires-2
+    enum-told
+    reader-side-requires
+    empties-own-requires
+    sender-side-requires
+    device-with-requires
+    register-byte-requires
+    did-so-requires
+    enum-told-2
+    empties-own-requires-2
+    sender-side-requires-2
+    reader-side-requires-2
+    device-with-requires-2
+    register-byte-requires-2
+    did-so-requires-2
+    returns
+    returns-2)

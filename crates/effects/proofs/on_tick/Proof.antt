@@ -12,12 +12,17 @@ ticked-bus-requires c κs = search needs
 ticked-arb-requires : tie.Need-ticked-arb-requires
 ticked-arb-requires c κs = search needs
 
+device-with-requires : tie.Need-device-with-requires
+device-with-requires c κs = search needs
+
 did-so-requires : tie.Need-did-so-requires
 did-so-requires c κs = search needs
 
 returns : tie.Need-returns
 unfolding effectOf wasRead lined ticked effect byteRead inSequence acknowledged
-returns c = simp (c .did-so .ensures, c .before .ticked-arb .ensures, c .before .before .ticked-bus .ensures)
+returns c = simp (c .did-so .ensures, c .before .device-with .ensures, c .before .before .ticked-arb .ensures, c .before .before .before .ticked-bus .ensures)
 
 pub on-tick-spec : {M : Type 1} → statement M
-on-tick-spec = tie.close (tie.spec ticked-bus-requires ticked-arb-requires did-so-requires returns)
+on-tick-spec =
+    tie.close
+    (tie.spec ticked-bus-requires ticked-arb-requires device-with-requires did-so-requires returns)

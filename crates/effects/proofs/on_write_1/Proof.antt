@@ -6,8 +6,14 @@ use borrow.Author.Needs.{needs}
 use Rattle.effects.proofs.on_write_1.Statement.{statement}
 use Rattle.effects.proofs.on_write_1.Tie as tie
 
+port-of-requires : tie.Need-port-of-requires
+port-of-requires c κs = search needs
+
 is-for-writing-requires : tie.Need-is-for-writing-requires
 is-for-writing-requires c κs = search needs
+
+pointer-of-requires : tie.Need-pointer-of-requires
+pointer-of-requires c κs = search needs
 
 writable-at-requires : tie.Need-writable-at-requires
 writable-at-requires c κs = search needs
@@ -26,17 +32,19 @@ did-so-requires-2 c κs = search needs
 
 returns : tie.Need-returns
 unfolding effectOf wasRead lined ticked effect byteRead inSequence acknowledged
-returns c = simp (← c .did-so .ensures, ← c .before .worth-of .ensures .0, ← c .before .before .written-by-1 .ensures, ← c .before .before .before .writable-at .ensures, c .before .before .before .before .if1 .taken, ← c .before .before .before .before .before .is-for-writing .ensures)
+returns c = simp (← c .did-so .ensures, ← c .before .worth-of .ensures .0, ← c .before .before .written-by-1 .ensures, ← c .before .before .before .writable-at .ensures, ← c .before .before .before .before .pointer-of .ensures, c .before .before .before .before .before .if1 .taken, ← c .before .before .before .before .before .before .is-for-writing .ensures, ← c .before .before .before .before .before .before .before .port-of .ensures)
 
 returns-2 : tie.Need-returns-2
 unfolding effectOf wasRead lined ticked effect byteRead inSequence acknowledged
-returns-2 c = simp (← c .did-so2 .ensures, c .before .if1 .left, ← c .before .before .is-for-writing .ensures)
+returns-2 c = simp (← c .did-so2 .ensures, c .before .if1 .left, ← c .before .before .is-for-writing .ensures, ← c .before .before .before .port-of .ensures)
 
 pub on-write-1-spec : {M : Type 1} → statement M
 on-write-1-spec =
     tie.close
     (tie.spec
+    port-of-requires
     is-for-writing-requires
+    pointer-of-requires
     writable-at-requires
     written-by-1-requires
     worth-of-requires

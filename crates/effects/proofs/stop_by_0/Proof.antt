@@ -6,6 +6,9 @@ use borrow.Author.Needs.{needs}
 use Rattle.effects.proofs.stop_by_0.Statement.{statement}
 use Rattle.effects.proofs.stop_by_0.Tie as tie
 
+port-of-requires : tie.Need-port-of-requires
+port-of-requires c κs = search needs
+
 is-at-rest-requires : tie.Need-is-at-rest-requires
 is-at-rest-requires c κs = search needs
 
@@ -15,24 +18,29 @@ did-so-requires c κs = search needs
 stopped-side-requires : tie.Need-stopped-side-requires
 stopped-side-requires c κs = search needs
 
+device-with-requires : tie.Need-device-with-requires
+device-with-requires c κs = search needs
+
 did-so-requires-2 : tie.Need-did-so-requires-2
 did-so-requires-2 c κs = search needs
 
 returns : tie.Need-returns
 unfolding effectOf wasRead lined ticked effect byteRead inSequence acknowledged
-returns c = simp (← c .did-so .ensures, c .before .if1 .taken, ← c .before .before .is-at-rest .ensures)
+returns c = simp (← c .did-so .ensures, c .before .if1 .taken, ← c .before .before .is-at-rest .ensures, ← c .before .before .before .port-of .ensures)
 
 returns-2 : tie.Need-returns-2
 unfolding effectOf wasRead lined ticked effect byteRead inSequence acknowledged
-returns-2 c = simp (← c .did-so2 .ensures, ← c .before .stopped-side .ensures, c .before .before .if1 .left, ← c .before .before .before .is-at-rest .ensures)
+returns-2 c = simp (← c .did-so2 .ensures, ← c .before .device-with .ensures, ← c .before .before .stopped-side .ensures, c .before .before .before .if1 .left, ← c .before .before .before .before .is-at-rest .ensures, ← c .before .before .before .before .before .port-of .ensures)
 
 pub stop-by-0-spec : {M : Type 1} → statement M
 stop-by-0-spec =
     tie.close
     (tie.spec
+    port-of-requires
     is-at-rest-requires
     did-so-requires
     stopped-side-requires
+    device-with-requires
     did-so-requires-2
     returns
     returns-2)

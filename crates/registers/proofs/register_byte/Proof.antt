@@ -1,8 +1,10 @@
-use Rattle.arbiter.specs.Order.{granted}
 use Rattle.arbiter.specs.Registers.{registerByte}
 use borrow.Author.Needs.{needs}
 use Rattle.registers.proofs.register_byte.Statement.{statement}
 use Rattle.registers.proofs.register_byte.Tie as tie
+
+pointer-of-requires : tie.Need-pointer-of-requires
+pointer-of-requires c κs = search needs
 
 enum-told : tie.Need-enum-told
 enum-told c = search needs
@@ -41,41 +43,42 @@ enum-told-8 : tie.Need-enum-told-8
 enum-told-8 c = search needs
 
 returns : tie.Need-returns
-unfolding granted registerByte
-returns c = simp (c .enum-told .given .1, c .before .match .keys1)
+unfolding registerByte
+returns c = simp (c .enum-told .given .1, c .before .match .keys1, ← c .before .before .pointer-of .ensures)
 
 returns-2 : tie.Need-returns-2
-unfolding granted registerByte
-returns-2 c = simp (← c .contr-byte .ensures, c .before .before .enum-told2 .given .1, c .before .before .before .match .keys2)
+unfolding registerByte
+returns-2 c = simp (← c .contr-byte .ensures, c .before .enum-told2 .given .1, c .before .before .match .keys2, ← c .before .before .before .pointer-of .ensures)
 
 returns-3 : tie.Need-returns-3
-unfolding granted registerByte
-returns-3 c = simp (← c .status-byte .ensures, c .before .enum-told3 .given .1, c .before .before .match .keys3)
+unfolding registerByte
+returns-3 c = simp (← c .status-byte .ensures, c .before .enum-told3 .given .1, c .before .before .match .keys3, ← c .before .before .before .pointer-of .ensures)
 
 returns-4 : tie.Need-returns-4
-unfolding granted registerByte
-returns-4 c = simp (c .enum-told4 .given .1, c .before .match .keys4)
+unfolding registerByte
+returns-4 c = simp (c .enum-told4 .given .1, c .before .match .keys4, ← c .before .before .pointer-of .ensures)
 
 returns-5 : tie.Need-returns-5
-unfolding granted registerByte
-returns-5 c = simp (← c .int-status-byte .ensures, ← c .before .bus-hung .ensures, c .before .before .enum-told5 .given .1, c .before .before .before .match .keys5)
+unfolding registerByte
+returns-5 c = simp (← c .int-status-byte .ensures, ← c .before .bus-hung .ensures, c .before .before .enum-told5 .given .1, c .before .before .before .match .keys5, ← c .before .before .before .before .pointer-of .ensures)
 
 returns-6 : tie.Need-returns-6
-unfolding granted registerByte
-returns-6 c = simp (c .enum-told6 .given .1, c .before .match .keys6)
+unfolding registerByte
+returns-6 c = simp (c .enum-told6 .given .1, c .before .match .keys6, ← c .before .before .pointer-of .ensures)
 
 returns-7 : tie.Need-returns-7
-unfolding granted registerByte
-returns-7 c = simp (c .enum-told7 .given .1, c .before .match .keys7)
+unfolding registerByte
+returns-7 c = simp (c .enum-told7 .given .1, c .before .match .keys7, ← c .before .before .pointer-of .ensures)
 
 returns-8 : tie.Need-returns-8
-unfolding granted registerByte
-returns-8 c = simp (c .enum-told8 .given .1, c .before .match .keys8)
+unfolding registerByte
+returns-8 c = simp (c .enum-told8 .given .1, c .before .match .keys8, ← c .before .before .pointer-of .ensures)
 
 pub register-byte-spec : {M : Type 1} → statement M
 register-byte-spec =
     tie.close
     (tie.spec
+    pointer-of-requires
     enum-told
     enum-told-2
     contr-byte-requires

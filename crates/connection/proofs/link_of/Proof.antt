@@ -1,0 +1,83 @@
+use Rattle.connection.specs.Links.{linkOf}
+use borrow.Author.Needs.{needs}
+use Rattle.connection.proofs.link_of.Statement.{statement}
+use Rattle.connection.proofs.link_of.Tie as tie
+
+enum-told : tie.Need-enum-told
+enum-told c = search needs
+
+still-at-requires : tie.Need-still-at-requires
+still-at-requires c κs = search needs
+
+enum-told-2 : tie.Need-enum-told-2
+enum-told-2 c = search needs
+
+still-at-requires-2 : tie.Need-still-at-requires-2
+still-at-requires-2 c κs = search needs
+
+enum-known-t : tie.Need-enum-known-t
+enum-known-t c = search needs
+
+enum-told-3 : tie.Need-enum-told-3
+enum-told-3 c = search needs
+
+linking-by-requires : tie.Need-linking-by-requires
+linking-by-requires c κs = search needs
+
+still-at-requires-3 : tie.Need-still-at-requires-3
+still-at-requires-3 c κs = search needs
+
+enum-told-4 : tie.Need-enum-told-4
+enum-told-4 c = search needs
+
+linking-by-requires-2 : tie.Need-linking-by-requires-2
+linking-by-requires-2 c κs = search needs
+
+still-at-requires-4 : tie.Need-still-at-requires-4
+still-at-requires-4 c κs = search needs
+
+returns : tie.Need-returns
+unfolding linkOf
+returns c = simp (← c .still-at .ensures, c .before .enum-told .given .1, c .before .before .match .keys1)
+
+returns-2 : tie.Need-returns-2
+unfolding linkOf
+returns-2 c = simp (← c .still-at2 .ensures, c .before .enum-told2 .given .1, c .before .before .match .keys2)
+
+returns-3 : tie.Need-returns-3
+unfolding linkOf
+returns-3 c = simp (c .linking-by .ensures, c .before .if1 .taken, c .before .before .enum-told3 .given .1, c .before .before .before .match2 .keys1, c .before .before .before .before .before .t .given .1, c .before .before .before .before .before .before .match .keys3)
+
+returns-4 : tie.Need-returns-4
+unfolding linkOf
+returns-4 c = simp (← c .still-at3 .ensures, c .before .if1 .left, c .before .before .enum-told3 .given .1, c .before .before .before .match2 .keys1, c .before .before .before .before .before .t .given .1, c .before .before .before .before .before .before .match .keys3)
+
+returns-5 : tie.Need-returns-5
+unfolding linkOf
+returns-5 c = simp (c .linking-by2 .ensures, c .before .if2 .taken, c .before .before .enum-told4 .given .1, c .before .before .before .match2 .keys2, c .before .before .before .before .before .t .given .1, c .before .before .before .before .before .before .match .keys3)
+
+returns-6 : tie.Need-returns-6
+unfolding linkOf
+returns-6 c = simp (← c .still-at4 .ensures, c .before .if2 .left, c .before .before .enum-told4 .given .1, c .before .before .before .match2 .keys2, c .before .before .before .before .before .t .given .1, c .before .before .before .before .before .before .match .keys3)
+
+pub link-of-spec : {M : Type 1} → statement M
+link-of-spec =
+    tie.close
+    (tie.spec
+    enum-told
+    still-at-requires
+    enum-told-2
+    still-at-requires-2
+    enum-known-t
+    enum-told-3
+    linking-by-requires
+    still-at-requires-3
+    enum-told-4
+    linking-by-requires-2
+    still-at-requires-4
+    returns
+    returns-2
+    returns-3
+    returns-4
+    returns-5
+    returns-6)

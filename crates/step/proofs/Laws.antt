@@ -1,0 +1,104 @@
+-- The code's halves of a step make the step of the definitions: part 2 needs no care at a reset, part 1's effect carried through the
+-- other parts is the event's, and the answer follows.
+-- Assumes nothing.
+use mathlib.Core.Path.{_≡_, refl, sym, ap, _∙_}
+use mathlib.Core.Bool.{Bool, true, false, not, _&&_}
+use mathlib.Core.Logic.{_⊎_, inl, inr}
+use native.Mathlib.Omega.{arith}
+use denote.Enum.Declared.{tagOf}
+use Rattle.arbiter.proofs.Decoded.{the-type}
+use Prim.Native.Nat.{ℕ}
+use lib.Dec.{eqb}
+use Rattle.arbiter.specs.Words.{if_then_else_, worth, side}
+use Rattle.arbiter.specs.Parts.{withBus}
+use Rattle.arbiter.specs.State.{sclHigh, sdaHigh}
+use Rattle.arbiter.specs.Events.{softReset, decode, decodedNumber, inSequence, acknowledged, outcome, outcomeNumber}
+use Rattle.arbiter.specs.Effects.{commanded, written, paired, wasRead, lined, ticked, freshBus, wasReset, holdAsked, effect}
+use Rattle.arbiter.specs.Order.{isReset, isTick, clockOf, isStart, isStop, busyAfter, settledBus, levels}
+use Rattle.arbiter.specs.Steps.{parts, byteRead, answer, taken, refused, stepEvent, stepDecoded, step}
+use Rattle.arbiter.specs.declared.Bus.{Bus}
+use Rattle.arbiter.specs.declared.Device.{Device}
+use Rattle.arbiter.specs.declared.Raw.{Raw}
+use Rattle.arbiter.specs.declared.Event.{Event}
+use Rattle.arbiter.specs.declared.Event.the-variants.{Command, Write, Read, Stop, Pair, Lines, Tick, Pulse, Reset, GeneralCall}
+use Rattle.arbiter.specs.declared.Decoded.{Decoded}
+use Rattle.arbiter.specs.declared.Decoded.the-variants.{Reads, UnknownKind, BadField}
+use Rattle.arbiter.specs.declared.Outcome.the-variants.{Done, NotAcknowledged, OutOfSequence}
+use Rattle.effects.specs.declared.Effect.{Effect}
+use Rattle.effects.specs.Effect.{did, effectOf}
+use Rattle.step.specs.Settled.{settle, finished, moved, steppedWith}
+
+-- ---- part 2 at a reset
+
+no-fall : (x outside drive : Bool) → (x && (outside && drive)) && not (outside && true) ≡ false
+no-fall false outside drive = refl
+no-fall true false drive = refl
+no-fall true true true = refl
+no-fall true true false = refl
+
+reset-levels : (hold : ℕ) (d : Device) → levels false (d .bus) (wasReset hold d) ≡ levels true (d .bus) (wasReset hold d)
+unfolding levels wasReset
+reset-levels hold d =
+    let b : Bus = d .bus in
+    let f : Bus = freshBus hold b in
+    ap (λ (start : Bool). withBus (settledBus (start && not (isStop b f)) f) (wasReset hold d)) (no-fall (sclHigh b && sclHigh f) (b .outsda) (b .drivesda))
+
+same-levels : (e : Event) (d : Device) → levels false (d .bus) (effect e d) ≡ levels (isReset e) (d .bus) (effect e d)
+unfolding effect
+same-levels (Command m c) d = refl
+same-levels (Write m v) d = refl
+same-levels (Read m) d = refl
+same-levels (Stop m) d = refl
+same-levels (Pair v0 v1) d = refl
+same-levels (Lines scl sda intin) d = refl
+same-levels Tick d = refl
+same-levels (Pulse sda) d = refl
+same-levels Reset d = reset-levels 0 d
+same-levels (GeneralCall m b) d = go (softReset b)
+  where
+    go : (soft : Bool) → levels false (d .bus) (if soft then wasReset (holdAsked (side m d)) d else d) ≡ levels soft (d .bus) (if soft then wasReset (holdAsked (side m d)) d else d)
+    go true = reset-levels (holdAsked (side m d)) d
+    go false = refl
+
+-- ---- an event through all parts
+
+settle-parts : (e : Event) (d : Device) → settle (isTick e) (clockOf e) (levels false (d .bus) (effect e d)) ≡ parts e d
+unfolding settle parts
+settle-parts e d = ap (λ (x : Device). settle (isTick e) (clockOf e) x) (same-levels e d)
+
+pub moved-law : (e : Event) (d : Device) → finished e (d .bus) (effectOf e d) ≡ moved (Reads e) d
+unfolding finished effectOf moved outcome
+moved-law e d = go (inSequence e d) (acknowledged e d)
+  where
+    go : (seq ack : Bool) → finished e (d .bus) (if seq then did (effect e d) (worth 1 (not ack)) (byteRead e d) else did d 4 0) ≡ (if seq then did (parts e d) (outcomeNumber (if seq then (if ack then Done else NotAcknowledged) else OutOfSequence)) (byteRead e d) else did d 4 0)
+    go true true = ap (λ (x : Device). did x 0 (byteRead e d)) (settle-parts e d)
+    go true false = ap (λ (x : Device). did x 1 (byteRead e d)) (settle-parts e d)
+    go false ack = refl
+
+-- ---- four bytes that do not read as an event
+
+pub refused-law : (x : Decoded) (d : Device) → (tagOf the-type x ≡ 1) ⊎ (tagOf the-type x ≡ 2) → did d (decodedNumber x) 0 ≡ moved x d
+unfolding moved
+refused-law (Reads e) d (inl h) = let z : _≡_ {A = ℕ} 0 1 = h in absurd (omega arith)
+refused-law (Reads e) d (inr h) = let z : _≡_ {A = ℕ} 0 2 = h in absurd (omega arith)
+refused-law UnknownKind d h = refl
+refused-law BadField d h = refl
+
+-- ---- the step
+
+stepped-from : (x : Decoded) (d : Device) → steppedWith (moved x d .device) (answer (moved x d .outcome) (moved x d .read) (moved x d .device)) ≡ stepDecoded x d
+unfolding moved stepDecoded stepEvent taken refused
+stepped-from UnknownKind d = refl
+stepped-from BadField d = refl
+stepped-from (Reads e) d = go (inSequence e d)
+  where
+    ways : Bool → Effect
+    ways seq = if seq then did (parts e d) (outcomeNumber (outcome e d)) (byteRead e d) else did d 4 0
+
+    go : (seq : Bool) → steppedWith (ways seq .device) (answer (ways seq .outcome) (ways seq .read) (ways seq .device)) ≡ (if seq then taken e d else refused 4 d)
+    go true = refl
+    go false = refl
+
+pub step-law : (d : Device) (r : Raw) → steppedWith (moved (decode r) d .device) (answer (moved (decode r) d .outcome) (moved (decode r) d .read) (moved (decode r) d .device)) ≡ step d r
+unfolding step
+step-law d r = stepped-from (decode r) d
