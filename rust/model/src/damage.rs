@@ -1,0 +1,97 @@
+//! Makes a refused trace out of an accepted one.
+//! Document 01, "Answers and the trace": refusals 5 to 10 of a whole trace.
+
+use crate::rng::Rng;
+use crate::straps::address_of;
+use crate::trace::MOST_EVENTS;
+
+/// What is wrong with a trace, in the order in which the paper meets it.
+#[derive(Clone, Copy, Debug, PartialEq, Eq)]
+pub enum Damage {
+    FirstCountMissing,
+    FirstCountWrong,
+    CutInPins,
+    PinAboveThree,
+    UnlistedStrapping,
+    CutInCount,
+    CountTooBig,
+    CutInEvents,
+    BytesAfterEnd,
+    RoomTooSmall,
+}
+
+pub const ALL_DAMAGES: [Damage; 10] = [
+    Damage::FirstCountMissing,
+    Damage::FirstCountWrong,
+    Damage::CutInPins,
+    Damage::PinAboveThree,
+    Damage::UnlistedStrapping,
+    Damage::CutInCount,
+    Damage::CountTooBig,
+    Damage::CutInEvents,
+    Damage::BytesAfterEnd,
+    Damage::RoomTooSmall,
+];
+
+/// A trace, the room for its answers, and the refusal it must meet.
+#[derive(Clone, Debug, PartialEq, Eq)]
+pub struct Refused {
+    pub trace: Vec<u8>,
+    pub room: usize,
+    pub number: u8,
+}
+
+/// Damages an accepted trace that has at least one event. The room is enough
+/// for the answers unless the room is the damage.
+pub fn damage(rng: &mut Rng, good: &[u8], kind: Damage) -> Refused {
+    let mut trace = good.to_vec();
+    let mut room = good.len() - 7 + rng.below(9) as usize;
+    let number = match kind {
+        Damage::FirstCountMissing => cut(&mut trace, 0, 5),
+        Damage::FirstCountWrong => {
+            trace[0] = rng.pick(&[0, 1, 2, 3, 5, 8, 255]);
+            cut(&mut trace, rng.between(1, good.len() as u64) as usize, 10)
+        }
+        Damage::CutInPins => cut(&mut trace, rng.between(1, 4) as usize, 5),
+        Damage::PinAboveThree => {
+            trace[rng.between(1, 4) as usize] = rng.between(4, 255) as u8;
+            8
+        }
+        Damage::UnlistedStrapping => {
+            trace[1..5].copy_from_slice(&unlisted(rng));
+            8
+        }
+        Damage::CutInCount => cut(&mut trace, rng.between(5, 6) as usize, 5),
+        Damage::CountTooBig => {
+            let n = rng.between(MOST_EVENTS as u64 + 1, 65_535) as u16;
+            trace[5..7].copy_from_slice(&n.to_le_bytes());
+            6
+        }
+        Damage::CutInEvents => cut(&mut trace, rng.between(7, good.len() as u64 - 1) as usize, 5),
+        Damage::BytesAfterEnd => {
+            (0..rng.between(1, 9)).for_each(|_| trace.push(rng.byte()));
+            7
+        }
+        Damage::RoomTooSmall => {
+            room = rng.below(good.len() as u64 - 7) as usize;
+            9
+        }
+    };
+    Refused { trace, room, number }
+}
+
+fn cut(trace: &mut Vec<u8>, length: usize, number: u8) -> u8 {
+    trace.truncate(length);
+    number
+}
+
+/// Four good pin codes that make no listed strapping.
+fn unlisted(rng: &mut Rng) -> [u8; 4] {
+    loop {
+        let mut code = || rng.below(4) as u8;
+        let pins = [code(), code(), code(), code()];
+        if address_of(pins).is_none() {
+            return pins;
+        }
+    }
+}

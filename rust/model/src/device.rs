@@ -1,0 +1,238 @@
+//! What the device remembers, and what follows from that.
+//! Document 01, "Registers, one set per master" and "Answers and the trace".
+
+/// Bits of CONTR. Bit 1, LOCK_GRANT, is computed and never stored.
+pub const PRIORITY: u8 = 0x80;
+pub const SMBUS_DIS: u8 = 0x40;
+pub const IDLE_TIMER_DIS: u8 = 0x20;
+pub const SMBUS_SWRST: u8 = 0x10;
+pub const BUS_INIT: u8 = 0x08;
+pub const BUS_CONNECT: u8 = 0x04;
+pub const LOCK_GRANT: u8 = 0x02;
+pub const LOCK_REQ: u8 = 0x01;
+
+/// Bits of INT_STATUS. Bit 6 equals BUS_HUNG, so it is computed.
+pub const INT_HUNG: u8 = 0x40;
+pub const INT_MAIL_FULL: u8 = 0x20;
+pub const INT_MAIL_EMPTIED: u8 = 0x10;
+pub const INT_TEST: u8 = 0x08;
+pub const INT_GRANTED: u8 = 0x04;
+pub const INT_LOST: u8 = 0x02;
+pub const INT_IN: u8 = 0x01;
+
+/// "Low counts stop at 500, the idle count at 101." BUS_HUNG is a low count at 500.
+pub const HUNG_TICKS: i64 = 500;
+pub const IDLE_TICKS: i64 = 101;
+/// A hold lasts 35 ticks, and SCL low for 35 ticks is a time-out.
+pub const HOLD_TICKS: i64 = 35;
+pub const TIMEOUT_TICKS: i64 = 35;
+
+/// How a master's port stands between START and STOP.
+#[derive(Clone, Copy, Debug, PartialEq, Eq)]
+pub enum Port {
+    AtRest,
+    /// Open, but not for writing.
+    Open,
+    OpenForWriting,
+}
+
+/// The levels of the two bus lines. True is high, or not pulled low.
+#[derive(Clone, Copy, Debug, PartialEq, Eq)]
+pub struct Levels {
+    pub scl: bool,
+    pub sda: bool,
+}
+
+pub const BOTH_HIGH: Levels = Levels { scl: true, sda: true };
+
+/// One master's registers, its own mailbox and its port.
+#[derive(Clone, Debug, PartialEq, Eq)]
+pub struct Master {
+    /// CONTR without LOCK_GRANT.
+    pub contr: u8,
+    pub rt: u8,
+    /// INT_STATUS bits 5 to 0.
+    pub int_status: u8,
+    pub int_msk: u8,
+    pub mail_low: u8,
+    pub mail_high: u8,
+    pub mail_full: bool,
+    pub port: Port,
+    pub pointer: u8,
+    pub auto_increment: bool,
+}
+
+/// A grant as it was made, and the ticks that have passed since.
+#[derive(Clone, Debug, PartialEq, Eq)]
+pub struct Grant {
+    pub owner: usize,
+    /// RT at the grant. 0 is a grant without a reserve.
+    pub reserve: i64,
+    pub ticks: i64,
+}
+
+#[derive(Clone, Debug, PartialEq, Eq)]
+pub struct Device {
+    pub masters: [Master; 2],
+    /// The outside levels, the connected master included.
+    pub outside: Levels,
+    pub int_in: bool,
+    /// The drives of the granted master. True is released.
+    pub drives: Levels,
+    /// Ticks for which SCL is still held low after a soft reset.
+    pub hold: i64,
+    pub busy: bool,
+    pub scl_low_count: i64,
+    pub sda_low_count: i64,
+    pub idle_count: i64,
+    pub claimant: Option<usize>,
+    pub grant: Option<Grant>,
+    pub last_granted: Option<usize>,
+    /// While initialising: how many PULSE of 0 this initialisation has had.
+    pub initialising: Option<i64>,
+    pub bus_init_fail: bool,
+}
+
+impl Master {
+    /// "5 INT_MSK, reset 7Fh [...] All others reset to 0."
+    fn after_reset() -> Master {
+        Master {
+            contr: 0,
+            rt: 0,
+            int_status: 0,
+            int_msk: 0x7F,
+            mail_low: 0,
+            mail_high: 0,
+            mail_full: false,
+            port: Port::AtRest,
+            pointer: 0,
+            auto_increment: false,
+        }
+    }
+
+    pub fn has(&self, contr_bit: u8) -> bool {
+        self.contr & contr_bit != 0
+    }
+}
+
+impl Device {
+    /// "Power-up is a reset with all outside levels 1."
+    pub fn power_up() -> Device {
+        Device {
+            masters: [Master::after_reset(), Master::after_reset()],
+            outside: BOTH_HIGH,
+            int_in: true,
+            drives: BOTH_HIGH,
+            hold: 0,
+            busy: false,
+            scl_low_count: 0,
+            sda_low_count: 0,
+            idle_count: 0,
+            claimant: None,
+            grant: None,
+            last_granted: None,
+            initialising: None,
+            bus_init_fail: false,
+        }
+    }
+
+    /// "Resets restore everything but outside levels."
+    pub fn reset(&mut self, hold: i64) {
+        *self = Device { outside: self.outside, int_in: self.int_in, hold, ..Device::power_up() };
+    }
+
+    /// "Levels: outside, drives and hold, low if any is low."
+    pub fn levels(&self) -> Levels {
+        Levels {
+            scl: self.outside.scl && self.drives.scl && self.hold == 0,
+            sda: self.outside.sda && self.drives.sda,
+        }
+    }
+
+    /// "idle means not busy and both high".
+    pub fn is_idle(&self) -> bool {
+        !self.busy && self.levels() == BOTH_HIGH
+    }
+
+    /// "BUS_HUNG: either low count at 500."
+    pub fn is_hung(&self) -> bool {
+        self.scl_low_count == HUNG_TICKS || self.sda_low_count == HUNG_TICKS
+    }
+
+    /// The granted master.
+    pub fn owner(&self) -> Option<usize> {
+        self.grant.as_ref().map(|grant| grant.owner)
+    }
+
+    /// The master for whom grant and BUS_CONNECT are both true ("7. Connection").
+    pub fn owner_with_connect(&self) -> Option<usize> {
+        self.owner().filter(|&m| self.masters[m].has(BUS_CONNECT))
+    }
+
+    /// The master whose switch is closed. It is open during an initialisation.
+    pub fn switch(&self) -> Option<usize> {
+        match self.initialising {
+            Some(_) => None,
+            None => self.owner_with_connect(),
+        }
+    }
+
+    /// "An output is asserted exactly if some status bit of 6 to 0 that is set has mask 0."
+    pub fn interrupt_asserted(&self, m: usize) -> bool {
+        self.register(m, 4) & !self.masters[m].int_msk & 0x7F != 0
+    }
+
+    /// The byte a READ of a register gives, without what the READ does.
+    pub fn register(&self, m: usize, pointer: u8) -> u8 {
+        let own = &self.masters[m];
+        match pointer {
+            0 => 0x38,
+            1 => own.contr | bit(self.owner() == Some(m), LOCK_GRANT),
+            2 => self.status(m),
+            3 => own.rt,
+            4 => own.int_status | bit(self.is_hung(), INT_HUNG),
+            5 => own.int_msk,
+            6 => own.mail_low,
+            _ => own.mail_high,
+        }
+    }
+
+    /// STATUS as master m reads it. Bit 5 reads 0.
+    fn status(&self, m: usize) -> u8 {
+        let partner = 1 - m;
+        let levels = self.levels();
+        bit(levels.sda, 0x80)
+            | bit(levels.scl, 0x40)
+            | bit(self.masters[m].mail_full, 0x10)
+            | bit(!self.masters[partner].mail_full, 0x08)
+            | bit(self.is_hung(), 0x04)
+            | bit(self.bus_init_fail, 0x02)
+            | bit(self.owner() == Some(partner), 0x01)
+    }
+
+    /// The four answer bytes, read from the device after the step.
+    pub fn answer(&self, outcome: u8, byte_read: u8) -> [u8; 4] {
+        let who = |m: Option<usize>| match m {
+            None => 0,
+            Some(0) => 1,
+            Some(_) => 2,
+        };
+        let levels = self.levels();
+        let bus =
+            who(self.owner()) | (who(self.switch()) << 2) | bit(self.initialising.is_some(), 0x10);
+        let pins = bit(self.interrupt_asserted(0), 0x01)
+            | bit(self.interrupt_asserted(1), 0x02)
+            | bit(levels.scl, 0x04)
+            | bit(levels.sda, 0x08);
+        [outcome, byte_read, bus, pins]
+    }
+}
+
+/// The given bit if the condition is true, else 0.
+pub fn bit(condition: bool, value: u8) -> u8 {
+    if condition {
+        value
+    } else {
+        0
+    }
+}

@@ -1,0 +1,31 @@
+//! A plain model of the shelf arbiter, written from the paper alone.
+//!
+//! The paper is document 01 (01-scope.md). Its open points are decided in
+//! readings.md, and comments here say "reading 5" for point 5 of that list.
+//! The model serves to check a proved implementation in tests. So nothing in
+//! it was taken from that implementation, and nothing in it is made fast.
+//!
+//! - `straps`: pins to address and back ("Straps").
+//! - `event`: what four bytes mean, refusals 2 and 3 ("Events").
+//! - `device`: what the device remembers, and what follows from it.
+//! - `bytes`: what a byte written or read does ("Registers").
+//! - `step`: one event, in the order of "Order inside a step".
+//! - `trace`: whole traces and the listing ("Answers and the trace").
+//! - `rng`, `phrases`, `traces`, `damage`, `happenings`, `kinds`: random cases for the tests.
+
+pub mod bytes;
+pub mod damage;
+pub mod device;
+pub mod event;
+pub mod happenings;
+pub mod kinds;
+pub mod phrases;
+pub mod rng;
+pub mod step;
+pub mod straps;
+pub mod trace;
+pub mod traces;
+
+pub use device::Device;
+pub use straps::{address_of, pins_of};
+pub use trace::{listing, run_trace, TraceResult};

@@ -1,0 +1,91 @@
+//! Whole traces and the listing. Document 01, "Answers and the trace" and M1.
+
+use crate::device::Device;
+use crate::straps::address_of;
+
+pub const MOST_EVENTS: usize = 4096;
+
+#[derive(Clone, Debug, PartialEq, Eq)]
+pub struct TraceResult {
+    /// 0, or the number of the refusal.
+    pub number: u8,
+    pub address: u8,
+    pub events: usize,
+    pub device: Device,
+}
+
+/// Runs a trace and writes four answer bytes for each event. A refused trace
+/// writes nothing and reports address 00h, 0 events and the fresh device
+/// (reading 21). Answer bytes past 4n stay.
+pub fn run_trace(trace: &[u8], answers: &mut [u8]) -> TraceResult {
+    let mut device = Device::power_up();
+    match read_trace(trace, answers.len()) {
+        Err(number) => TraceResult { number, address: 0, events: 0, device },
+        Ok((address, events)) => {
+            for (place, event) in events.iter().enumerate() {
+                let answer = device.step(*event);
+                answers[4 * place..4 * place + 4].copy_from_slice(&answer);
+            }
+            TraceResult { number: 0, address, events: events.len(), device }
+        }
+    }
+}
+
+/// "Trace order: first count missing 5, wrong 10, pins missing 5, pins 8,
+/// n missing 5, 6, events missing 5, 7, 9."
+fn read_trace(trace: &[u8], room: usize) -> Result<(u8, Vec<[u8; 4]>), u8> {
+    let mut rest = trace;
+    let first_count = take(&mut rest, 1)?;
+    if first_count[0] != 4 {
+        return Err(10);
+    }
+    let pins = take(&mut rest, 4)?;
+    let Some(address) = address_of([pins[0], pins[1], pins[2], pins[3]]) else {
+        return Err(8);
+    };
+    let count = take(&mut rest, 2)?;
+    let n = usize::from(count[0]) + 256 * usize::from(count[1]);
+    if n > MOST_EVENTS {
+        return Err(6);
+    }
+    let bytes = take(&mut rest, 4 * n)?;
+    if !rest.is_empty() {
+        return Err(7);
+    }
+    if room < 4 * n {
+        return Err(9);
+    }
+    let events = bytes.chunks(4).map(|e| [e[0], e[1], e[2], e[3]]).collect();
+    Ok((address, events))
+}
+
+/// Takes bytes off the front. Missing bytes are refusal 5.
+fn take<'a>(rest: &mut &'a [u8], length: usize) -> Result<&'a [u8], u8> {
+    if rest.len() < length {
+        return Err(5);
+    }
+    let (front, back) = rest.split_at(length);
+    *rest = back;
+    Ok(front)
+}
+
+/// The text the listing program prints (M1). The count is in hex (reading 20).
+pub fn listing(trace: &[u8]) -> String {
+    // This room is enough for every accepted trace, so 9 does not come up.
+    let mut answers = vec![0u8; 4 * MOST_EVENTS];
+    let result = run_trace(trace, &mut answers);
+    if result.number != 0 {
+        return format!("R{}\n", result.number);
+    }
+    let mut text = format!("{:02X} {:04X}\n", result.address, result.events);
+    for answer in answers[..4 * result.events].chunks(4) {
+        text.push_str(&hex(answer));
+        text.push('\n');
+    }
+    text
+}
+
+/// Bytes in capital hex, two digits each, with nothing between.
+pub fn hex(bytes: &[u8]) -> String {
+    bytes.iter().map(|byte| format!("{byte:02X}")).collect()
+}
