@@ -1,6 +1,6 @@
 -- Small words of the code: m is the claimant and waits; CONTR with bits cleared if a test says so.
 -- Assumes nothing.
-use mathlib.Core.Bool.{Bool, true, false, not, _&&_}
+use mathlib.Core.Bool.{Bool, false, not, _&&_}
 use Rattle.arbiter.specs.Words.{sameMaster}
 use Rattle.arbiter.specs.declared.Master.{Master}
 use Rattle.arbiter.specs.declared.Turn.{Turn}

@@ -7,7 +7,7 @@ use lib.Dec.{ltb}
 use Rattle.arbiter.specs.Words.{if_then_else_, sameMaster, partner, side, device}
 use Rattle.arbiter.specs.Parts.{withContr, withArb, withSwitch}
 use Rattle.arbiter.specs.State.{ownsTurn}
-use Rattle.arbiter.specs.Order.{switched, joined, initialised, initFailed, clocked, keptJoined, connectFrom}
+use Rattle.arbiter.specs.Order.{switched, joined, initFailed, clocked, keptJoined, connectFrom}
 use Rattle.arbiter.specs.declared.Master.{Master}
 use Rattle.arbiter.specs.declared.Master.the-variants.{Zero, One}
 use Rattle.arbiter.specs.declared.Turn.{Turn}

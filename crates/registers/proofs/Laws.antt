@@ -1,6 +1,6 @@
 -- What the code writes as one literal with a choice for each field is what the definitions say by cases on the register.
 -- Assumes nothing.
-use mathlib.Core.Path.{_≡_, refl, sym, ap, _∙_}
+use mathlib.Core.Path.{_≡_, refl, ap, _∙_}
 use mathlib.Core.Bool.{Bool, true, false, not, _&&_, _||_}
 use Prim.Native.Nat.{ℕ, _%_}
 use lib.Dec.{eqb}
@@ -13,8 +13,6 @@ use Rattle.arbiter.specs.declared.Register.{Register}
 use Rattle.arbiter.specs.declared.Register.the-variants.{Id, Contr, Status, Rt, IntStatus, IntMask, MailLow, MailHigh}
 use Rattle.arbiter.specs.declared.Turn.{Turn}
 use Rattle.arbiter.specs.declared.Turn.the-variants.{Nobody}
-use Rattle.arbiter.specs.declared.Control.{Control}
-use Rattle.arbiter.specs.declared.Mailbox.{Mailbox}
 use Rattle.arbiter.specs.declared.Side.{Side}
 use Rattle.arbiter.specs.declared.Bus.{Bus}
 use Rattle.registers.specs.Written.{contrWritten, intsWritten, mailAfter}

@@ -1,9 +1,8 @@
 -- What a written byte does to one register alone, as the code's small functions have it.
 -- Assumes nothing.
-use Prim.Native.Nat.{ℕ, _-_, _%_}
-use mathlib.Core.Bool.{Bool, true, false, not, _&&_, _||_}
+use Prim.Native.Nat.{ℕ}
+use mathlib.Core.Bool.{Bool, false, not, _&&_, _||_}
 use lib.Dec.{eqb}
-use lib.Bits.{bitAnd}
 use Rattle.arbiter.specs.Words.{if_then_else_, bit}
 use Rattle.arbiter.specs.Parts.{withBusConnect}
 use Rattle.arbiter.specs.Registers.{testInt, raised, withdraws, controlOf, cleared}

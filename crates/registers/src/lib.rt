@@ -2,8 +2,7 @@
 // partner's side, to the drives and to the turn.
 ghost use mathlib.Core.Path.{_≡_};
 ghost use Rattle.arbiter.specs.Words.{if_then_else_};
-ghost use Rattle.arbiter.specs.Parts.{withBusConnect};
-ghost use Rattle.arbiter.specs.Registers.{registerNumber, contrByte, statusByte, raised, intStatusByte, registerByte, isAsserted, withdraws, ownWritten, mailWritten, drivesWritten, turnWritten};
+ghost use Rattle.arbiter.specs.Registers.{registerNumber, contrByte, statusByte, raised, intStatusByte, registerByte, isAsserted, ownWritten, mailWritten, drivesWritten, turnWritten};
 ghost use Rattle.arbiter.specs.Effects.{afterWrite, writeRisen};
 ghost use Rattle.registers.specs.Written.{contrWritten, intsWritten, mailAfter};
 use arbiter::Bus;

@@ -1,20 +1,19 @@
 -- The code's halves of a step make the step of the definitions: part 2 needs no care at a reset, part 1's effect carried through the
 -- other parts is the event's, and the answer follows.
 -- Assumes nothing.
-use mathlib.Core.Path.{_≡_, refl, sym, ap, _∙_}
+use mathlib.Core.Path.{_≡_, refl, ap}
 use mathlib.Core.Bool.{Bool, true, false, not, _&&_}
 use mathlib.Core.Logic.{_⊎_, inl, inr}
 use native.Mathlib.Omega.{arith}
 use denote.Enum.Declared.{tagOf}
 use Rattle.arbiter.proofs.Decoded.{the-type}
 use Prim.Native.Nat.{ℕ}
-use lib.Dec.{eqb}
 use Rattle.arbiter.specs.Words.{if_then_else_, worth, side}
 use Rattle.arbiter.specs.Parts.{withBus}
-use Rattle.arbiter.specs.State.{sclHigh, sdaHigh}
+use Rattle.arbiter.specs.State.{sclHigh}
 use Rattle.arbiter.specs.Events.{softReset, decode, decodedNumber, inSequence, acknowledged, outcome, outcomeNumber}
-use Rattle.arbiter.specs.Effects.{commanded, written, paired, wasRead, lined, ticked, freshBus, wasReset, holdAsked, effect}
-use Rattle.arbiter.specs.Order.{isReset, isTick, clockOf, isStart, isStop, busyAfter, settledBus, levels}
+use Rattle.arbiter.specs.Effects.{freshBus, wasReset, holdAsked, effect}
+use Rattle.arbiter.specs.Order.{isReset, isTick, clockOf, isStop, settledBus, levels}
 use Rattle.arbiter.specs.Steps.{parts, byteRead, answer, taken, refused, stepEvent, stepDecoded, step}
 use Rattle.arbiter.specs.declared.Bus.{Bus}
 use Rattle.arbiter.specs.declared.Device.{Device}

@@ -17,7 +17,7 @@ use Rattle.arbiter.specs.declared.Switch.the-variants.{Apart, Initialising, Clo
 use Rattle.arbiter.specs.declared.Clock.{Clock}
 use Rattle.arbiter.specs.declared.Clock.the-variants.{NoClock, ClockLow, ClockHigh}
 use Rattle.arbiter.specs.declared.Device.{Device}
-use Rattle.step.specs.Settled.{settle, isApart, isSilent, waits, linked, keeps, quietFrom, isQuiet}
+use Rattle.step.specs.Settled.{settle, isApart, isSilent, waits, linked, quietFrom, isQuiet}
 
 -- ---- a choice whose test is known
 

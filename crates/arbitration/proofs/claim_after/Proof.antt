@@ -1,3 +1,5 @@
+-- `arbitration::claim_after` meets its contract.
+-- Assumes nothing.
 use borrow.Author.Needs.{needs}
 use Rattle.arbitration.proofs.claim_after.Statement.{statement}
 use Rattle.arbitration.proofs.claim_after.Tie as tie
@@ -21,16 +23,16 @@ enum-known-t-2 : tie.Need-enum-known-t-2
 enum-known-t-2 c = search needs
 
 returns : tie.Need-returns
-returns c = simp (← c .new-claim .ensures, c .before .enum-told .given .1, c .before .before .match .keys1)
+returns c = simp (← c .new-claim .ensures, c .before .enum-told .given .1)
 
 returns-2 : tie.Need-returns-2
-returns-2 c = simp (c .if1 .taken, ← c .before .requests .ensures, c .before .before .before .t .given .1, c .before .before .before .before .match .keys2)
+returns-2 c = simp (c .if1 .taken, ← c .before .requests .ensures, c .before .before .before .t .given .1)
 
 returns-3 : tie.Need-returns-3
-returns-3 c = simp (← c .new-claim2 .ensures, c .before .if1 .left, ← c .before .before .requests .ensures, c .before .before .before .before .t .given .1, c .before .before .before .before .before .match .keys2)
+returns-3 c = simp (← c .new-claim2 .ensures, c .before .if1 .left, ← c .before .before .requests .ensures, c .before .before .before .before .t .given .1)
 
 returns-4 : tie.Need-returns-4
-returns-4 c = simp (c .before .t2 .given .1, c .before .before .match .keys3)
+returns-4 c = simp (c .before .t2 .given .1)
 
 pub claim-after-spec : {M : Type 1} → statement M
 claim-after-spec =

@@ -1,3 +1,5 @@
+-- `arbitration::claim_by` meets its contract.
+-- Assumes nothing.
 use Rattle.arbiter.specs.Order.{winner}
 use borrow.Author.Needs.{needs}
 use Rattle.arbitration.proofs.claim_by.Statement.{statement}

@@ -1,3 +1,5 @@
+-- `arbitration::claim_of` meets its contract.
+-- Assumes nothing.
 use Rattle.arbiter.specs.Order.{claim}
 use borrow.Author.Needs.{needs}
 use Rattle.arbitration.proofs.claim_of.Statement.{statement}

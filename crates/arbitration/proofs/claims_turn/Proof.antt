@@ -1,3 +1,5 @@
+-- `arbitration::claims_turn` meets its contract.
+-- Assumes nothing.
 use borrow.Author.Needs.{needs}
 use Rattle.arbitration.proofs.claims_turn.Statement.{statement}
 use Rattle.arbitration.proofs.claims_turn.Tie as tie
@@ -18,7 +20,7 @@ returns : tie.Need-returns
 returns c = search needs
 
 returns-2 : tie.Need-returns-2
-returns-2 c = simp (← c .same-master .ensures, c .before .before .t .given .1, c .before .before .before .match .keys2)
+returns-2 c = simp (← c .same-master .ensures, c .before .before .t .given .1)
 
 returns-3 : tie.Need-returns-3
 returns-3 c = search needs

@@ -1,3 +1,5 @@
+-- `arbitration::cut_at` meets its contract.
+-- Assumes nothing.
 use borrow.Author.Needs.{needs}
 use Rattle.arbiter.specs.Order.{cut}
 use Rattle.arbitration.proofs.Laws.{cut-law}

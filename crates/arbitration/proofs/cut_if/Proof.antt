@@ -1,3 +1,5 @@
+-- `arbitration::cut_if` meets its contract.
+-- Assumes nothing.
 use borrow.Author.Needs.{needs}
 use Rattle.arbitration.proofs.Laws.{cut-side}
 use Rattle.arbitration.proofs.cut_if.Statement.{statement}

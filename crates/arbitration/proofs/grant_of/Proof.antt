@@ -1,3 +1,5 @@
+-- `arbitration::grant_of` meets its contract.
+-- Assumes nothing.
 use borrow.Author.Needs.{needs}
 use Rattle.arbiter.specs.Order.{grant}
 use Rattle.arbitration.proofs.Laws.{grant-law}

@@ -1,3 +1,5 @@
+-- `arbitration::granted_if` meets its contract.
+-- Assumes nothing.
 use borrow.Author.Needs.{needs}
 use Rattle.arbitration.proofs.Laws.{granted-arb}
 use Rattle.arbitration.proofs.granted_if.Statement.{statement}

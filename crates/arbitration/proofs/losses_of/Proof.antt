@@ -1,3 +1,5 @@
+-- `arbitration::losses_of` meets its contract.
+-- Assumes nothing.
 use borrow.Author.Needs.{needs}
 use Rattle.arbiter.specs.Order.{losses}
 use Rattle.arbitration.proofs.Laws.{losses-law}

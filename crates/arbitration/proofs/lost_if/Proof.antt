@@ -1,3 +1,5 @@
+-- `arbitration::lost_if` meets its contract.
+-- Assumes nothing.
 use borrow.Author.Needs.{needs}
 use Rattle.arbitration.proofs.Laws.{lost-side}
 use Rattle.arbitration.proofs.lost_if.Statement.{statement}

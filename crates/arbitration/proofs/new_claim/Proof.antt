@@ -1,3 +1,5 @@
+-- `arbitration::new_claim` meets its contract.
+-- Assumes nothing.
 use borrow.Author.Needs.{needs}
 use Rattle.arbitration.proofs.new_claim.Statement.{statement}
 use Rattle.arbitration.proofs.new_claim.Tie as tie

@@ -1,3 +1,5 @@
+-- `arbitration::runs_out` meets its contract.
+-- Assumes nothing.
 use borrow.Author.Tests.{eq-eqb, ne-eqb}
 use borrow.Author.Needs.{needs}
 use Rattle.arbitration.proofs.runs_out.Statement.{statement}

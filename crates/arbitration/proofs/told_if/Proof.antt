@@ -1,3 +1,5 @@
+-- `arbitration::told_if` meets its contract.
+-- Assumes nothing.
 use borrow.Author.Needs.{needs}
 use Rattle.arbitration.proofs.told_if.Statement.{statement}
 use Rattle.arbitration.proofs.told_if.Tie as tie

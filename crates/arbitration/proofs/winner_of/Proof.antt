@@ -1,3 +1,5 @@
+-- `arbitration::winner_of` meets its contract.
+-- Assumes nothing.
 use borrow.Author.Tests.{eq-eqb, ne-eqb}
 use Rattle.arbiter.specs.Order.{winner}
 use borrow.Author.Needs.{needs}

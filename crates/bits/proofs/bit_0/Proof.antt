@@ -1,3 +1,5 @@
+-- `bits::bit_0` meets its contract.
+-- Assumes nothing.
 use mathlib.Core.Path.{sym, ap}
 use Prim.Native.Nat.{ℕ, _%_}
 use native.Mathlib.Nat.{div-one}

@@ -1,3 +1,5 @@
+-- `bits::byte_of` meets its contract.
+-- Assumes nothing.
 use Rattle.arbiter.specs.Words.{byteOf}
 use borrow.Author.Needs.{needs}
 use Rattle.bits.proofs.byte_of.Statement.{statement}

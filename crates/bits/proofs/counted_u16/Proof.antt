@@ -1,3 +1,5 @@
+-- `bits::counted_u16` meets its contract.
+-- Assumes nothing.
 use borrow.Author.Tests.{le-ltb, lt-ltb}
 use borrow.Author.Needs.{needs}
 use Rattle.bits.proofs.counted_u16.Statement.{statement}

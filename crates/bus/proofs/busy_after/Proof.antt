@@ -1,3 +1,5 @@
+-- `bus::busy_after` meets its contract.
+-- Assumes nothing.
 use borrow.Author.Needs.{needs}
 use Rattle.bus.proofs.busy_after.Statement.{statement}
 use Rattle.bus.proofs.busy_after.Tie as tie

@@ -1,3 +1,5 @@
+-- `bus::idle_kept` meets its contract.
+-- Assumes nothing.
 use borrow.Author.Needs.{needs}
 use Rattle.bus.proofs.idle_kept.Statement.{statement}
 use Rattle.bus.proofs.idle_kept.Tie as tie

@@ -1,3 +1,5 @@
+-- `bus::is_idle` meets its contract.
+-- Assumes nothing.
 use borrow.Author.Needs.{needs}
 use Rattle.bus.proofs.is_idle.Statement.{statement}
 use Rattle.bus.proofs.is_idle.Tie as tie

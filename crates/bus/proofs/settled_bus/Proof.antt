@@ -1,3 +1,5 @@
+-- `bus::settled_bus` meets its contract.
+-- Assumes nothing.
 use borrow.Author.Needs.{needs}
 use Rattle.bus.proofs.settled_bus.Statement.{statement}
 use Rattle.bus.proofs.settled_bus.Tie as tie

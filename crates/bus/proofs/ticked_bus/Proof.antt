@@ -1,3 +1,5 @@
+-- `bus::ticked_bus` meets its contract.
+-- Assumes nothing.
 use borrow.Author.Needs.{needs}
 use Rattle.bus.proofs.ticked_bus.Statement.{statement}
 use Rattle.bus.proofs.ticked_bus.Tie as tie

@@ -1,3 +1,5 @@
+-- `connection::clocking_by` meets its contract.
+-- Assumes nothing.
 use borrow.Author.Tests.{le-ltb, lt-ltb}
 use borrow.Author.Needs.{needs}
 use Rattle.connection.proofs.clocking_by.Statement.{statement}
@@ -22,16 +24,16 @@ still-at-requires-2 : tie.Need-still-at-requires-2
 still-at-requires-2 c κs = search needs
 
 returns : tie.Need-returns
-returns c = simp (← c .still-at .ensures, c .before .enum-told .given .1, c .before .before .match .keys1)
+returns c = simp (← c .still-at .ensures, c .before .enum-told .given .1)
 
 returns-2 : tie.Need-returns-2
-returns-2 c = simp (c .enum-told2 .given .1, c .before .match .keys2)
+returns-2 c = simp (c .enum-told2 .given .1)
 
 returns-3 : tie.Need-returns-3
-returns-3 c = simp (← c .still-at2 .ensures, lt-ltb _ _ (c .before .if1 .taken), c .before .before .enum-told3 .given .1, c .before .before .before .match .keys3)
+returns-3 c = simp (← c .still-at2 .ensures, lt-ltb _ _ (c .before .if1 .taken), c .before .before .enum-told3 .given .1)
 
 returns-4 : tie.Need-returns-4
-returns-4 c = simp (le-ltb _ _ (c .if1 .left), c .before .enum-told3 .given .1, c .before .before .match .keys3)
+returns-4 c = simp (le-ltb _ _ (c .if1 .left), c .before .enum-told3 .given .1)
 
 pub clocking-by-spec : {M : Type 1} → statement M
 clocking-by-spec =

@@ -1,3 +1,5 @@
+-- `connection::connect_of` meets its contract.
+-- Assumes nothing.
 use borrow.Author.Needs.{needs}
 use Rattle.arbiter.specs.Order.{connect}
 use Rattle.connection.proofs.Laws.{connect-law}

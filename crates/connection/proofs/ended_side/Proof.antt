@@ -1,3 +1,5 @@
+-- `connection::ended_side` meets its contract.
+-- Assumes nothing.
 use borrow.Author.Needs.{needs}
 use Rattle.connection.proofs.ended_side.Statement.{statement}
 use Rattle.connection.proofs.ended_side.Tie as tie

@@ -1,3 +1,5 @@
+-- `connection::joining_by` meets its contract.
+-- Assumes nothing.
 use borrow.Author.Needs.{needs}
 use Rattle.connection.proofs.joining_by.Statement.{statement}
 use Rattle.connection.proofs.joining_by.Tie as tie

@@ -1,3 +1,5 @@
+-- `connection::linked_arb` meets its contract.
+-- Assumes nothing.
 use borrow.Author.Needs.{needs}
 use Rattle.connection.proofs.linked_arb.Statement.{statement}
 use Rattle.connection.proofs.linked_arb.Tie as tie

@@ -1,3 +1,5 @@
+-- `effects::commanded_side` meets its contract.
+-- Assumes nothing.
 use borrow.Author.Needs.{needs}
 use Rattle.effects.proofs.Laws.{commanded-law}
 use Rattle.effects.proofs.commanded_side.Statement.{statement}

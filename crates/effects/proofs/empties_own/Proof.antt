@@ -1,3 +1,5 @@
+-- `effects::empties_own` meets its contract.
+-- Assumes nothing.
 use borrow.Author.Needs.{needs}
 use Rattle.effects.proofs.empties_own.Statement.{statement}
 use Rattle.effects.proofs.empties_own.Tie as tie

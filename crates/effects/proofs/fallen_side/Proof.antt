@@ -1,3 +1,5 @@
+-- `effects::fallen_side` meets its contract.
+-- Assumes nothing.
 use borrow.Author.Needs.{needs}
 use Rattle.effects.proofs.fallen_side.Statement.{statement}
 use Rattle.effects.proofs.fallen_side.Tie as tie

@@ -1,3 +1,5 @@
+-- `effects::fresh_device` meets its contract.
+-- Assumes nothing.
 use Rattle.arbiter.specs.Effects.{powerUp}
 use borrow.Author.Needs.{needs}
 use Rattle.effects.proofs.fresh_device.Statement.{statement}

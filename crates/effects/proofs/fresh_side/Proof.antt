@@ -1,3 +1,5 @@
+-- `effects::fresh_side` meets its contract.
+-- Assumes nothing.
 use mathlib.Core.Path.{refl}
 use Rattle.arbiter.specs.Effects.{freshSide}
 use Rattle.effects.proofs.fresh_side.Statement.{statement}

@@ -1,3 +1,5 @@
+-- `effects::on_general_call` meets its contract.
+-- Assumes nothing.
 use borrow.Author.Tests.{eq-eqb, ne-eqb}
 use Rattle.arbiter.specs.Effects.{effect, lined, ticked, wasRead}
 use Rattle.arbiter.specs.Events.{acknowledged, inSequence}

@@ -1,3 +1,5 @@
+-- `effects::on_read` meets its contract.
+-- Assumes nothing.
 use borrow.Author.Needs.{needs}
 use mathlib.Core.Path.{sym, _∙_, ap}
 use Rattle.arbiter.specs.declared.Master.{Master}

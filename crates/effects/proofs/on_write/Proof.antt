@@ -1,3 +1,5 @@
+-- `effects::on_write` meets its contract.
+-- Assumes nothing.
 use Rattle.arbiter.specs.Effects.{effect, lined, ticked, wasRead}
 use Rattle.arbiter.specs.Events.{acknowledged, inSequence}
 use Rattle.arbiter.specs.Steps.{byteRead}
@@ -20,11 +22,11 @@ on-write-1-requires c κs = search needs
 
 returns : tie.Need-returns
 unfolding effectOf wasRead lined ticked effect byteRead inSequence acknowledged
-returns c = simp (← c .on-write-0 .ensures, c .before .enum-told .given .1, c .before .before .match .keys1)
+returns c = simp (← c .on-write-0 .ensures, c .before .enum-told .given .1)
 
 returns-2 : tie.Need-returns-2
 unfolding effectOf wasRead lined ticked effect byteRead inSequence acknowledged
-returns-2 c = simp (← c .on-write-1 .ensures, c .before .enum-told2 .given .1, c .before .before .match .keys2)
+returns-2 c = simp (← c .on-write-1 .ensures, c .before .enum-told2 .given .1)
 
 pub on-write-spec : {M : Type 1} → statement M
 on-write-spec =

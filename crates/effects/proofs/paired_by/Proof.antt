@@ -1,3 +1,5 @@
+-- `effects::paired_by` meets its contract.
+-- Assumes nothing.
 use Rattle.arbiter.specs.Effects.{paired}
 use borrow.Author.Needs.{needs}
 use Rattle.effects.proofs.paired_by.Statement.{statement}

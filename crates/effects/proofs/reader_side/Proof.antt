@@ -1,3 +1,5 @@
+-- `effects::reader_side` meets its contract.
+-- Assumes nothing.
 use borrow.Author.Needs.{needs}
 use Rattle.effects.proofs.Laws.{reader-law}
 use Rattle.effects.proofs.reader_side.Statement.{statement}

@@ -1,3 +1,5 @@
+-- `effects::register_at` meets its contract.
+-- Assumes nothing.
 use borrow.Author.Tests.{ne-eqb}
 use Rattle.effects.proofs.register_at.Statement.{statement}
 use Rattle.effects.proofs.register_at.Tie as tie

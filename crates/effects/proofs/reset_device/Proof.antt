@@ -1,3 +1,5 @@
+-- `effects::reset_device` meets its contract.
+-- Assumes nothing.
 use Rattle.arbiter.specs.Effects.{wasReset}
 use borrow.Author.Needs.{needs}
 use Rattle.effects.proofs.reset_device.Statement.{statement}

@@ -1,3 +1,5 @@
+-- `effects::sender_side` meets its contract.
+-- Assumes nothing.
 use borrow.Author.Needs.{needs}
 use Rattle.effects.proofs.sender_side.Statement.{statement}
 use Rattle.effects.proofs.sender_side.Tie as tie

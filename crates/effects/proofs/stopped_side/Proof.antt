@@ -1,3 +1,5 @@
+-- `effects::stopped_side` meets its contract.
+-- Assumes nothing.
 use borrow.Author.Needs.{needs}
 use Rattle.effects.proofs.stopped_side.Statement.{statement}
 use Rattle.effects.proofs.stopped_side.Tie as tie

@@ -1,3 +1,5 @@
+-- `effects::ticked_arb` meets its contract.
+-- Assumes nothing.
 use borrow.Author.Needs.{needs}
 use Rattle.effects.proofs.ticked_arb.Statement.{statement}
 use Rattle.effects.proofs.ticked_arb.Tie as tie

@@ -1,3 +1,5 @@
+-- `effects::written_by_1` meets its contract.
+-- Assumes nothing.
 use Rattle.arbiter.specs.Effects.{written}
 use borrow.Author.Needs.{needs}
 use Rattle.effects.proofs.written_by_1.Statement.{statement}

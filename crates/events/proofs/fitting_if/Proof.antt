@@ -1,3 +1,5 @@
+-- `events::fitting_if` meets its contract.
+-- Assumes nothing.
 use borrow.Author.Needs.{needs}
 use Rattle.events.proofs.fitting_if.Statement.{statement}
 use Rattle.events.proofs.fitting_if.Tie as tie

@@ -1,3 +1,5 @@
+-- `events::master_of` meets its contract.
+-- Assumes nothing.
 use borrow.Author.Tests.{eq-eqb, ne-eqb}
 use Rattle.events.proofs.master_of.Statement.{statement}
 use Rattle.events.proofs.master_of.Tie as tie

@@ -1,3 +1,5 @@
+-- `parts::owns_turn` meets its contract.
+-- Assumes nothing.
 use borrow.Author.Needs.{needs}
 use Rattle.parts.proofs.owns_turn.Statement.{statement}
 use Rattle.parts.proofs.owns_turn.Tie as tie
@@ -21,7 +23,7 @@ returns-2 : tie.Need-returns-2
 returns-2 c = search needs
 
 returns-3 : tie.Need-returns-3
-returns-3 c = simp (← c .same-master .ensures, c .before .before .t .given .1, c .before .before .before .match .keys3)
+returns-3 c = simp (← c .same-master .ensures, c .before .before .t .given .1)
 
 pub owns-turn-spec : {M : Type 1} → statement M
 owns-turn-spec =

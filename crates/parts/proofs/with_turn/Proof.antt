@@ -1,3 +1,5 @@
+-- `parts::with_turn` meets its contract.
+-- Assumes nothing.
 use borrow.Author.Needs.{needs}
 use Rattle.parts.proofs.with_turn.Statement.{statement}
 use Rattle.parts.proofs.with_turn.Tie as tie

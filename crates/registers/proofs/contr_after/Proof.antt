@@ -1,3 +1,5 @@
+-- `registers::contr_after` meets its contract.
+-- Assumes nothing.
 use Rattle.arbiter.specs.Order.{granted}
 use borrow.Author.Needs.{needs}
 use Rattle.registers.proofs.contr_after.Statement.{statement}

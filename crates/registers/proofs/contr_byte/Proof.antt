@@ -1,3 +1,5 @@
+-- `registers::contr_byte` meets its contract.
+-- Assumes nothing.
 use Rattle.arbiter.specs.Order.{granted}
 use Rattle.arbiter.specs.Registers.{contrByte}
 use borrow.Author.Needs.{needs}

@@ -1,3 +1,5 @@
+-- `registers::control_by` meets its contract.
+-- Assumes nothing.
 use borrow.Author.Needs.{needs}
 use Rattle.arbiter.specs.Registers.{withdraws}
 use Rattle.registers.proofs.Laws.{control-law}

@@ -1,3 +1,5 @@
+-- `registers::drives_written` meets its contract.
+-- Assumes nothing.
 use borrow.Author.Needs.{needs}
 use Rattle.registers.proofs.Laws.{drives-law}
 use Rattle.registers.proofs.drives_written.Statement.{statement}

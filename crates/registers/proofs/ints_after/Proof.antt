@@ -1,3 +1,5 @@
+-- `registers::ints_after` meets its contract.
+-- Assumes nothing.
 use borrow.Author.Needs.{needs}
 use Rattle.registers.proofs.ints_after.Statement.{statement}
 use Rattle.registers.proofs.ints_after.Tie as tie

@@ -1,3 +1,5 @@
+-- `registers::is_asserted_by` meets its contract.
+-- Assumes nothing.
 use Rattle.arbiter.specs.Registers.{isAsserted}
 use borrow.Author.Needs.{needs}
 use Rattle.registers.proofs.is_asserted_by.Statement.{statement}

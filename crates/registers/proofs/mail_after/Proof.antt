@@ -1,3 +1,5 @@
+-- `registers::mail_after` meets its contract.
+-- Assumes nothing.
 use borrow.Author.Needs.{needs}
 use Rattle.registers.proofs.mail_after.Statement.{statement}
 use Rattle.registers.proofs.mail_after.Tie as tie

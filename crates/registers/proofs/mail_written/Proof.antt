@@ -1,3 +1,5 @@
+-- `registers::mail_written` meets its contract.
+-- Assumes nothing.
 use borrow.Author.Needs.{needs}
 use Rattle.registers.proofs.Laws.{mail-law}
 use Rattle.registers.proofs.mail_written.Statement.{statement}

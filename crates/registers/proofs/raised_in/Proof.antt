@@ -1,3 +1,5 @@
+-- `registers::raised_in` meets its contract.
+-- Assumes nothing.
 use borrow.Author.Needs.{needs}
 use Rattle.registers.proofs.raised_in.Statement.{statement}
 use Rattle.registers.proofs.raised_in.Tie as tie

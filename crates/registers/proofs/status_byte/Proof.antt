@@ -1,3 +1,5 @@
+-- `registers::status_byte` meets its contract.
+-- Assumes nothing.
 use Rattle.arbiter.specs.Registers.{statusByte}
 use borrow.Author.Needs.{needs}
 use Rattle.registers.proofs.status_byte.Statement.{statement}

@@ -1,3 +1,5 @@
+-- `registers::turn_written` meets its contract.
+-- Assumes nothing.
 use borrow.Author.Needs.{needs}
 use Rattle.registers.proofs.Laws.{turn-law}
 use Rattle.registers.proofs.turn_written.Statement.{statement}

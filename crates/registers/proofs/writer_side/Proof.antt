@@ -1,3 +1,5 @@
+-- `registers::writer_side` meets its contract.
+-- Assumes nothing.
 use borrow.Author.Needs.{needs}
 use Rattle.registers.proofs.Laws.{writer-law}
 use Rattle.registers.proofs.writer_side.Statement.{statement}

@@ -1,3 +1,5 @@
+-- `step::answered` meets its contract.
+-- Assumes nothing.
 use borrow.Author.Needs.{needs}
 use Rattle.step.proofs.answered.Statement.{statement}
 use Rattle.step.proofs.answered.Tie as tie

@@ -1,3 +1,5 @@
+-- `step::bits_2_and_3` meets its contract.
+-- Assumes nothing.
 use borrow.Author.Needs.{needs}
 use Rattle.step.proofs.bits_2_and_3.Statement.{statement}
 use Rattle.step.proofs.bits_2_and_3.Tie as tie
@@ -9,10 +11,10 @@ enum-told-2 : tie.Need-enum-told-2
 enum-told-2 c = search needs
 
 returns : tie.Need-returns
-returns c = (simp (c .enum-told .given .1, c .before .match .keys1), search needs)
+returns c = (simp (c .enum-told .given .1), search needs)
 
 returns-2 : tie.Need-returns-2
-returns-2 c = (simp (c .enum-told2 .given .1, c .before .match .keys2), search needs)
+returns-2 c = (simp (c .enum-told2 .given .1), search needs)
 
 pub bits-2-and-3-spec : {M : Type 1} → statement M
 bits-2-and-3-spec = tie.close (tie.spec enum-told enum-told-2 returns returns-2)

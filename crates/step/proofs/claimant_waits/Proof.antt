@@ -1,3 +1,5 @@
+-- `step::claimant_waits` meets its contract.
+-- Assumes nothing.
 use borrow.Author.Needs.{needs}
 use Rattle.step.proofs.claimant_waits.Statement.{statement}
 use Rattle.step.proofs.claimant_waits.Tie as tie

@@ -1,3 +1,5 @@
+-- `step::finish` meets its contract.
+-- Assumes nothing.
 use borrow.Author.Tests.{eq-eqb, ne-eqb}
 use Rattle.step.specs.Settled.{finished}
 use borrow.Author.Needs.{needs}

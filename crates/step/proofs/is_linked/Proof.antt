@@ -1,3 +1,5 @@
+-- `step::is_linked` meets its contract.
+-- Assumes nothing.
 use borrow.Author.Needs.{needs}
 use Rattle.step.proofs.is_linked.Statement.{statement}
 use Rattle.step.proofs.is_linked.Tie as tie
@@ -21,10 +23,10 @@ returns : tie.Need-returns
 returns c = search needs
 
 returns-2 : tie.Need-returns-2
-returns-2 c = simp (← c .same-master .ensures, c .before .before .w .given .1, c .before .before .before .match .keys2)
+returns-2 c = simp (← c .same-master .ensures, c .before .before .w .given .1)
 
 returns-3 : tie.Need-returns-3
-returns-3 c = simp (← c .same-master2 .ensures, c .before .before .w2 .given .1, c .before .before .before .match .keys3)
+returns-3 c = simp (← c .same-master2 .ensures, c .before .before .w2 .given .1)
 
 pub is-linked-spec : {M : Type 1} → statement M
 is-linked-spec =

@@ -1,3 +1,5 @@
+-- `step::is_quiet` meets its contract.
+-- Assumes nothing.
 use Rattle.step.specs.Settled.{isQuiet}
 use borrow.Author.Needs.{needs}
 use Rattle.step.proofs.is_quiet.Statement.{statement}
@@ -65,23 +67,23 @@ owner-keeps-requires-2 c κs = search needs
 
 returns : tie.Need-returns
 unfolding isQuiet
-returns c = simp (← c .before .before .is-apart .ensures, ← c .before .before .before .switch-of .ensures, c .before .before .before .before .enum-told .given .1, c .before .before .before .before .before .match .keys1, ← c .before .before .before .before .before .before .turn-of .ensures)
+returns c = simp (← c .before .before .is-apart .ensures, ← c .before .before .before .switch-of .ensures, c .before .before .before .before .enum-told .given .1, ← c .before .before .before .before .before .before .turn-of .ensures)
 
 returns-2 : tie.Need-returns-2
 unfolding isQuiet
-returns-2 c = simp (← c .claimant-waits .ensures, ← c .before .is-apart2 .ensures, ← c .before .before .switch-of2 .ensures, c .before .before .before .enum-told2 .given .1, c .before .before .before .before .match2 .keys1, c .before .before .before .before .before .before .turn .given .1, c .before .before .before .before .before .before .before .match .keys2, ← c .before .before .before .before .before .before .before .before .turn-of .ensures)
+returns-2 c = simp (← c .claimant-waits .ensures, ← c .before .is-apart2 .ensures, ← c .before .before .switch-of2 .ensures, c .before .before .before .enum-told2 .given .1, c .before .before .before .before .before .before .turn .given .1, ← c .before .before .before .before .before .before .before .before .turn-of .ensures)
 
 returns-3 : tie.Need-returns-3
 unfolding isQuiet
-returns-3 c = simp (← c .claimant-waits2 .ensures, ← c .before .is-apart3 .ensures, ← c .before .before .switch-of3 .ensures, c .before .before .before .enum-told3 .given .1, c .before .before .before .before .match2 .keys2, c .before .before .before .before .before .before .turn .given .1, c .before .before .before .before .before .before .before .match .keys2, ← c .before .before .before .before .before .before .before .before .turn-of .ensures)
+returns-3 c = simp (← c .claimant-waits2 .ensures, ← c .before .is-apart3 .ensures, ← c .before .before .switch-of3 .ensures, c .before .before .before .enum-told3 .given .1, c .before .before .before .before .before .before .turn .given .1, ← c .before .before .before .before .before .before .before .before .turn-of .ensures)
 
 returns-4 : tie.Need-returns-4
 unfolding isQuiet
-returns-4 c = simp (c .owner-keeps .ensures, c .before .switch-of4 .ensures, c .before .before .enum-told4 .given .1, c .before .before .before .match3 .keys1, c .before .before .before .before .before .turn2 .given .1, c .before .before .before .before .before .before .match .keys3, ← c .before .before .before .before .before .before .before .turn-of .ensures)
+returns-4 c = simp (c .owner-keeps .ensures, c .before .switch-of4 .ensures, c .before .before .enum-told4 .given .1, c .before .before .before .before .before .turn2 .given .1, ← c .before .before .before .before .before .before .before .turn-of .ensures)
 
 returns-5 : tie.Need-returns-5
 unfolding isQuiet
-returns-5 c = simp (c .owner-keeps2 .ensures, c .before .switch-of5 .ensures, c .before .before .enum-told5 .given .1, c .before .before .before .match3 .keys2, c .before .before .before .before .before .turn2 .given .1, c .before .before .before .before .before .before .match .keys3, ← c .before .before .before .before .before .before .before .turn-of .ensures)
+returns-5 c = simp (c .owner-keeps2 .ensures, c .before .switch-of5 .ensures, c .before .before .enum-told5 .given .1, c .before .before .before .before .before .turn2 .given .1, ← c .before .before .before .before .before .before .before .turn-of .ensures)
 
 pub is-quiet-spec : {M : Type 1} → statement M
 is-quiet-spec =

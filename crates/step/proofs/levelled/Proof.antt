@@ -1,3 +1,5 @@
+-- `step::levelled` meets its contract.
+-- Assumes nothing.
 use Rattle.arbiter.specs.Order.{levels}
 use borrow.Author.Needs.{needs}
 use Rattle.step.proofs.levelled.Statement.{statement}

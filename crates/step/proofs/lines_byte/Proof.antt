@@ -1,3 +1,5 @@
+-- `step::lines_byte` meets its contract.
+-- Assumes nothing.
 use Rattle.arbiter.specs.Steps.{linesByte}
 use borrow.Author.Needs.{needs}
 use Rattle.step.proofs.lines_byte.Statement.{statement}

@@ -1,3 +1,5 @@
+-- `step::moved_by` meets its contract.
+-- Assumes nothing.
 use Rattle.step.specs.Settled.{moved}
 use borrow.Author.Needs.{needs}
 use mathlib.Core.Path.{sym, ap, _∙_}

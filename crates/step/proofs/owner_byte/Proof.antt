@@ -1,3 +1,5 @@
+-- `step::owner_byte` meets its contract.
+-- Assumes nothing.
 use Rattle.arbiter.specs.Steps.{ownerByte}
 use borrow.Author.Needs.{needs}
 use mathlib.Core.Path.{sym}

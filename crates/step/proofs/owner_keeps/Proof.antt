@@ -1,3 +1,5 @@
+-- `step::owner_keeps` meets its contract.
+-- Assumes nothing.
 use borrow.Author.Needs.{needs}
 use Rattle.step.proofs.owner_keeps.Statement.{statement}
 use Rattle.step.proofs.owner_keeps.Tie as tie

@@ -1,4 +1,5 @@
-use Rattle.step.specs.Settled.{settle}
+-- `step::settled_by` meets its contract.
+-- Assumes nothing.
 use borrow.Author.Needs.{needs}
 use Rattle.step.proofs.Quiet.{quiet-law}
 use Rattle.step.proofs.settled_by.Statement.{statement}

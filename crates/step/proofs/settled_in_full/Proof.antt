@@ -1,3 +1,5 @@
+-- `step::settled_in_full` meets its contract.
+-- Assumes nothing.
 use Rattle.step.specs.Settled.{settle}
 use borrow.Author.Needs.{needs}
 use Rattle.step.proofs.settled_in_full.Statement.{statement}

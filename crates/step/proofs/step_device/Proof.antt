@@ -1,3 +1,5 @@
+-- `step::step_device` meets its contract.
+-- Assumes nothing.
 use borrow.Author.Needs.{needs}
 use Rattle.step.proofs.Laws.{step-law}
 use Rattle.step.proofs.step_device.Statement.{statement}
