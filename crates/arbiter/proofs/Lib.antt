@@ -1,1 +1,4 @@
+pub mod Every
+pub mod Bitwise
+pub mod Connected
 pub mod Marks

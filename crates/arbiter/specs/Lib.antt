@@ -4,10 +4,12 @@ pub mod Parts
 pub mod Straps
 pub mod State
 pub mod Registers
+pub mod Bitwise
 pub mod Events
 pub mod Effects
 pub mod Order
 pub mod Steps
+pub mod Audit
 pub mod Traces
 pub mod Listing
 pub mod Marks

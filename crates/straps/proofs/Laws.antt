@@ -15,7 +15,7 @@ use Rattle.arbiter.specs.declared.Strapping.{Strapping}
 use Rattle.arbiter.specs.declared.Strapping.the-variants.{Straps, Outside}
 use Rattle.straps.specs.Entries.{samePins}
 use Rattle.straps.specs.Laws.{BackToPins, BackToAddress, NoneOutside, OneStrapping}
-use Rattle.straps.proofs.Every.{every, every-at}
+use Rattle.arbiter.proofs.Every.{every, every-at}
 
 -- ---- pins that have an address are listed, and so each has a code
 

@@ -12,7 +12,7 @@ use Rattle.arbiter.specs.Straps.{addressOf, hasAddress, pins}
 use Rattle.arbiter.specs.declared.Pins.{Pins}
 use Rattle.straps.specs.Entries.{EntryAt}
 use Rattle.straps.specs.declared.Entry.{Entry}
-use Rattle.straps.proofs.Every.{every, every-at}
+use Rattle.arbiter.proofs.Every.{every, every-at}
 use Rattle.straps.proofs.Laws.{has-address}
 
 -- a row taken apart
