@@ -6,7 +6,7 @@ use mathlib.Core.List.{List, [], _∷_}
 use Rattle.arbiter.specs.Types.{ℕ, _+_, ltb, Master, Zero, One, Turn, Nobody, Claims, Owns, Switch, Apart, Initialising, Closed, Clock, NoClock, ClockLow, ClockHigh, Device, Raw, Event, Decoded, Reads, UnknownKind, BadField}
 use Rattle.arbiter.specs.Words.{if_then_else_, sameMaster, partner, side}
 use Rattle.arbiter.specs.Parts.{withSwitch, withInitFail, withArb}
-use Rattle.arbiter.specs.State.{ownsTurn, owns, closedFor, connected}
+use Rattle.arbiter.specs.State.{ownsTurn, owns, closedFor}
 use Rattle.arbiter.specs.Events.{decode, inSequence}
 use Rattle.arbiter.specs.Effects.{effect, powerUp}
 use Rattle.arbiter.specs.Order.{switched, joined, initFailed, clocked, keptJoined, connectFrom, connect, levels, losses, cut, claim, grant, isReset, isTick, clockOf}

@@ -1,7 +1,7 @@
 -- The auditor's questions, as statements over every run: any list of raw four-byte events from power-up, refused ones included.
 -- Assumes nothing.
 use mathlib.Core.Path.{_≡_}
-use Rattle.arbiter.specs.Types.{Bool, true, false, _||_, List, Master, Raw, Switch, Apart, Device}
+use Rattle.arbiter.specs.Types.{true, false, List, Master, Raw, Apart}
 use Rattle.arbiter.specs.Words.{partner}
 use Rattle.arbiter.specs.State.{owns, connected}
 use Rattle.arbiter.specs.Steps.{run}
