@@ -1,51 +1,44 @@
 // Part 1 of a step: each event's own effect, with its outcome and the byte read. Out of sequence, outcome 4, changes nothing.
 ghost use mathlib.Core.Path.{_≡_};
-ghost use Rattle.arbiter.specs.Words.{if_then_else_, side};
-ghost use Rattle.arbiter.specs.Parts.{withPort};
-ghost use Rattle.arbiter.specs.State.{isInitialising, forWriting};
-ghost use Rattle.arbiter.specs.Events.{writable};
-ghost use Rattle.arbiter.specs.Effects.{registerAt, afterRead, commanded, written, paired, isMailHigh, empties, readerSide, senderSide, intInFallen, tickedArb, freshSide, freshArb, wasReset, powerUp};
+ghost use Rattle.arbiter.specs.Words.{side};
+ghost use Rattle.arbiter.specs.Effects.{written, paired, wasReset, powerUp};
 ghost use Rattle.arbiter.specs.declared.Master.the-variants.{Zero, One};
-ghost use Rattle.arbiter.specs.declared.Port.the-variants.{Rest, Open, Writing};
 ghost use Rattle.arbiter.specs.declared.Event.the-variants.{Command, Write, Read, Stop, Pair, Lines, Tick, Pulse, Reset, GeneralCall};
-ghost use Rattle.effects.specs.Effect.{did, effectOf, mailUnless};
-use arbiter::Arbitration;
+ghost use Rattle.effects.specs.Effect.{did, effectOf};
 use arbiter::Bus;
 use arbiter::Control;
 use arbiter::Device;
 use arbiter::Event;
-use arbiter::Last;
-use arbiter::Mailbox;
 use arbiter::Master;
-use arbiter::Port;
-use arbiter::Register;
-use arbiter::Side;
-use arbiter::Switch;
-use arbiter::Turn;
-use bits::less_one;
-use bits::pick_bool;
 use bits::worth_of;
 use bus::fresh_bus;
 use bus::outside_of;
 use bus::ticked_bus;
-use parts::arb_with;
 use parts::device_with;
 use parts::is_at_rest;
-use parts::last_of;
 use parts::owns_turn;
-use parts::pick_register;
 use parts::pointer_of;
 use parts::port_of;
-use parts::side_with;
 use parts::switch_of;
 use parts::turn_of;
 use parts::with_turn;
 use registers::drives_written;
 use registers::mail_written;
-use registers::raised_in;
 use registers::register_byte;
 use registers::turn_written;
 use registers::writer_side;
+use sides::commanded_side;
+use sides::empties_own;
+use sides::fallen_side;
+use sides::fresh_arb;
+use sides::fresh_side;
+use sides::initialises;
+use sides::is_for_writing;
+use sides::reader_side;
+use sides::sender_side;
+use sides::stopped_side;
+use sides::ticked_arb;
+use sides::writable_at;
 
 pub struct Effect {
     pub device: Device,
@@ -63,85 +56,7 @@ pub fn did_so(d: Device, number: u8, byte: u8) -> Effect
     }
 }
 
-// ---- what a state shows
-
-fn is_for_writing(p: Port) -> bool
-    ensures { λ r. ⌜ r ≡ forWriting p ⌝ }
-{
-    match p {
-        Port::Rest => false,
-        Port::Open => false,
-        Port::Writing => true,
-    }
-}
-
-fn initialises(w: Switch) -> bool
-    ensures { λ r. ⌜ r ≡ isInitialising w ⌝ }
-{
-    match w {
-        Switch::Apart => false,
-        Switch::Initialising(_, _) => true,
-        Switch::Closed(_) => false,
-    }
-}
-
-fn writable_at(r: Register) -> bool
-    ensures { λ n. ⌜ n ≡ writable r ⌝ }
-{
-    match r {
-        Register::Id => false,
-        Register::Contr => true,
-        Register::Status => true,
-        Register::Rt => true,
-        Register::IntStatus => true,
-        Register::IntMask => true,
-        Register::MailLow => true,
-        Register::MailHigh => true,
-    }
-}
-
 // ---- COMMAND
-
-fn register_at(n: u8) -> Register
-    ensures { λ r. ⌜ r ≡ registerAt n ⌝ }
-{
-    match n {
-        0 => Register::Id,
-        1 => Register::Contr,
-        2 => Register::Status,
-        3 => Register::Rt,
-        4 => Register::IntStatus,
-        5 => Register::IntMask,
-        6 => Register::MailLow,
-        _ => Register::MailHigh,
-    }
-}
-
-fn opened(for_writing: bool) -> Port
-    ensures { λ r. ⌜ r ≡ (if «for_writing» then Writing else Open) ⌝ }
-{
-    if for_writing {
-        Port::Writing
-    } else {
-        Port::Open
-    }
-}
-
-fn commanded_side(c: u8, s: Side) -> Side
-    ensures { λ r. ⌜ r ≡ commanded c s ⌝ }
-{
-    let good = c / 8 % 16 == 0;
-    side_with(
-        pick_register(good, register_at(c % 8), pointer_of(s)),
-        s.rt,
-        s.contr,
-        s.ints,
-        s.mail,
-        pick_bool(good, c / 128 % 2 == 1, s.auto),
-        opened(good),
-        s.mask,
-    )
-}
 
 fn on_command(m: Master, c: u8, d: Device) -> Effect
     ensures { λ r. ⌜ r ≡ effectOf (Command m c) d ⌝ }
@@ -267,82 +182,6 @@ fn on_pair(v0: u8, v1: u8, d: Device) -> Effect
 
 // ---- READ
 
-fn after_read(r: Register) -> Register
-    ensures { λ n. ⌜ n ≡ afterRead r ⌝ }
-{
-    match r {
-        Register::Id => Register::Contr,
-        Register::Contr => Register::Status,
-        Register::Status => Register::Rt,
-        Register::Rt => Register::IntStatus,
-        Register::IntStatus => Register::IntMask,
-        Register::IntMask => Register::MailLow,
-        Register::MailLow => Register::MailHigh,
-        Register::MailHigh => Register::Id,
-    }
-}
-
-fn is_mail_high(r: Register) -> bool
-    ensures { λ n. ⌜ n ≡ isMailHigh r ⌝ }
-{
-    match r {
-        Register::Id => false,
-        Register::Contr => false,
-        Register::Status => false,
-        Register::Rt => false,
-        Register::IntStatus => false,
-        Register::IntMask => false,
-        Register::MailLow => false,
-        Register::MailHigh => true,
-    }
-}
-
-fn empties_own(s: Side) -> bool
-    ensures { λ r. ⌜ r ≡ empties s ⌝ }
-{
-    is_mail_high(pointer_of(s)) & s.mail.full
-}
-
-fn emptied_if(emptied: bool, m: Mailbox) -> Mailbox
-    ensures { λ r. ⌜ r ≡ mailUnless emptied m ⌝ }
-{
-    Mailbox {
-        low: m.low,
-        high: m.high,
-        full: m.full & !emptied,
-    }
-}
-
-fn reader_side(s: Side) -> Side
-    ensures { λ r. ⌜ r ≡ readerSide s ⌝ }
-{
-    side_with(
-        pick_register(s.auto, after_read(pointer_of(s)), pointer_of(s)),
-        s.rt,
-        s.contr,
-        s.ints,
-        emptied_if(empties_own(s), s.mail),
-        s.auto,
-        Port::Open,
-        s.mask,
-    )
-}
-
-fn sender_side(emptied: bool, s: Side) -> Side
-    ensures { λ r. ⌜ r ≡ senderSide emptied s ⌝ }
-{
-    side_with(
-        pointer_of(s),
-        s.rt,
-        s.contr,
-        raised_in(s.ints, 0x10, emptied),
-        s.mail,
-        s.auto,
-        port_of(s),
-        s.mask,
-    )
-}
-
 fn on_read(m: Master, d: Device) -> Effect
     ensures { λ r. ⌜ r ≡ effectOf (Read m) d ⌝ }
 {
@@ -373,21 +212,6 @@ fn on_read(m: Master, d: Device) -> Effect
 }
 
 // ---- STOP
-
-fn stopped_side(s: Side) -> Side
-    ensures { λ r. ⌜ r ≡ withPort Rest s ⌝ }
-{
-    side_with(
-        pointer_of(s),
-        s.rt,
-        s.contr,
-        s.ints,
-        s.mail,
-        s.auto,
-        Port::Rest,
-        s.mask,
-    )
-}
 
 fn stop_by_0(d: Device) -> Effect
     ensures { λ r. ⌜ r ≡ effectOf (Stop Zero) d ⌝ }
@@ -428,21 +252,6 @@ fn on_stop(m: Master, d: Device) -> Effect
 
 // ---- LINES, TICK and PULSE
 
-fn fallen_side(fell: bool, s: Side) -> Side
-    ensures { λ r. ⌜ r ≡ intInFallen fell s ⌝ }
-{
-    side_with(
-        pointer_of(s),
-        s.rt,
-        s.contr,
-        raised_in(s.ints, 0x01, fell),
-        s.mail,
-        s.auto,
-        port_of(s),
-        s.mask,
-    )
-}
-
 fn on_lines(scl: bool, sda: bool, intin: bool, d: Device) -> Effect
     ensures { λ r. ⌜ r ≡ effectOf (Lines scl sda intin) d ⌝ }
 {
@@ -456,18 +265,6 @@ fn on_lines(scl: bool, sda: bool, intin: bool, d: Device) -> Effect
         ),
         0,
         0,
-    )
-}
-
-fn ticked_arb(a: Arbitration) -> Arbitration
-    ensures { λ r. ⌜ r ≡ tickedArb a ⌝ }
-{
-    arb_with(
-        last_of(a),
-        a.initfail,
-        switch_of(a),
-        less_one(a.reserve),
-        turn_of(a),
     )
 }
 
@@ -492,45 +289,6 @@ fn on_pulse(sda: bool, d: Device) -> Effect
 }
 
 // ---- resets
-
-fn fresh_side() -> Side
-    ensures { λ r. ⌜ r ≡ freshSide ⌝ }
-{
-    Side {
-        pointer: Register::Id,
-        rt: 0,
-        contr: Control {
-            priority: false,
-            smbusdis: false,
-            idletimer: false,
-            swrst: false,
-            businit: false,
-            busconnect: false,
-            lockreq: false,
-        },
-        ints: 0,
-        mail: Mailbox {
-            low: 0,
-            high: 0,
-            full: false,
-        },
-        auto: false,
-        port: Port::Rest,
-        mask: 0x7F,
-    }
-}
-
-fn fresh_arb() -> Arbitration
-    ensures { λ r. ⌜ r ≡ freshArb ⌝ }
-{
-    Arbitration {
-        last: Last::Never,
-        initfail: false,
-        switch: Switch::Apart,
-        reserve: 0,
-        turn: Turn::Nobody,
-    }
-}
 
 fn reset_device(hold: u8, d: Device) -> Device
     ensures { λ r. ⌜ r ≡ wasReset hold d ⌝ }

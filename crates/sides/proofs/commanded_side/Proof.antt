@@ -1,9 +1,9 @@
--- `effects::commanded_side` meets its contract.
+-- `sides::commanded_side` meets its contract.
 -- Assumes nothing.
 use borrow.Author.Needs.{needs}
-use Rattle.effects.proofs.Laws.{commanded-law}
-use Rattle.effects.proofs.commanded_side.Statement.{statement}
-use Rattle.effects.proofs.commanded_side.Tie as tie
+use Rattle.sides.proofs.Laws.{commanded-law}
+use Rattle.sides.proofs.commanded_side.Statement.{statement}
+use Rattle.sides.proofs.commanded_side.Tie as tie
 
 register-at-requires : tie.Need-register-at-requires
 register-at-requires c κs = search needs

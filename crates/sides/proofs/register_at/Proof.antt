@@ -1,8 +1,8 @@
--- `effects::register_at` meets its contract.
+-- `sides::register_at` meets its contract.
 -- Assumes nothing.
 use borrow.Author.Tests.{ne-eqb}
-use Rattle.effects.proofs.register_at.Statement.{statement}
-use Rattle.effects.proofs.register_at.Tie as tie
+use Rattle.sides.proofs.register_at.Statement.{statement}
+use Rattle.sides.proofs.register_at.Tie as tie
 
 returns : tie.Need-returns
 returns c = simp (c .match .keys1)

@@ -1,8 +1,8 @@
--- `effects::stopped_side` meets its contract.
+-- `sides::stopped_side` meets its contract.
 -- Assumes nothing.
 use borrow.Author.Needs.{needs}
-use Rattle.effects.proofs.stopped_side.Statement.{statement}
-use Rattle.effects.proofs.stopped_side.Tie as tie
+use Rattle.sides.proofs.stopped_side.Statement.{statement}
+use Rattle.sides.proofs.stopped_side.Tie as tie
 
 pointer-of-requires : tie.Need-pointer-of-requires
 pointer-of-requires c κs = search needs

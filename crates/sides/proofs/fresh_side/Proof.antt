@@ -1,9 +1,9 @@
--- `effects::fresh_side` meets its contract.
+-- `sides::fresh_side` meets its contract.
 -- Assumes nothing.
 use mathlib.Core.Path.{refl}
 use Rattle.arbiter.specs.Effects.{freshSide}
-use Rattle.effects.proofs.fresh_side.Statement.{statement}
-use Rattle.effects.proofs.fresh_side.Tie as tie
+use Rattle.sides.proofs.fresh_side.Statement.{statement}
+use Rattle.sides.proofs.fresh_side.Tie as tie
 
 returns : tie.Need-returns
 unfolding freshSide

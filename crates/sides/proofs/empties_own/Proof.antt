@@ -1,8 +1,8 @@
--- `effects::empties_own` meets its contract.
+-- `sides::empties_own` meets its contract.
 -- Assumes nothing.
 use borrow.Author.Needs.{needs}
-use Rattle.effects.proofs.empties_own.Statement.{statement}
-use Rattle.effects.proofs.empties_own.Tie as tie
+use Rattle.sides.proofs.empties_own.Statement.{statement}
+use Rattle.sides.proofs.empties_own.Tie as tie
 
 pointer-of-requires : tie.Need-pointer-of-requires
 pointer-of-requires c κs = search needs

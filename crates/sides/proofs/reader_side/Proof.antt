@@ -1,9 +1,9 @@
--- `effects::reader_side` meets its contract.
+-- `sides::reader_side` meets its contract.
 -- Assumes nothing.
 use borrow.Author.Needs.{needs}
-use Rattle.effects.proofs.Laws.{reader-law}
-use Rattle.effects.proofs.reader_side.Statement.{statement}
-use Rattle.effects.proofs.reader_side.Tie as tie
+use Rattle.sides.proofs.Laws.{reader-law}
+use Rattle.sides.proofs.reader_side.Statement.{statement}
+use Rattle.sides.proofs.reader_side.Tie as tie
 
 pointer-of-requires : tie.Need-pointer-of-requires
 pointer-of-requires c κs = search needs

@@ -1,8 +1,8 @@
--- `effects::ticked_arb` meets its contract.
+-- `sides::ticked_arb` meets its contract.
 -- Assumes nothing.
 use borrow.Author.Needs.{needs}
-use Rattle.effects.proofs.ticked_arb.Statement.{statement}
-use Rattle.effects.proofs.ticked_arb.Tie as tie
+use Rattle.sides.proofs.ticked_arb.Statement.{statement}
+use Rattle.sides.proofs.ticked_arb.Tie as tie
 
 last-of-requires : tie.Need-last-of-requires
 last-of-requires c κs = search needs

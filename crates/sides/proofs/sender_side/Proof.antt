@@ -1,8 +1,8 @@
--- `effects::sender_side` meets its contract.
+-- `sides::sender_side` meets its contract.
 -- Assumes nothing.
 use borrow.Author.Needs.{needs}
-use Rattle.effects.proofs.sender_side.Statement.{statement}
-use Rattle.effects.proofs.sender_side.Tie as tie
+use Rattle.sides.proofs.sender_side.Statement.{statement}
+use Rattle.sides.proofs.sender_side.Tie as tie
 
 pointer-of-requires : tie.Need-pointer-of-requires
 pointer-of-requires c κs = search needs
