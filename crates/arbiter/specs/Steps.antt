@@ -1,10 +1,10 @@
 -- Document 01, "Order inside a step" as a whole, "Answers", and a run of events from power-up.
 -- Assumes nothing.
-use Rattle.arbiter.specs.Types.{ℕ, _+_, _*_, List, [], _∷_, Master, Zero, One, Turn, Nobody, Claims, Owns, Switch, Apart, Initialising, Closed, Device, Raw, Event, Command, Write, Read, Stop, Pair, Lines, Tick, Pulse, Reset, GeneralCall, Decoded, Reads, UnknownKind, BadField, Answer, Stepped}
+use Rattle.arbiter.specs.Types.{ℕ, _+_, _*_, List, [], _∷_, Master, Zero, One, Turn, Nobody, Claims, Owns, Switch, Apart, Initialising, Closed, Device, Raw, Event, Command, Write, Read, Stop, Pair, Lines, Tick, Pulse, Reset, GeneralCall, Decoded, Reads, UnknownKind, BadField, OutOfSequence, Answer, Stepped}
 use Rattle.arbiter.specs.Words.{if_then_else_, worth, side}
 use Rattle.arbiter.specs.State.{isInitialising, sclHigh, sdaHigh}
 use Rattle.arbiter.specs.Registers.{readsAt, output}
-use Rattle.arbiter.specs.Events.{decode, inSequence, outcome, outcomeNumber}
+use Rattle.arbiter.specs.Events.{decode, decodedNumber, inSequence, outcome, outcomeNumber}
 use Rattle.arbiter.specs.Effects.{effect, powerUp}
 use Rattle.arbiter.specs.Order.{isReset, isTick, clockOf, levels, losses, cut, claim, grant, connect}
 
@@ -63,13 +63,13 @@ unfoldable pub taken : Event → Device → Stepped
 taken e d = record { device = parts e d; answer = answer (outcomeNumber (outcome e d)) (byteRead e d) (parts e d) }
 
 unfoldable pub stepEvent : Event → Device → Stepped
-stepEvent e d = if inSequence e d then taken e d else refused 4 d
+stepEvent e d = if inSequence e d then taken e d else refused (outcomeNumber OutOfSequence) d
 
 -- "an event that does not read as one is taken out first"
 unfoldable pub stepDecoded : Decoded → Device → Stepped
 stepDecoded (Reads e) d = stepEvent e d
-stepDecoded UnknownKind d = refused 2 d
-stepDecoded BadField d = refused 3 d
+stepDecoded UnknownKind d = refused (decodedNumber UnknownKind) d
+stepDecoded BadField d = refused (decodedNumber BadField) d
 
 unfoldable pub step : Device → Raw → Stepped
 step d r = stepDecoded (decode r) d

@@ -4,7 +4,7 @@ use mathlib.Core.Path.{_≡_, refl, ap, _∙_}
 use mathlib.Core.Bool.{Bool, true, false, not, _&&_, _||_}
 use Prim.Native.Nat.{ℕ}
 use lib.Dec.{eqb}
-use lib.Bits.{bitOr, or-zero-r}
+use lib.Bits.{bitOr}
 use Rattle.arbiter.specs.Words.{if_then_else_}
 use Rattle.arbiter.specs.Parts.{withContr, withInts, withIdle, withTurn}
 use Rattle.arbiter.specs.State.{atRest, ownsTurn}
@@ -19,13 +19,10 @@ use Rattle.arbiter.specs.declared.Side.{Side}
 use Rattle.arbiter.specs.declared.Arbitration.{Arbitration}
 use Rattle.arbiter.specs.declared.Device.{Device}
 use Rattle.parts.specs.Whole.{arbWith, deviceWith}
+use Rattle.registers.proofs.Laws.{unraised}
 use Rattle.arbitration.specs.Cleared.{claimsTurn, contrUnless}
 
 -- ---- one side
-
--- where nothing is raised, the code's `| 0` changes nothing
-unraised : (s : Side) → withInts (bitOr (s .ints) 0) s ≡ s
-unraised s = ap (λ (i : ℕ). withInts i s) (or-zero-r (s .ints))
 
 pub lost-side : (on : Bool) (s : Side) → withInts (raised lostInt on (s .ints)) (withContr (contrUnless on on (s .contr)) s) ≡ (if on then disconnected (loser s) else s)
 lost-side true s = refl

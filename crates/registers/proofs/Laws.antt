@@ -7,7 +7,7 @@ use lib.Dec.{eqb}
 use lib.Bits.{bitOr, or-zero-r}
 use Rattle.arbiter.specs.Words.{if_then_else_, bit}
 use Rattle.arbiter.specs.Parts.{withBusConnect, withContr, withRt, withInts, withMask, withPointer, withMail}
-use Rattle.arbiter.specs.Registers.{registerNumber, testInt, mailFullInt, raised, withdraws, controlOf, cleared, disconnected, released, ownWritten, mailWritten, drivesWritten, turnWritten}
+use Rattle.arbiter.specs.Registers.{registerNumber, testInt, mailFullInt, raised, withdraws, controlOf, cleared, disconnected, ownWritten, mailWritten, drivesWritten, turnWritten}
 use Rattle.arbiter.specs.Effects.{afterWrite, writeRisen}
 use Rattle.arbiter.specs.declared.Register.{Register}
 use Rattle.arbiter.specs.declared.Register.the-variants.{Id, Contr, Status, Rt, IntStatus, IntMask, MailLow, MailHigh}
@@ -15,6 +15,7 @@ use Rattle.arbiter.specs.declared.Turn.{Turn}
 use Rattle.arbiter.specs.declared.Turn.the-variants.{Nobody}
 use Rattle.arbiter.specs.declared.Side.{Side}
 use Rattle.arbiter.specs.declared.Bus.{Bus}
+use Rattle.bus.proofs.Laws.{released-law}
 use Rattle.registers.specs.Written.{contrWritten, intsWritten, mailAfter}
 
 -- ---- CONTR: BUS_CONNECT goes with the grant
@@ -76,18 +77,18 @@ own-alone granted MailLow v s = refl
 own-alone granted MailHigh v s = refl
 
 -- where the byte raises nothing, the code's `| 0` changes nothing
-no-test : (s : Side) → withInts (bitOr (s .ints) 0) s ≡ s
-no-test s = ap (λ (i : ℕ). withInts i s) (or-zero-r (s .ints))
+pub unraised : (s : Side) → withInts (bitOr (s .ints) 0) s ≡ s
+unraised s = ap (λ (i : ℕ). withInts i s) (or-zero-r (s .ints))
 
 literal-alone : (granted : Bool) (r : Register) (v : ℕ) (s : Side) → writerLiteral granted r v s ≡ withPointer (risenPointer s) (ownAlone granted r v s)
-literal-alone granted Id v s = ap (withPointer (risenPointer s)) (no-test s)
-literal-alone granted Contr v s = ap (λ (t : Side). withPointer (risenPointer s) (withContr (contrWritten granted v) t)) (no-test s)
+literal-alone granted Id v s = ap (withPointer (risenPointer s)) (unraised s)
+literal-alone granted Contr v s = ap (λ (t : Side). withPointer (risenPointer s) (withContr (contrWritten granted v) t)) (unraised s)
 literal-alone granted Status v s = refl
-literal-alone granted Rt v s = ap (λ (t : Side). withPointer (risenPointer s) (withRt (if not granted then v else s .rt) t)) (no-test s)
+literal-alone granted Rt v s = ap (λ (t : Side). withPointer (risenPointer s) (withRt (if not granted then v else s .rt) t)) (unraised s)
 literal-alone granted IntStatus v s = ap (λ (i : ℕ). withPointer (risenPointer s) (withInts (cleared v i) s)) (or-zero-r (s .ints))
-literal-alone granted IntMask v s = ap (λ (t : Side). withPointer (risenPointer s) (withMask (v % 128) t)) (no-test s)
-literal-alone granted MailLow v s = ap (withPointer (risenPointer s)) (no-test s)
-literal-alone granted MailHigh v s = ap (withPointer (risenPointer s)) (no-test s)
+literal-alone granted IntMask v s = ap (λ (t : Side). withPointer (risenPointer s) (withMask (v % 128) t)) (unraised s)
+literal-alone granted MailLow v s = ap (withPointer (risenPointer s)) (unraised s)
+literal-alone granted MailHigh v s = ap (withPointer (risenPointer s)) (unraised s)
 
 -- pointer and auto-increment are not the byte's business
 risen-alone : (granted : Bool) (r : Register) (v : ℕ) (s : Side) → withPointer (risenPointer s) (ownAlone granted r v s) ≡ writeRisen (ownAlone granted r v s)
@@ -111,15 +112,15 @@ mailLiteral r v s =
 
 mail-boxed : (r : Register) (v lo hi : ℕ) (full : Bool) (s : Side) → mailLiteral r v (withMail (record { low = lo; high = hi; full = full }) s) ≡ mailWritten r v (withMail (record { low = lo; high = hi; full = full }) s)
 unfolding mailWritten
-mail-boxed Id v lo hi full s = no-test (withMail (record { low = lo; high = hi; full = full }) s)
-mail-boxed Contr v lo hi full s = no-test (withMail (record { low = lo; high = hi; full = full }) s)
-mail-boxed Status v lo hi full s = no-test (withMail (record { low = lo; high = hi; full = full }) s)
-mail-boxed Rt v lo hi full s = no-test (withMail (record { low = lo; high = hi; full = full }) s)
-mail-boxed IntStatus v lo hi full s = no-test (withMail (record { low = lo; high = hi; full = full }) s)
-mail-boxed IntMask v lo hi full s = no-test (withMail (record { low = lo; high = hi; full = full }) s)
-mail-boxed MailLow v lo hi true s = no-test (withMail (record { low = lo; high = hi; full = true }) s)
-mail-boxed MailLow v lo hi false s = no-test (withMail (record { low = v; high = hi; full = false }) s)
-mail-boxed MailHigh v lo hi true s = no-test (withMail (record { low = lo; high = hi; full = true }) s)
+mail-boxed Id v lo hi full s = unraised (withMail (record { low = lo; high = hi; full = full }) s)
+mail-boxed Contr v lo hi full s = unraised (withMail (record { low = lo; high = hi; full = full }) s)
+mail-boxed Status v lo hi full s = unraised (withMail (record { low = lo; high = hi; full = full }) s)
+mail-boxed Rt v lo hi full s = unraised (withMail (record { low = lo; high = hi; full = full }) s)
+mail-boxed IntStatus v lo hi full s = unraised (withMail (record { low = lo; high = hi; full = full }) s)
+mail-boxed IntMask v lo hi full s = unraised (withMail (record { low = lo; high = hi; full = full }) s)
+mail-boxed MailLow v lo hi true s = unraised (withMail (record { low = lo; high = hi; full = true }) s)
+mail-boxed MailLow v lo hi false s = unraised (withMail (record { low = v; high = hi; full = false }) s)
+mail-boxed MailHigh v lo hi true s = unraised (withMail (record { low = lo; high = hi; full = true }) s)
 mail-boxed MailHigh v lo hi false s = refl
 
 pub mail-law : (r : Register) (v : ℕ) (s : Side) → mailLiteral r v s ≡ mailWritten r v s
@@ -136,11 +137,7 @@ drivesLiteral granted connect r v b =
 pub drives-law : (granted connect : Bool) (r : Register) (v : ℕ) (b : Bus) → drivesLiteral granted connect r v b ≡ drivesWritten granted connect r v b
 unfolding drivesWritten
 drives-law granted connect Id v b = refl
-drives-law granted connect Contr v b = go (granted && (bit 2 v || not (bit 0 v)))
-  where
-    go : (f : Bool) → record { outscl = b .outscl; outsda = b .outsda; intin = b .intin; drivescl = f || b .drivescl; drivesda = f || b .drivesda; busy = b .busy; hold = b .hold; idle = b .idle; lowscl = b .lowscl; lowsda = b .lowsda } ≡ (if f then released b else b)
-    go true = refl
-    go false = refl
+drives-law granted connect Contr v b = released-law (granted && (bit 2 v || not (bit 0 v))) b
 drives-law true true Status v b = refl
 drives-law true false Status v b = refl
 drives-law false connect Status v b = refl

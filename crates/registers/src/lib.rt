@@ -24,7 +24,7 @@ use parts::pointer_of;
 use parts::port_of;
 use parts::side_with;
 
-pub fn register_number(r: Register) -> u8
+fn register_number(r: Register) -> u8
     ensures { λ n. ⌜ n ≡ registerNumber r ⌝ }
 {
     match r {
@@ -87,7 +87,7 @@ pub fn raised_in(ints: u8, this: u8, happened: bool) -> u8
     ints | worth_of(this, happened)
 }
 
-pub fn int_status_byte(hung: bool, ints: u8) -> u8
+fn int_status_byte(hung: bool, ints: u8) -> u8
     ensures { λ r. ⌜ r ≡ intStatusByte hung ints ⌝ }
 {
     raised_in(ints, 0x40, hung)
@@ -126,7 +126,7 @@ pub fn register_byte(
 
 // ---- writing
 
-pub fn after_write(r: Register) -> Register
+fn after_write(r: Register) -> Register
     ensures { λ n. ⌜ n ≡ afterWrite r ⌝ }
 {
     match r {
