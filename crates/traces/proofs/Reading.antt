@@ -23,6 +23,9 @@ use Rattle.traces.specs.Bodies.{reportWith}
 
 -- ---- an accepted trace has passed every test
 
+abbrev pub Fits : List ℕ → ℕ → ℕ → Type 0
+Fits t room n = (7 + 4 * n ≤ length t) × (4 * n ≤ room) × (n ≤ mostEvents)
+
 not-both : (r : Refusal) (a n : ℕ) → Refused r ≡ Accepted a n → ⊥
 not-both r a n h = let z : _≡_ {A = ℕ} 0 1 = cc in omega arith
 
@@ -30,7 +33,7 @@ passed : (b : Bool) (r : Refusal) (y : TraceRead) (a n : ℕ) → (if b then Ref
 passed true r y a n h = absurd (not-both r a n h)
 passed false r y a n h = (refl, h)
 
-counted-fits : (x : ℕ) (t : List ℕ) (room a n : ℕ) → readCounted x t room ≡ Accepted a n → (7 + 4 * n ≤ length t) × (4 * n ≤ room)
+counted-fits : (x : ℕ) (t : List ℕ) (room a n : ℕ) → readCounted x t room ≡ Accepted a n → Fits t room n
 unfolding readCounted
 counted-fits x t room a n h =
     let p1 = passed (ltb (length t) headBytes) TraceCut _ a n h in
@@ -42,14 +45,15 @@ counted-fits x t room a n h =
     let e : countIn t ≡ n = cc in
     let whole : wholeBytes (countIn t) ≤ length t = ltb-false _ _ (p3 .0) in
     let room-for : 4 * countIn t ≤ room = ltb-false _ _ (p5 .0) in
-    (rw e at whole, rw e at room-for)
+    let few : countIn t ≤ mostEvents = ltb-false _ _ (p2 .0) in
+    (rw e at whole, rw e at room-for, rw e at few)
 
-strapped-fits : (s : Strapped) (t : List ℕ) (room a n : ℕ) → readStrapped s t room ≡ Accepted a n → (7 + 4 * n ≤ length t) × (4 * n ≤ room)
+strapped-fits : (s : Strapped) (t : List ℕ) (room a n : ℕ) → readStrapped s t room ≡ Accepted a n → Fits t room n
 unfolding readStrapped
 strapped-fits (Address x) t room a n h = counted-fits x t room a n h
 strapped-fits Unlisted t room a n h = absurd (not-both BadStraps a n h)
 
-pub accepted-fits : (t : List ℕ) (room a n : ℕ) → readTrace t room ≡ Accepted a n → (7 + 4 * n ≤ length t) × (4 * n ≤ room)
+pub accepted-fits : (t : List ℕ) (room a n : ℕ) → readTrace t room ≡ Accepted a n → Fits t room n
 unfolding readTrace
 accepted-fits t room a n h =
     let p1 = passed (ltb (length t) 1) TraceCut _ a n h in
@@ -74,3 +78,13 @@ refused-report t out r h = ap (λ (x : TraceRead). reportOf x t) (sym h)
 pub refused-buffer : (t out : List ℕ) (r : Refusal) → readTrace t (length out) ≡ Refused r → out ≡ bufferAfter t out
 unfolding bufferAfter bufferOf
 refused-buffer t out r h = ap (λ (x : TraceRead). bufferOf x t out) (sym h)
+
+-- ---- a report's count of events
+
+pub report-few : (t out : List ℕ) → report t out .events ≤ mostEvents
+unfolding report reportOf
+report-few t out = go (readTrace t (length out)) refl
+  where
+    go : (x : TraceRead) → readTrace t (length out) ≡ x → reportOf x t .events ≤ mostEvents
+    go (Accepted a n) h = accepted-fits t (length out) a n h .2
+    go (Refused r) h = omega arith

@@ -26,7 +26,8 @@ enum-known-read-2 c = search needs
 
 play-requires : tie.Need-play-requires
 play-requires c κs =
-    accepted-fits _ _ _ _ (sym (c .before .before .before .before .read-trace .ensures) ∙ c .before .before .read2 .given .1)
+    let fits = accepted-fits _ _ _ _ (sym (c .before .before .before .before .read-trace .ensures) ∙ c .before .before .read2 .given .1) in
+    (fits .0, fits .1)
 
 reported-requires-2 : tie.Need-reported-requires-2
 reported-requires-2 c κs = search needs

@@ -1,0 +1,59 @@
+// The library for Rust and C: traces and straps over numbers and byte slices. A slice passes as a pointer and then a length.
+ghost use Prim.Native.Nat.{_+_, _*_, _<_, _≤_};
+ghost use mathlib.Core.Path.{_≡_};
+ghost use lib.ListN.{length};
+ghost use Rattle.arbiter.specs.Straps.{addressOf, strapsOf};
+ghost use Rattle.arbiter.specs.Traces.{report, bufferAfter};
+ghost use Rattle.arbiter.specs.declared.Strapping.the-variants.{Straps};
+ghost use Rattle.gunwaleish.specs.Packed.{packedReport, packedAddress, packedPins};
+use arbiter::Pins;
+use arbiter::Strapped;
+use arbiter::Strapping;
+use straps::address_of;
+use straps::straps_of;
+use traces::run_trace;
+
+fn byte(x: u8) -> u64
+    ensures { λ r. ⌜ (r ≡ x) × (r < 256) ⌝ }
+{
+    x as u64
+}
+
+// A whole trace into a lent answer buffer.
+#[no_mangle]
+pub extern "C" fn gunwaleish_run_trace(t: &[u8], out: &mut [u8]) -> u64
+    ensures { λ r. ⌜ (r ≡ packedReport (report (now (t .entry)) (now (out .entry)))) × (now (out .exit) ≡ bufferAfter (now (t .entry)) (now (out .entry))) ⌝ }
+{
+    let r = run_trace(t, out);
+    byte(r.number) + 256 * byte(r.address) + 65536 * (r.events as u64)
+}
+
+// The address of four pins.
+#[no_mangle]
+pub extern "C" fn gunwaleish_address_of(ad3: u8, ad2: u8, ad1: u8, ad0: u8) -> u32
+    ensures { λ r. ⌜ r ≡ packedAddress (addressOf (record { ad3 = ad3; ad2 = ad2; ad1 = ad1; ad0 = ad0 })) ⌝ }
+{
+    let found = address_of(Pins { ad3, ad2, ad1, ad0 });
+    match found {
+        Strapped::Address(address) => 256 * (address as u32),
+        Strapped::Unlisted => 8,
+    }
+}
+
+fn packed_pins(p: Pins) -> u64
+    ensures { λ r. ⌜ r ≡ packedPins (Straps p) ⌝ }
+{
+    256 * byte(p.ad3) + 65536 * byte(p.ad2) + 16777216 * byte(p.ad1) + 4294967296 * byte(p.ad0)
+}
+
+// The pins of an address.
+#[no_mangle]
+pub extern "C" fn gunwaleish_pins_of(address: u8) -> u64
+    ensures { λ r. ⌜ r ≡ packedPins (strapsOf address) ⌝ }
+{
+    let found = straps_of(address);
+    match found {
+        Strapping::Straps(pins) => packed_pins(pins),
+        Strapping::Outside => 11,
+    }
+}
