@@ -1,9 +1,11 @@
 // The library for Rust and C: traces and straps over numbers and byte slices. A slice passes as a pointer and then a length.
-ghost use Prim.Native.Nat.{_+_, _*_, _<_, _≤_};
+ghost use Prim.Native.Nat.{_<_};
 ghost use mathlib.Core.Path.{_≡_};
 ghost use lib.ListN.{length};
 ghost use Rattle.arbiter.specs.Straps.{addressOf, strapsOf};
 ghost use Rattle.arbiter.specs.Traces.{report, bufferAfter};
+ghost use Rattle.arbiter.specs.Listing.{listing};
+ghost use Rattle.text.specs.Written.{textAfter};
 ghost use Rattle.arbiter.specs.declared.Strapping.the-variants.{Straps};
 ghost use Rattle.gunwaleish.specs.Packed.{packedReport, packedAddress, packedPins};
 use arbiter::Pins;
@@ -11,6 +13,7 @@ use arbiter::Strapped;
 use arbiter::Strapping;
 use straps::address_of;
 use straps::straps_of;
+use text::list_trace;
 use traces::run_trace;
 
 fn byte(x: u8) -> u64
@@ -26,6 +29,14 @@ pub extern "C" fn gunwaleish_run_trace(t: &[u8], out: &mut [u8]) -> u64
 {
     let r = run_trace(t, out);
     byte(r.number) + 256 * byte(r.address) + 65536 * (r.events as u64)
+}
+
+// The listing of a trace into a lent buffer: its length, and the text where it fits.
+#[no_mangle]
+pub extern "C" fn gunwaleish_listing(t: &[u8], text: &mut [u8]) -> usize
+    ensures { λ r. ⌜ (r ≡ length (listing (now (t .entry)))) × (now (text .exit) ≡ textAfter (now (t .entry)) (now (text .entry))) ⌝ }
+{
+    list_trace(t, text)
 }
 
 // The address of four pins.
