@@ -1,3 +1,4 @@
 pub mod Stores
 pub mod Lines
 pub mod Listed
+pub mod Long

@@ -18,6 +18,7 @@ use Rattle.arbiter.specs.declared.TraceRead.{TraceRead}
 use Rattle.arbiter.specs.declared.TraceRead.the-variants.{Accepted, Refused}
 use Rattle.traces.proofs.Reading.{accepted-fits}
 use Rattle.text.specs.Written.{linesIn, refusalLine}
+use Rattle.text.proofs.Lines.{listed-length}
 
 -- ---- answers as bytes, and as lines
 
@@ -52,6 +53,27 @@ two-digits BytesAfterEnd = omega arith
 two-digits BadStraps = omega arith
 two-digits NoRoom = omega arith
 two-digits BadCount = omega arith
+
+refusal-short : (r : Refusal) → length (refusalLine (refusalNumber r)) ≤ 4
+refusal-short TraceCut = omega arith
+refusal-short TooManyEvents = omega arith
+refusal-short BytesAfterEnd = omega arith
+refusal-short BadStraps = omega arith
+refusal-short NoRoom = omega arith
+refusal-short BadCount = omega arith
+
+-- ---- no listing is longer than that of 4,096 events
+
+pub listing-short : (t : List ℕ) → length (listing t) ≤ 36872
+unfolding listing listingOf
+listing-short t = go (readTrace t 16384) refl
+  where
+    go : (x : TraceRead) → readTrace t 16384 ≡ x → length (listingOf x t) ≤ 36872
+    go (Accepted a n) h =
+        let few = accepted-fits t 16384 a n h .2 in
+        let l = ap length (ap (λ (l : List ℕ). headLine a n ++ l) (lines-in n t [])) ∙ sym (listed-length a n (bytesOf (answersIn n t) ++ [])) in
+        omega (arith, few, l)
+    go (Refused r) h = omega (arith, refusal-short r)
 
 -- ---- a trace run with room for the answers of any
 

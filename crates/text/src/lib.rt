@@ -140,8 +140,10 @@ fn list_by(t: &[u8], answers: &mut [u8], text: &mut [u8]) -> usize
     }
 }
 
-// The listing of any byte sequence. The result is its length; it is written if it fits into the lent buffer, and else the buffer stays.
+// The listing of any byte sequence. The result is its length, at most 8 + 9 * 4096; it is written if it fits into the lent buffer, and else
+// the buffer stays.
 pub fn list_trace(t: &[u8], text: &mut [u8]) -> usize
+    ensures { λ r. ⌜ r ≤ 36872 ⌝ }
     ensures { λ r. ⌜ (r ≡ length (listing (now (t .entry)))) × (now (text .exit) ≡ textAfter (now (t .entry)) (now (text .entry))) ⌝ }
 {
     let mut answers = answer_room();
