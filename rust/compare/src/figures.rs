@@ -51,7 +51,7 @@ impl Figures {
     /// Counts a comparison that has no trace.
     pub fn note(&mut self, result: Result<(), Difference>) {
         if let Err(difference) = result {
-            self.tell(&[], &difference);
+            self.tell_only(&difference);
         }
     }
 
@@ -68,10 +68,18 @@ impl Figures {
     }
 
     fn tell(&mut self, trace: &[u8], difference: &str) {
-        self.mismatches += 1;
+        // Once enough is told, no more files are kept.
         if self.told.len() < TOLD {
             let bytes = if trace.len() <= SHORT { hex(trace) } else { kept(trace, self.seed) };
-            self.told.push(format!("seed {}: {difference}\n  trace:   {bytes}", self.seed));
+            return self.tell_only(&format!("{difference}\n  trace:   {bytes}"));
+        }
+        self.tell_only(difference);
+    }
+
+    fn tell_only(&mut self, difference: &str) {
+        self.mismatches += 1;
+        if self.told.len() < TOLD {
+            self.told.push(format!("seed {}: {difference}", self.seed));
         }
     }
 
@@ -128,7 +136,7 @@ impl fmt::Display for Figures {
     }
 }
 
-/// Keeps a long trace as a file where the program runs, and says its name.
+/// Keeps a long trace as a file among the temporary ones, and says its name.
 fn kept(trace: &[u8], seed: u64) -> String {
     let name = format!("mismatch-{seed}-{}.trace", trace.len());
     let path = std::env::temp_dir().join(name);
