@@ -4,11 +4,12 @@
 //! `cargo run --release --offline --manifest-path rust/gunwaleish/Cargo.toml --example incident`
 
 use std::path::PathBuf;
+use std::process::ExitCode;
 use std::{env, fs};
 
 const TICK: u8 = 6;
 
-fn main() {
+fn main() -> ExitCode {
     let mut traces: Vec<PathBuf> = env::args_os().skip(1).map(PathBuf::from).collect();
     if traces.is_empty() {
         let folder = PathBuf::from("traces");
@@ -18,9 +19,13 @@ fn main() {
         println!("{}", path.display());
         match fs::read(&path) {
             Ok(trace) => tell(&trace),
-            Err(error) => println!("  cannot be read: {error}"),
+            Err(error) => {
+                println!("  cannot be read: {error}");
+                return ExitCode::FAILURE;
+            }
         }
     }
+    ExitCode::SUCCESS
 }
 
 /// Says in words when the bus changed hands.
