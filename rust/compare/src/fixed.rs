@@ -1,5 +1,7 @@
 //! Calls that are few enough to try them all.
 
+use model::stored::stored_traces;
+
 use crate::check::{check_address_of, check_pins_of};
 use crate::figures::Figures;
 
@@ -11,6 +13,14 @@ pub fn short_strings(figures: &mut Figures) {
     for bytes in strings {
         figures.run(&bytes, 16);
         figures.list(&bytes);
+    }
+}
+
+/// The traces that the repository keeps as files, run and listed.
+pub fn kept_traces(figures: &mut Figures) {
+    for trace in stored_traces() {
+        figures.run(&trace, trace.len());
+        figures.list(&trace);
     }
 }
 

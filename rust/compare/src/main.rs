@@ -2,7 +2,7 @@
 
 use std::thread;
 
-use compare::fixed::{all_addresses, all_pins, short_strings};
+use compare::fixed::{all_addresses, all_pins, kept_traces, short_strings};
 use compare::{clock_seed, round, seed_or, Figures};
 use model::traces::seed_of;
 
@@ -20,6 +20,7 @@ fn main() {
     let seed = seed_or(clock_seed());
     println!("seed {seed}, {rounds} rounds");
     let mut figures = all_rounds(seed, rounds);
+    kept_traces(&mut figures);
     short_strings(&mut figures);
     all_pins(&mut figures);
     all_addresses(&mut figures);

@@ -3,7 +3,7 @@
 
 use std::io::Write;
 
-use compare::fixed::{all_addresses, all_pins, short_strings};
+use compare::fixed::{all_addresses, all_pins, kept_traces, short_strings};
 use compare::{clock_seed, round, seed_or, Figures};
 use model::traces::seed_of;
 
@@ -39,6 +39,11 @@ fn the_same_cases_every_time() {
 #[test]
 fn new_cases_each_time() {
     compare_rounds(seed_or(clock_seed()));
+}
+
+#[test]
+fn traces_that_are_kept_as_files() {
+    check_all(kept_traces);
 }
 
 #[test]
