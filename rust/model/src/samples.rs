@@ -23,15 +23,35 @@ const TAKE: u8 = BUS_CONNECT | LOCK_REQ;
 const SHELF: u8 = 0x71;
 
 pub fn samples() -> Vec<Sample> {
-    let sample = |name, shows, trace| Sample { name, shows, trace };
-    let on_shelf = |name, shows, events: Vec<Bytes>| sample(name, shows, on_the_shelf(&events));
-    vec![
+    let mut all = vec![sample(
+        "m1",
+        "M1 of document 01: master 0 asks for the bus, is granted it at its STOP, and reads CONTR",
+        m1(),
+    )];
+    all.extend(on_the_shelf());
+    all.extend(refused());
+    all
+}
+
+fn sample(name: &'static str, shows: &'static str, trace: Vec<u8>) -> Sample {
+    Sample { name, shows, trace }
+}
+
+fn refused() -> [Sample; 2] {
+    [
+        sample("refused-cut", "M1 without its last byte: refusal 5", m1()[..22].to_vec()),
         sample(
-            "m1",
-            "M1 of document 01: master 0 asks for the bus, is granted it at its STOP, and reads \
-             CONTR",
-            m1(),
+            "refused-strap",
+            "M10 of document 01, a strapping that no address has: refusal 8",
+            trace_of([1, 0, 0, 0], &[tick()]),
         ),
+    ]
+}
+
+fn on_the_shelf() -> Vec<Sample> {
+    let pins = pins_of(SHELF).unwrap_or_default();
+    let on_shelf = |name, shows, events: Vec<Bytes>| sample(name, shows, trace_of(pins, &events));
+    vec![
         on_shelf(
             "box14-rt00",
             "box 14 left empty: master 0 takes the bus with RT 00h and stalls; its partner waits \
@@ -61,17 +81,7 @@ pub fn samples() -> Vec<Sample> {
              priority, master 1 wins",
             pair_of_requests(),
         ),
-        sample("refused-cut", "M1 without its last byte: refusal 5", m1()[..22].to_vec()),
-        sample(
-            "refused-strap",
-            "M10 of document 01, a strapping that no address has: refusal 8",
-            trace_of([1, 0, 0, 0], &[tick()]),
-        ),
     ]
-}
-
-fn on_the_shelf(events: &[Bytes]) -> Vec<u8> {
-    trace_of(pins_of(SHELF).unwrap_or_default(), events)
 }
 
 fn m1() -> Vec<u8> {
