@@ -122,8 +122,8 @@ impl fmt::Display for Figures {
         let kinds = KINDS.iter().filter(|kind| self.happenings.count(kind) > 0).count();
         writeln!(
             f,
-            "seed {}: {} traces accepted with {} events, {refused} refused ({}), {} listings, {kinds} \
-             of {} kinds of happening, {} mismatches",
+            "seed {}: {} traces accepted with {} events, {refused} refused ({}), {} listings, \
+             {kinds} of {} kinds of happening, {} mismatches",
             self.seed,
             self.accepted,
             self.events,
