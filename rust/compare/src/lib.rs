@@ -25,6 +25,8 @@ pub fn clock_seed() -> u64 {
 
 /// The seed that the variable SEED names, or else the given one.
 pub fn seed_or(otherwise: u64) -> u64 {
-    let named = std::env::var("SEED").ok();
-    named.and_then(|text| text.parse().ok()).unwrap_or(otherwise)
+    match std::env::var("SEED") {
+        Ok(text) => text.parse().expect("SEED has to be a number"),
+        Err(_) => otherwise,
+    }
 }
