@@ -54,6 +54,13 @@ impl Happenings {
         self.counts.keys().map(|kind| kind.as_str())
     }
 
+    /// Adds what was counted elsewhere.
+    pub fn add(&mut self, other: &Happenings) {
+        for (kind, count) in &other.counts {
+            *self.counts.entry(kind.clone()).or_insert(0) += count;
+        }
+    }
+
     fn note(&mut self, condition: bool, kind: &str) {
         if condition {
             *self.counts.entry(kind.to_string()).or_insert(0) += 1;

@@ -12,6 +12,7 @@
 //! - `step`: one event, in the order of "Order inside a step".
 //! - `trace`: whole traces and the listing ("Answers and the trace").
 //! - `rng`, `phrases`, `traces`, `damage`, `happenings`, `kinds`: random cases for the tests.
+//! - `samples`, `stored`: the traces that the repository keeps as files.
 
 pub mod bytes;
 pub mod damage;
@@ -21,7 +22,9 @@ pub mod happenings;
 pub mod kinds;
 pub mod phrases;
 pub mod rng;
+pub mod samples;
 pub mod step;
+pub mod stored;
 pub mod straps;
 pub mod trace;
 pub mod traces;

@@ -1,0 +1,66 @@
+/* Lists a trace, says in words who owns the bus at its end, and shows straps both ways.
+ * Usage: example TRACE-FILE */
+#include <stdio.h>
+
+#include "gunwaleish.h"
+
+/* One byte more than the longest trace, so that a file with bytes after the end is refused with 7 and not cut to fit. */
+static uint8_t trace[7 + GUNWALEISH_MOST_ANSWERS + 1];
+static uint8_t answers[GUNWALEISH_MOST_ANSWERS];
+static uint8_t text[GUNWALEISH_MOST_TEXT];
+
+static const char *const owners[4] = {"nobody", "master 0", "master 1", "?"};
+
+static void show_trace(size_t length) {
+    size_t listed = gunwaleish_listing(trace, length, text, sizeof text);
+    if (listed <= sizeof text) {
+        fwrite(text, 1, listed, stdout);
+    }
+    uint64_t report = gunwaleish_run_trace(trace, length, answers, sizeof answers);
+    if (gunwaleish_number(report) != 0) {
+        printf("refused, number %u\n", gunwaleish_number(report));
+        return;
+    }
+    size_t events = gunwaleish_events(report);
+    printf("address %02Xh, %zu events\n", gunwaleish_address(report), events);
+    if (events > 0) {
+        printf("at the end the bus is owned by %s\n", owners[answers[4 * events - 2] & 3]);
+    }
+}
+
+static void show_address(uint8_t ad3, uint8_t ad2, uint8_t ad1, uint8_t ad0) {
+    uint32_t packed = gunwaleish_address_of(ad3, ad2, ad1, ad0);
+    printf("straps %u,%u,%u,%u: ", ad3, ad2, ad1, ad0);
+    if (gunwaleish_number(packed) != 0) {
+        printf("no address, number %u\n", gunwaleish_number(packed));
+    } else {
+        printf("%02Xh\n", gunwaleish_address(packed));
+    }
+}
+
+static void show_pins(uint8_t address) {
+    uint64_t packed = gunwaleish_pins_of(address);
+    printf("address %02Xh: ", address);
+    if (gunwaleish_number(packed) != 0) {
+        printf("no strapping, number %u\n", gunwaleish_number(packed));
+    } else {
+        printf("straps %u,%u,%u,%u\n", gunwaleish_pin(packed, 3), gunwaleish_pin(packed, 2), gunwaleish_pin(packed, 1),
+               gunwaleish_pin(packed, 0));
+    }
+}
+
+int main(int argc, char **argv) {
+    FILE *file = argc == 2 ? fopen(argv[1], "rb") : NULL;
+    if (file == NULL) {
+        fprintf(stderr, "usage: example TRACE-FILE, which can be read\n");
+        return 2;
+    }
+    size_t length = fread(trace, 1, sizeof trace, file);
+    fclose(file);
+    show_trace(length);
+    show_address(1, 1, 1, 3);
+    show_address(1, 0, 0, 0);
+    show_pins(0x0F);
+    show_pins(0x78);
+    return 0;
+}

@@ -1,0 +1,49 @@
+//! Whole traces for the plain stepper.
+
+use crate::registers::Device;
+
+const MOST_EVENTS: usize = 4096;
+
+/// Runs a trace and writes four answer bytes an event. Gives address and count, or the number of
+/// the refusal, which leaves the answers as they are.
+pub fn run_trace(trace: &[u8], answers: &mut [u8]) -> Result<(u8, usize), u8> {
+    let (address, events) = read(trace, answers.len())?;
+    let mut device = Device::fresh();
+    for (event, answer) in events.chunks_exact(4).zip(answers.chunks_exact_mut(4)) {
+        answer.copy_from_slice(&device.step([event[0], event[1], event[2], event[3]]));
+    }
+    Ok((address, events.len() / 4))
+}
+
+/// The address and the bytes of the events.
+fn read(trace: &[u8], room: usize) -> Result<(u8, &[u8]), u8> {
+    let (&pins, rest) = match trace {
+        [] => return Err(5),
+        [4, rest @ ..] => rest.split_first_chunk::<4>().ok_or(5)?,
+        _ => return Err(10),
+    };
+    let address = address_of(pins).ok_or(8)?;
+    let (&count, events) = rest.split_first_chunk::<2>().ok_or(5)?;
+    let n = usize::from(u16::from_le_bytes(count));
+    match () {
+        _ if n > MOST_EVENTS => Err(6),
+        _ if events.len() < 4 * n => Err(5),
+        _ if events.len() > 4 * n => Err(7),
+        _ if room < 4 * n => Err(9),
+        _ => Ok((address, events)),
+    }
+}
+
+/// The class of AD2 AD1 AD0 as a number, a resistor counting 1, gives the first address of eight.
+fn address_of(pins: [u8; 4]) -> Option<u8> {
+    let [ad3, ad2, ad1, ad0] = pins;
+    if ad3 > 1 || ad2 > 3 || ad1 > 3 || ad0 > 3 {
+        return None;
+    }
+    let low = (ad2 & 1) << 2 | (ad1 & 1) << 1 | ad0 & 1;
+    match (((ad2 >> 1) << 2 | (ad1 >> 1) << 1 | ad0 >> 1), ad3) {
+        (0, 0) => Some(0x70 | low),
+        (0, _) | (1, 0) => None,
+        (class, _) => Some((class - 1) << 4 | ad3 << 3 | low),
+    }
+}

@@ -1,0 +1,87 @@
+//! Random calls, good and damaged, in rounds. A round is the same for the same seed.
+
+use model::damage::{damage, ALL_DAMAGES};
+use model::rng::Rng;
+use model::straps::pins_of;
+use model::trace::MOST_EVENTS;
+use model::traces::{trace, trace_of};
+
+use crate::figures::Figures;
+
+/// Compares one round of cases: some 55 good traces with 16,000 events and seven times as many
+/// damaged ones.
+pub fn round(seed: u64, figures: &mut Figures) {
+    let mut rng = Rng::new(seed);
+    for length in lengths(&mut rng) {
+        good_and_damaged(&mut rng, length, figures);
+    }
+    too_long(figures);
+    for _ in 0..60 {
+        let bytes = strange(&mut rng);
+        let room = rng.below(180) as usize;
+        figures.run(&bytes, room);
+        figures.list(&bytes);
+    }
+}
+
+/// Many short traces and a few long ones. A bus hangs only in those of 700 events and more.
+fn lengths(rng: &mut Rng) -> Vec<usize> {
+    let ranges = [(0, 60, 30), (61, 699, 8), (700, 2000, 4), (2001, 4096, 1), (4090, 4096, 1)];
+    let mut lengths = vec![];
+    for (fewest, most, count) in ranges {
+        lengths.extend((0..count).map(|_| rng.between(fewest, most) as usize));
+    }
+    lengths
+}
+
+/// One good trace, and damaged ones out of it: every kind if it is short, else any one.
+fn good_and_damaged(rng: &mut Rng, length: usize, figures: &mut Figures) {
+    let seed = rng.below(1 << 31) << 31 | rng.below(1 << 31);
+    let good = trace(seed, length);
+    figures.run(&good, 4 * length + rng.pick(&[0, 0, 1, 3, 64]));
+    if length <= 60 || rng.percent(20) {
+        figures.list(&good);
+    }
+    let any = rng.pick(&ALL_DAMAGES);
+    for kind in ALL_DAMAGES {
+        if length > 0 && (length <= 60 || kind == any) {
+            let refused = damage(rng, &good, kind);
+            figures.run(&refused.trace, refused.room);
+            figures.list(&refused.trace);
+        }
+    }
+}
+
+/// One event too many, with all its bytes there.
+fn too_long(figures: &mut Figures) {
+    let bytes = trace_of([0; 4], &[[6, 0, 0, 0]; MOST_EVENTS + 1]);
+    figures.run(&bytes, 4 * (MOST_EVENTS + 1));
+}
+
+/// Bytes that nobody made as a trace: any bytes, a good head with any rest, or a good frame
+/// around events of any bytes.
+fn strange(rng: &mut Rng) -> Vec<u8> {
+    let any = |rng: &mut Rng, most: u64| -> Vec<u8> {
+        (0..rng.below(most + 1)).map(|_| rng.byte()).collect()
+    };
+    match rng.below(3) {
+        0 => any(rng, 40),
+        1 => {
+            let mut bytes = vec![4];
+            let above = rng.pick(&[4, 4, 5]);
+            bytes.extend((0..rng.between(0, 4)).map(|_| rng.below(above) as u8));
+            bytes.extend([rng.below(12) as u8, rng.pick(&[0, 0, 0, 16, 255])]);
+            bytes.extend(any(rng, 60));
+            bytes
+        }
+        _ => {
+            let pins = pins_of(rng.between(0x08, 0x77) as u8).unwrap_or_default();
+            let count = rng.between(0, 40);
+            let event = |rng: &mut Rng| {
+                [rng.below(11) as u8, rng.below(3) as u8, rng.byte() & rng.byte(), 0]
+            };
+            let events: Vec<[u8; 4]> = (0..count).map(|_| event(rng)).collect();
+            trace_of(pins, &events)
+        }
+    }
+}

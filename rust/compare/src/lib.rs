@@ -1,0 +1,32 @@
+//! Compares the proved library with the independent model, call by call, through the library's
+//! boundary: packed numbers, every answer byte, every byte that has to stay, every letter of a
+//! listing.
+//!
+//! - `check`: one call of each kind on both sides, and what differs.
+//! - `words`: events and answers in words, for what differs.
+//! - `cases`: random calls, good and damaged, in rounds.
+//! - `fixed`: calls that are few enough to try them all.
+//! - `figures`: how many there were, what happened in them, and what never did.
+
+pub mod cases;
+pub mod check;
+pub mod figures;
+pub mod fixed;
+pub mod words;
+
+pub use cases::round;
+pub use figures::Figures;
+
+/// A seed from the clock, for runs that are to differ from each other.
+pub fn clock_seed() -> u64 {
+    let since = std::time::SystemTime::now().duration_since(std::time::UNIX_EPOCH);
+    since.map_or(1, |time| time.as_nanos() as u64 % 1_000_000_000)
+}
+
+/// The seed that the variable SEED names, or else the given one.
+pub fn seed_or(otherwise: u64) -> u64 {
+    match std::env::var("SEED") {
+        Ok(text) => text.parse().expect("SEED has to be a number"),
+        Err(_) => otherwise,
+    }
+}

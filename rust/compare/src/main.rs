@@ -1,0 +1,53 @@
+//! compare [ROUNDS]: the long comparison. SEED=n repeats a run; without it the clock chooses.
+
+use std::thread;
+
+use compare::fixed::{all_addresses, all_pins, kept_traces, short_strings};
+use compare::{clock_seed, round, seed_or, Figures};
+use model::traces::seed_of;
+
+const USUAL_ROUNDS: u64 = 20_000;
+
+fn main() {
+    let rounds = match std::env::args().nth(1).map(|word| word.parse()) {
+        None => USUAL_ROUNDS,
+        Some(Ok(rounds)) => rounds,
+        Some(Err(_)) => {
+            eprintln!("usage: [SEED=n] compare [ROUNDS]");
+            std::process::exit(2);
+        }
+    };
+    let seed = seed_or(clock_seed());
+    println!("seed {seed}, {rounds} rounds");
+    let mut figures = all_rounds(seed, rounds);
+    kept_traces(&mut figures);
+    short_strings(&mut figures);
+    all_pins(&mut figures);
+    all_addresses(&mut figures);
+    print!("{figures}{}", figures.happenings());
+    let never = figures.never();
+    if !never.is_empty() {
+        println!("NEVER OCCURRED: {}", never.join("; "));
+    }
+    std::process::exit(i32::from(!figures.agree() || !never.is_empty()));
+}
+
+/// All rounds, dealt out to as many threads as the machine runs at once.
+fn all_rounds(seed: u64, rounds: u64) -> Figures {
+    let threads = thread::available_parallelism().map_or(1, |count| count.get() as u64);
+    let part = |first: u64| {
+        let mut figures = Figures::new(seed);
+        (first..rounds)
+            .step_by(threads as usize)
+            .for_each(|place| round(seed_of(seed, place), &mut figures));
+        figures
+    };
+    let mut all = Figures::new(seed);
+    thread::scope(|scope| {
+        let running: Vec<_> = (0..threads).map(|first| scope.spawn(move || part(first))).collect();
+        for thread in running {
+            all.add(thread.join().expect("a thread of the comparison ended early"));
+        }
+    });
+    all
+}

@@ -1,0 +1,62 @@
+//! The quick set: part of the gate. Half its cases are the same in every run, half are new.
+//! Figures go straight to standard error, so that a run that passes shows them too.
+
+use std::io::Write;
+
+use compare::fixed::{all_addresses, all_pins, kept_traces, short_strings};
+use compare::{clock_seed, round, seed_or, Figures};
+use model::traces::seed_of;
+
+const ROUNDS: u64 = 1000;
+
+/// Compares so many rounds. Every kind of happening and every refusal has to occur.
+fn compare_rounds(seed: u64) {
+    say(&format!("comparing the library with the model, seed {seed}\n"));
+    let mut figures = Figures::new(seed);
+    (0..ROUNDS).for_each(|place| round(seed_of(seed, place), &mut figures));
+    say(&figures.to_string());
+    assert!(figures.agree(), "{figures}");
+    let never = figures.never();
+    assert!(never.is_empty(), "never occurred: {never:?}");
+}
+
+fn say(text: &str) {
+    // If standard error is closed, the assertions still speak.
+    let _ = std::io::stderr().write_all(text.as_bytes());
+}
+
+fn check_all(check: fn(&mut Figures)) {
+    let mut figures = Figures::new(0);
+    check(&mut figures);
+    assert!(figures.agree(), "{figures}");
+}
+
+#[test]
+fn the_same_cases_every_time() {
+    compare_rounds(14);
+}
+
+#[test]
+fn new_cases_each_time() {
+    compare_rounds(seed_or(clock_seed()));
+}
+
+#[test]
+fn traces_that_are_kept_as_files() {
+    check_all(kept_traces);
+}
+
+#[test]
+fn every_string_of_up_to_two_bytes() {
+    check_all(short_strings);
+}
+
+#[test]
+fn pins_to_address() {
+    check_all(all_pins);
+}
+
+#[test]
+fn address_to_pins() {
+    check_all(all_addresses);
+}

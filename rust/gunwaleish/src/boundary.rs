@@ -1,0 +1,52 @@
+//! The four functions of the library as C declares them, and one safe call of each, which gives
+//! the library's packed number as it is. The functions at the crate's root take it apart.
+//!
+//! This is the only file with `unsafe`. Every call is sound for the same four reasons. A Rust
+//! slice passes as its pointer and its length, as the library asks. The pointer of a Rust slice
+//! is never null, also that of an empty one. A `&[u8]` and a `&mut [u8]` never overlap. And the
+//! library is proved to read and write inside the slices alone, to keep nothing of them, and to
+//! end.
+
+extern "C" {
+    fn gunwaleish_run_trace(
+        trace: *const u8,
+        trace_len: usize,
+        answers: *mut u8,
+        answers_len: usize,
+    ) -> u64;
+    fn gunwaleish_address_of(ad3: u8, ad2: u8, ad1: u8, ad0: u8) -> u32;
+    fn gunwaleish_pins_of(address: u8) -> u64;
+    fn gunwaleish_listing(
+        trace: *const u8,
+        trace_len: usize,
+        text: *mut u8,
+        text_len: usize,
+    ) -> usize;
+}
+
+/// The number, then the address, then the count of events, packed as 1, 256 and 65536.
+pub fn run_trace(trace: &[u8], answers: &mut [u8]) -> u64 {
+    // SAFETY: see the head of this file.
+    unsafe {
+        gunwaleish_run_trace(trace.as_ptr(), trace.len(), answers.as_mut_ptr(), answers.len())
+    }
+}
+
+/// The number, then the address.
+pub fn address_of(pins: [u8; 4]) -> u32 {
+    let [ad3, ad2, ad1, ad0] = pins;
+    // SAFETY: only numbers pass.
+    unsafe { gunwaleish_address_of(ad3, ad2, ad1, ad0) }
+}
+
+/// The number, then the codes of AD3, AD2, AD1 and AD0, a byte each.
+pub fn pins_of(address: u8) -> u64 {
+    // SAFETY: only a number passes.
+    unsafe { gunwaleish_pins_of(address) }
+}
+
+/// The length of the listing. It is in `text` only if it fits there.
+pub fn listing(trace: &[u8], text: &mut [u8]) -> usize {
+    // SAFETY: see the head of this file.
+    unsafe { gunwaleish_listing(trace.as_ptr(), trace.len(), text.as_mut_ptr(), text.len()) }
+}

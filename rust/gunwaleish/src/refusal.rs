@@ -1,0 +1,74 @@
+//! Why a call was refused, by document 01's numbers.
+
+use std::fmt;
+
+/// A refusal of a whole call. The library keeps to document 01's numbers, and so does `number`.
+#[derive(Clone, Copy, Debug, PartialEq, Eq)]
+pub enum Refusal {
+    /// 5: the trace ends too early.
+    TraceCut,
+    /// 6: the trace's count is above 4,096.
+    TooManyEvents,
+    /// 7: there are bytes after the last event.
+    BytesAfterEnd,
+    /// 8: a pin code is above 3, or the strapping has no address.
+    NoSuchStrapping,
+    /// 9: the answers need four bytes an event, and there is less room.
+    TooLittleRoom,
+    /// 10: the first byte, the count of pins, is not 4.
+    FirstCountNotFour,
+    /// 11: the address is not one of 08h to 77h.
+    AddressOutside,
+    /// A number that document 01 does not have here. The proved library never gives one. It
+    /// stands here so that nothing has to panic if some other library is linked in its place.
+    Unknown(u8),
+}
+
+impl Refusal {
+    /// The refusal of this number. 0 is no refusal.
+    pub(crate) fn of(number: u8) -> Option<Refusal> {
+        Some(match number {
+            0 => return None,
+            5 => Refusal::TraceCut,
+            6 => Refusal::TooManyEvents,
+            7 => Refusal::BytesAfterEnd,
+            8 => Refusal::NoSuchStrapping,
+            9 => Refusal::TooLittleRoom,
+            10 => Refusal::FirstCountNotFour,
+            11 => Refusal::AddressOutside,
+            other => Refusal::Unknown(other),
+        })
+    }
+
+    /// Document 01's number.
+    pub fn number(self) -> u8 {
+        match self {
+            Refusal::TraceCut => 5,
+            Refusal::TooManyEvents => 6,
+            Refusal::BytesAfterEnd => 7,
+            Refusal::NoSuchStrapping => 8,
+            Refusal::TooLittleRoom => 9,
+            Refusal::FirstCountNotFour => 10,
+            Refusal::AddressOutside => 11,
+            Refusal::Unknown(number) => number,
+        }
+    }
+}
+
+impl fmt::Display for Refusal {
+    fn fmt(&self, f: &mut fmt::Formatter) -> fmt::Result {
+        let line = match self {
+            Refusal::TraceCut => "the trace is cut: bytes are missing at its end",
+            Refusal::TooManyEvents => "the trace has more than 4,096 events",
+            Refusal::BytesAfterEnd => "there are bytes after the trace's last event",
+            Refusal::NoSuchStrapping => "a pin code is above 3, or the strapping has no address",
+            Refusal::TooLittleRoom => "there is less room than four answer bytes an event",
+            Refusal::FirstCountNotFour => "the trace's first byte, the count of pins, is not 4",
+            Refusal::AddressOutside => "the address is not one of 08h to 77h",
+            Refusal::Unknown(_) => "the library gave a number that document 01 does not have here",
+        };
+        write!(f, "refusal {}: {line}", self.number())
+    }
+}
+
+impl std::error::Error for Refusal {}

@@ -1,0 +1,95 @@
+//! The sample traces: the files are those of the list, and they show what they say.
+
+use std::fs;
+use std::path::{Path, PathBuf};
+
+use model::samples::{samples, Sample};
+use model::{listing, run_trace};
+
+/// A file of the repository.
+fn file(path: &str) -> PathBuf {
+    Path::new(env!("CARGO_MANIFEST_DIR")).join("../..").join(path)
+}
+
+fn sample(name: &str) -> Sample {
+    samples().into_iter().find(|sample| sample.name == name).expect(name)
+}
+
+/// The events and answers of an accepted sample.
+fn run(name: &str) -> Vec<([u8; 4], [u8; 4])> {
+    let trace = sample(name).trace;
+    let events = &trace[7..];
+    let mut answers = vec![0; events.len()];
+    let result = run_trace(&trace, &mut answers);
+    assert_eq!((result.number, 4 * result.events), (0, events.len()), "{name}");
+    let four = |bytes: &[u8]| [bytes[0], bytes[1], bytes[2], bytes[3]];
+    events.chunks(4).map(four).zip(answers.chunks(4).map(four)).collect()
+}
+
+/// The owner after each TICK: 0 none, 1 master 0, 2 master 1.
+fn owners_by_tick(name: &str) -> Vec<u8> {
+    let ticks = run(name).into_iter().filter(|(event, _)| event[0] == 6);
+    ticks.map(|(_, answer)| answer[2] & 3).collect()
+}
+
+/// Every byte a READ handed out.
+fn bytes_read(name: &str) -> Vec<u8> {
+    let reads = run(name).into_iter().filter(|(event, _)| event[0] == 2);
+    reads.map(|(_, answer)| answer[1]).collect()
+}
+
+#[test]
+fn files_are_those_of_the_list() {
+    let readme = fs::read_to_string(file("traces/README.md")).unwrap();
+    for sample in samples() {
+        let trace = fs::read(file(&format!("traces/{}.trace", sample.name))).unwrap();
+        assert!(trace == sample.trace, "{}.trace: run the bin samples", sample.name);
+        let text = fs::read_to_string(file(&format!("traces/{}.listing", sample.name))).unwrap();
+        assert!(text == listing(&trace), "{}.listing: run the bin samples", sample.name);
+        let line = format!("| `{}.trace` | {} |", sample.name, sample.shows);
+        assert!(readme.contains(&line), "traces/README.md lacks: {line}");
+    }
+    let files = fs::read_dir(file("traces")).unwrap().count();
+    assert_eq!(files, 2 * samples().len() + 1, "a file that no sample has");
+}
+
+#[test]
+fn box_14_empty_keeps_the_partner_waiting() {
+    assert_eq!(owners_by_tick("box14-rt00"), vec![1; 300]);
+}
+
+/// One byte differs, and the partner has its turn at the 50th tick.
+#[test]
+fn box_14_filled_gives_the_partner_its_turn() {
+    let owners = owners_by_tick("box14-rt50");
+    assert_eq!(owners[..49], [1; 49]);
+    assert_eq!(owners[49..99], [2; 50]);
+    let (empty, filled) = (sample("box14-rt00").trace, sample("box14-rt50").trace);
+    let differing = empty.iter().zip(&filled).filter(|(a, b)| a != b).count();
+    assert_eq!((differing, empty.len()), (1, filled.len()));
+}
+
+/// STATUS: hung; then hung and failed; then neither, and both lines high.
+#[test]
+fn hung_bus_is_mended_by_the_second_initialisation() {
+    assert_eq!(bytes_read("hung-bus"), [0x4C, 0x4E, 0xC8]);
+    let last = run("hung-bus").last().unwrap().1;
+    assert_eq!(last[2], 0b0101, "master 0 owns and is connected");
+}
+
+#[test]
+fn mail_goes_both_ways() {
+    assert_eq!(bytes_read("mail"), [0x20, 0x34, 0x12, 0x10, 0xCD, 0xAB]);
+}
+
+/// STATUS bit 0 of each loser in turn, then LOCK_GRANT of the second winner.
+#[test]
+fn pair_has_each_win_once() {
+    assert_eq!(bytes_read("pair"), [0xC9, 0xC9, 0x83]);
+}
+
+#[test]
+fn refused_samples() {
+    assert_eq!(listing(&sample("refused-cut").trace), "R5\n");
+    assert_eq!(listing(&sample("refused-strap").trace), "R8\n");
+}

@@ -1,0 +1,30 @@
+//! The stored set: the files are those of the list, and it has every kind of trace.
+
+use std::fs;
+use std::path::{Path, PathBuf};
+
+use model::listing;
+use model::stored::{input, output, stored_traces};
+
+/// A file of the stored set.
+fn file(name: &str) -> PathBuf {
+    Path::new(env!("CARGO_MANIFEST_DIR")).join("../../crates/stored").join(name)
+}
+
+#[test]
+fn stored_files_are_those_of_the_list() {
+    assert!(fs::read(file("stdin")).unwrap() == input(), "run the bin stored");
+    let text = fs::read_to_string(file("stdout")).unwrap();
+    assert!(text == output(), "run the bin stored");
+}
+
+/// The stored set has good traces, and every refusal that a listing can have.
+#[test]
+fn stored_set_has_every_kind() {
+    let texts: Vec<String> = stored_traces().iter().map(|trace| listing(trace)).collect();
+    for refusal in ["R5\n", "R6\n", "R7\n", "R8\n", "R10\n"] {
+        assert!(texts.iter().any(|text| text == refusal), "no {refusal}");
+    }
+    let good = texts.iter().filter(|text| !text.starts_with('R')).count();
+    assert!(good > 100, "{good} good traces");
+}
