@@ -8,7 +8,7 @@ use printing::print_listing;
 
 const NAME: [u8; 6] = [b's', b't', b'o', b'r', b'e', b'd'];
 
-const CUT: [u8; 27] = [
+const CUT: [u8; 12] = [
     b's',
     b't',
     b'o',
@@ -16,21 +16,6 @@ const CUT: [u8; 27] = [
     b'e',
     b'd',
     b':',
-    b' ',
-    b't',
-    b'h',
-    b'e',
-    b' ',
-    b'l',
-    b'a',
-    b's',
-    b't',
-    b' ',
-    b't',
-    b'r',
-    b'a',
-    b'c',
-    b'e',
     b' ',
     b'c',
     b'u',
