@@ -6,65 +6,15 @@ const REFUSED: [u8; 9] = [b'r', b'e', b'f', b'u', b's', b'e', b'd', b':', b' '];
 
 const CUT: [u8; 10] = [b'c', b'u', b't', b' ', b's', b'h', b'o', b'r', b't', b'\n'];
 
-const OVER: [u8; 12] = [
-    b'n',
-    b' ',
-    b'o',
-    b'v',
-    b'e',
-    b'r',
-    b' ',
-    b'4',
-    b'0',
-    b'9',
-    b'6',
-    b'\n',
-];
+const OVER: [u8; 10] = [b'o', b'v', b'e', b'r', b' ', b'4', b'0', b'9', b'6', b'\n'];
 
-const EXTRA: [u8; 12] = [
-    b'e',
-    b'x',
-    b't',
-    b'r',
-    b'a',
-    b' ',
-    b'b',
-    b'y',
-    b't',
-    b'e',
-    b's',
-    b'\n',
-];
+const EXTRA: [u8; 9] = [b't', b'o', b'o', b' ', b'l', b'o', b'n', b'g', b'\n'];
 
-const STRAPS: [u8; 11] = [
-    b'b',
-    b'a',
-    b'd',
-    b' ',
-    b's',
-    b't',
-    b'r',
-    b'a',
-    b'p',
-    b's',
-    b'\n',
-];
+const STRAPS: [u8; 9] = [b'b', b'a', b'd', b' ', b'p', b'i', b'n', b's', b'\n'];
 
 const ROOM: [u8; 8] = [b'n', b'o', b' ', b'r', b'o', b'o', b'm', b'\n'];
 
-const COUNT: [u8; 11] = [
-    b'n',
-    b'o',
-    b' ',
-    b'4',
-    b' ',
-    b'f',
-    b'i',
-    b'r',
-    b's',
-    b't',
-    b'\n',
-];
+const COUNT: [u8; 10] = [b'b', b'a', b'd', b' ', b'c', b'o', b'u', b'n', b't', b'\n'];
 
 fn write_reason(why: Refusal) -> bool {
     match why {

@@ -8,20 +8,7 @@ use printing::print_listing;
 
 const NAME: [u8; 6] = [b's', b't', b'o', b'r', b'e', b'd'];
 
-const CUT: [u8; 12] = [
-    b's',
-    b't',
-    b'o',
-    b'r',
-    b'e',
-    b'd',
-    b':',
-    b' ',
-    b'c',
-    b'u',
-    b't',
-    b'\n',
-];
+const CUT: [u8; 10] = [b'c', b'u', b't', b' ', b's', b'h', b'o', b'r', b't', b'\n'];
 
 // The largest length that two bytes hold.
 fn room() -> [u8; 65535]
