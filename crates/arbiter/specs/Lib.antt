@@ -9,6 +9,7 @@ pub mod Events
 pub mod Effects
 pub mod Order
 pub mod Steps
+pub mod AuditWords
 pub mod Audit
 pub mod Traces
 pub mod Listing
