@@ -149,16 +149,24 @@ step-decoded-served (Reads e) d h = step-event-served e d h
 step-decoded-served UnknownKind d h = h
 step-decoded-served BadField d h = h
 
+pub step-served : (d : Device) (r : Raw) → Served d → Served (step d r .device)
+unfolding step
+step-served d r h = step-decoded-served (decode r) d h
+
 run-served : (d : Device) (rs : List Raw) → Served d → Served (runFrom d rs)
-unfolding runFrom step
+unfolding runFrom
 run-served d [] h = h
-run-served d (r ∷ rs) h = run-served (step d r .device) rs (step-decoded-served (decode r) d h)
+run-served d (r ∷ rs) h = run-served (step d r .device) rs (step-served d r h)
 
 pub all-served : (rs : List Raw) → Served (run rs)
 unfolding run powerUp
 all-served rs = run-served powerUp rs (λ m. refl)
 
 -- ---- the auditor's first question
+
+-- whoever the switch serves owns the bus
+pub serves-owner : (d : Device) → Served d → (m : Master) → serves m (d .arb .switch) ≡ true → owns m d ≡ true
+serves-owner d h m s = and-eq-true-iff (owns m d) (asksOn m d) .0 (sym (h m) ∙ s) .0
 
 closed-served : (m : Master) (w : Switch) → closedFor m w ≡ true → serves m w ≡ true
 closed-served m Apart h = h
@@ -173,7 +181,7 @@ closed-once m (Closed k) h = apart-from m k h
 pub one-connected : OneConnected
 one-connected rs m h =
     let d : Device = run rs in
-    (and-eq-true-iff (owns m d) (asksOn m d) .0 (sym (all-served rs m) ∙ closed-served m (d .arb .switch) h) .0, closed-once m (d .arb .switch) h)
+    (serves-owner d (all-served rs) m (closed-served m (d .arb .switch) h), closed-once m (d .arb .switch) h)
 
 pub unserved : (w : Switch) → ((m : Master) → serves m w ≡ false) → w ≡ Apart
 unserved Apart h = refl

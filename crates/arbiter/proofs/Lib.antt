@@ -1,4 +1,5 @@
 pub mod Every
 pub mod Bitwise
 pub mod Connected
+pub mod Seen
 pub mod Marks
