@@ -2,4 +2,5 @@ pub mod Every
 pub mod Bitwise
 pub mod Connected
 pub mod Seen
+pub mod Settled
 pub mod Marks

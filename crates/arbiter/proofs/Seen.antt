@@ -4,7 +4,7 @@ use Prim.Native.Nat.{_<_}
 use native.Mathlib.Omega.{arith}
 use mathlib.Core.Path.{_≡_, refl, sym, ap, ap₂, _∙_}
 use mathlib.Core.Bool.{Bool, true, false, not, _&&_, _||_, Bool·beq, false≢true, and-eq-true-iff, and-true, and-false}
-use Rattle.arbiter.specs.Types.{ℕ, _+_, _*_, List, eqb, ltb, Master, Zero, One, Turn, Nobody, Claims, Owns, Contr, Status, Control, Side, Bus, Switch, Apart, Initialising, Closed, Arbitration, Device, Raw, Event, Decoded, Reads, UnknownKind, BadField, OutOfSequence, Stepped}
+use Rattle.arbiter.specs.Types.{ℕ, _+_, _*_, eqb, ltb, Master, Zero, One, Turn, Nobody, Claims, Owns, Contr, Status, Control, Side, Bus, Switch, Apart, Initialising, Closed, Arbitration, Device, Raw, Event, Decoded, Reads, UnknownKind, BadField, OutOfSequence, Stepped}
 use Rattle.arbiter.specs.Words.{if_then_else_, bit, worth, byteOf, sameMaster, partner, side}
 use Rattle.arbiter.specs.State.{ownsTurn, owns, closedFor, isInitialising, sclHigh, sdaHigh, busHung}
 use Rattle.arbiter.specs.Registers.{contrByte, statusByte, registerByte, readsAt}
@@ -14,7 +14,7 @@ use Rattle.arbiter.specs.AuditWords.{next}
 use Rattle.arbiter.specs.Audit.{ownerBits, switchBits, AnswersShow, AnswersShowOne, RegistersShow, RegistersShowOne}
 use Rattle.arbiter.proofs.Bitwise.{same}
 use Rattle.arbiter.proofs.Every.{both, both-at}
-use Rattle.arbiter.proofs.Connected.{serves, asksOn, Served, serves-owner, self, step-served, all-served}
+use Rattle.arbiter.proofs.Connected.{serves, asksOn, serves-owner, self, step-served, all-served}
 
 -- ---- the answers
 

@@ -1,0 +1,440 @@
+-- A refused event changes nothing, and every step of a run leaves the device settled: parts 2 to 7 done again change nothing.
+-- Assumes nothing.
+use mathlib.Core.Path.{_≡_, refl, sym, ap, ap₂, subst, _∙_}
+use mathlib.Core.Bool.{Bool, true, false, not, _&&_, _||_, true≢false, false≢true, and-eq-true-iff, and-false}
+use Rattle.arbiter.specs.Types.{ℕ, _+_, List, [], _∷_, eqb, ltb, Master, Zero, One, Turn, Nobody, Claims, Owns, Side, Bus, Switch, Apart, Initialising, Closed, Clock, NoClock, ClockLow, ClockHigh, Device, Raw, Event, Decoded, Reads, UnknownKind, BadField, OutOfSequence}
+use Rattle.arbiter.specs.Words.{if_then_else_, sameMaster, side}
+use Rattle.arbiter.specs.Parts.{withBusConnect, withBusInit, withContr, withDrives, withIdle, withTurn, withSwitch, withInitFail, withSide, withBus, withArb}
+use Rattle.arbiter.specs.State.{ownsTurn, owns, atRest, sclHigh, sdaHigh, isIdle}
+use Rattle.arbiter.specs.Registers.{disconnected, released}
+use Rattle.arbiter.specs.Events.{decode, inSequence, outcomeNumber}
+use Rattle.arbiter.specs.Effects.{idleLimit, freshSide, powerUp, effect}
+use Rattle.arbiter.specs.Order.{isReset, isTick, clockOf, busyAfter, settledBus, levels, runsOut, lost, lossesFrom, losses, cutTicks, cutFrom, cut, claimBy, winner, newClaim, claimAfter, claim, granted, grantFrom, grant, switched, joined, initialised, initFailed, clocked, keptJoined, connectFrom, connect}
+use Rattle.arbiter.specs.Steps.{parts, taken, refused, stepEvent, stepDecoded, step, runFrom, run}
+use Rattle.arbiter.specs.AuditWords.{requests, acceptedAs}
+use Rattle.arbiter.specs.Audit.{RefusedUnchanged, settle, AllSettled}
+use Rattle.arbiter.proofs.Connected.{serves, asksOn, Served, self, unserved, all-served}
+
+-- ---- a refused event
+
+refused-decoded : (x : Decoded) (d : Device) → acceptedAs (λ (e : Event) (x : Device). true) x d ≡ false → stepDecoded x d .device ≡ d
+unfolding stepDecoded stepEvent refused
+refused-decoded (Reads e) d h = go (inSequence e d) h
+  where
+    go : (seq : Bool) → seq && true ≡ false → (if seq then taken e d else refused (outcomeNumber OutOfSequence) d) .device ≡ d
+    go true h = absurd (true≢false h)
+    go false h = refl
+refused-decoded UnknownKind d h = refl
+refused-decoded BadField d h = refl
+
+pub refused-unchanged : RefusedUnchanged
+unfolding step
+refused-unchanged d r h = refused-decoded (decode r) d h
+
+-- ---- what there is to settle, part by part
+
+-- part 2: a high line's low count is 0, and so is the idle count of a bus that is not idle
+abbrev Still : Bus → Type 0
+Still b = settledBus (b .busy) b ≡ b
+
+-- part 3: the owner loses
+abbrev loses : Turn → Device → Bool
+loses Nobody d = false
+loses (Claims m) d = false
+loses (Owns m) d = runsOut (side m d) (d .arb .reserve) (d .bus)
+
+-- part 6: the claimant is to be granted
+abbrev isDue : Turn → Device → Bool
+isDue Nobody d = false
+isDue (Claims m) d = atRest ((side m d) .port) && eqb (d .bus .hold) 0
+isDue (Owns m) d = false
+
+-- the bus is still, and its owner does not lose
+abbrev Kept : Device → Type 0
+Kept d = Still (d .bus) × (loses (d .arb .turn) d ≡ false)
+
+-- part 5: the claimant stays
+abbrev Claimed : Device → Type 0
+Claimed d = claimAfter (d .arb .turn) d ≡ d .arb .turn
+
+abbrev Ready : Device → Type 0
+Ready d = Kept d × Claimed d × (isDue (d .arb .turn) d ≡ false)
+
+-- ---- parts 4 and 7 change nothing that those ask
+
+-- the device less BUS_INIT, BUS_CONNECT, the switch and BUS_INIT_FAIL
+abbrev bareSide : Side → Side
+bareSide s = withContr (withBusInit false (withBusConnect false (s .contr))) s
+
+abbrev bare : Device → Device
+bare d = record { side0 = bareSide (d .side0); side1 = bareSide (d .side1); bus = d .bus; arb = withInitFail false (withSwitch Apart (d .arb)) }
+
+loses-bare : (t : Turn) (d : Device) → loses t (bare d) ≡ loses t d
+loses-bare Nobody d = refl
+loses-bare (Claims m) d = refl
+loses-bare (Owns Zero) d = refl
+loses-bare (Owns One) d = refl
+
+claim-bare : (t : Turn) (d : Device) → claimAfter t (bare d) ≡ claimAfter t d
+claim-bare Nobody d = refl
+claim-bare (Claims Zero) d = refl
+claim-bare (Claims One) d = refl
+claim-bare (Owns m) d = refl
+
+due-bare : (t : Turn) (d : Device) → isDue t (bare d) ≡ isDue t d
+due-bare Nobody d = refl
+due-bare (Claims Zero) d = refl
+due-bare (Claims One) d = refl
+due-bare (Owns m) d = refl
+
+module _ (x y : Device) (p : bare x ≡ bare y) where
+  kept-by : Kept x → Kept y
+  kept-by (still, stays) = (
+    subst (λ (d : Device). Still (d .bus)) p still,
+    sym (loses-bare (y .arb .turn) y) ∙ ap (λ (d : Device). loses (d .arb .turn) d) (sym p) ∙ loses-bare (x .arb .turn) x ∙ stays,
+  )
+
+  ready-by : Ready x → Ready y
+  ready-by (kept, claimed, waits) = (
+    kept-by kept,
+    sym (claim-bare (y .arb .turn) y) ∙ ap (λ (d : Device). claimAfter (d .arb .turn) d) (sym p) ∙ claim-bare (x .arb .turn) x ∙ claimed ∙ ap (λ (d : Device). d .arb .turn) p,
+    sym (due-bare (y .arb .turn) y) ∙ ap (λ (d : Device). isDue (d .arb .turn) d) (sym p) ∙ due-bare (x .arb .turn) x ∙ waits,
+  )
+
+cut-bare : (on : Bool) (t : Turn) (d : Device) → bare (cutFrom on t d) ≡ bare d
+unfolding cutFrom
+cut-bare on Nobody d = refl
+cut-bare on (Claims m) d = refl
+cut-bare on (Owns m) d = go m (on && eqb (d .bus .lowscl) cutTicks && (side m d) .contr .smbusdis)
+  where
+    go : (k : Master) (now : Bool) → bare (if now then withSide k (disconnected (side k d)) d else d) ≡ bare d
+    go Zero true = refl
+    go One true = refl
+    go k false = refl
+
+joined-bare : (m : Master) (d : Device) → bare (joined m d) ≡ bare d
+unfolding joined
+joined-bare m d = go ((side m d) .contr .businit)
+  where
+    go : (init : Bool) → bare (if init then withArb (withInitFail false (withSwitch (Initialising m 0) (d .arb))) d else switched (Closed m) d) ≡ bare d
+    go true = refl
+    go false = refl
+
+initialised-bare : (m : Master) (d : Device) → bare (initialised m d) ≡ bare d
+initialised-bare Zero d = refl
+initialised-bare One d = refl
+
+failed-bare : (m : Master) (d : Device) → bare (initFailed m d) ≡ bare d
+failed-bare Zero d = refl
+failed-bare One d = refl
+
+clocked-bare : (c : Clock) (m : Master) (n : ℕ) (d : Device) → bare (clocked c m n d) ≡ bare d
+unfolding clocked
+clocked-bare NoClock m n d = refl
+clocked-bare ClockHigh m n d = initialised-bare m d
+clocked-bare ClockLow m n d = go (ltb n 8)
+  where
+    go : (more : Bool) → bare (if more then switched (Initialising m (n + 1)) d else initFailed m d) ≡ bare d
+    go true = refl
+    go false = failed-bare m d
+
+kept-joined-bare : (c : Clock) (m : Master) (w : Switch) (d : Device) → bare (keptJoined c m w d) ≡ bare d
+unfolding keptJoined
+kept-joined-bare c m Apart d = joined-bare m d
+kept-joined-bare c m (Initialising k n) d = go (sameMaster m k)
+  where
+    go : (mine : Bool) → bare (if mine then clocked c m n d else joined m d) ≡ bare d
+    go true = clocked-bare c m n d
+    go false = joined-bare m d
+kept-joined-bare c m (Closed k) d = go (sameMaster m k)
+  where
+    go : (mine : Bool) → bare (if mine then d else joined m d) ≡ bare d
+    go true = refl
+    go false = joined-bare m d
+
+connect-bare : (c : Clock) (t : Turn) (d : Device) → bare (connectFrom c t d) ≡ bare d
+unfolding connectFrom
+connect-bare c Nobody d = refl
+connect-bare c (Claims m) d = refl
+connect-bare c (Owns m) d = go (asksOn m d)
+  where
+    go : (on : Bool) → bare (if on then keptJoined c m (d .arb .switch) d else switched Apart d) ≡ bare d
+    go true = kept-joined-bare c m (d .arb .switch) d
+    go false = refl
+
+-- ---- part 2 leaves a still bus
+
+idle-twice : (t : Bool) (n : ℕ) → (if t then (if t then n else 0) else 0) ≡ (if t then n else 0)
+idle-twice true n = refl
+idle-twice false n = refl
+
+low-twice : (t : Bool) (n : ℕ) → (if t then 0 else (if t then 0 else n)) ≡ (if t then 0 else n)
+low-twice true n = refl
+low-twice false n = refl
+
+levels-still : (reset : Bool) (before : Bus) (d : Device) → Still ((levels reset before d) .bus)
+unfolding levels
+levels-still reset before d =
+    let b : Bus = d .bus in
+    let busy : Bool = busyAfter reset before b in
+    λ i. record {
+      outscl = b .outscl;
+      outsda = b .outsda;
+      intin = b .intin;
+      drivescl = b .drivescl;
+      drivesda = b .drivesda;
+      busy = busy;
+      hold = b .hold;
+      idle = idle-twice (not busy && sclHigh b && sdaHigh b) (b .idle) i;
+      lowscl = low-twice (sclHigh b) (b .lowscl) i;
+      lowsda = low-twice (sdaHigh b) (b .lowsda) i;
+    }
+
+-- ---- part 3: a loss comes only on an idle bus, whose drives are released already
+
+not-idle : (b : Bus) → Still b → isIdle b ≡ false → b .idle ≡ 0
+not-idle b still h = sym (ap (λ (x : Bus). x .idle) still) ∙ ap (λ (t : Bool). if t then b .idle else 0) h
+
+counted-idle : (b : Bus) → Still b → eqb (b .idle) idleLimit ≡ true → isIdle b ≡ true
+counted-idle b still h = go (isIdle b) refl
+  where
+    go : (t : Bool) → isIdle b ≡ t → t ≡ true
+    go true e = refl
+    go false e = sym (ap (λ (n : ℕ). eqb n idleLimit) (not-idle b still e)) ∙ h
+
+out-idle : (s : Side) (n : ℕ) (b : Bus) → Still b → runsOut s n b ≡ true → isIdle b ≡ true
+out-idle s n b still = go (eqb (s .rt) 0)
+  where
+    go : (z : Bool) → (if z then s .contr .idletimer && eqb (b .idle) idleLimit else eqb n 0 && isIdle b) ≡ true → isIdle b ≡ true
+    go true h = counted-idle b still (and-eq-true-iff (s .contr .idletimer) (eqb (b .idle) idleLimit) .0 h .1)
+    go false h = and-eq-true-iff (eqb n 0) (isIdle b) .0 h .1
+
+idle-released : (b : Bus) → isIdle b ≡ true → released b ≡ b
+idle-released b h =
+    let outer = and-eq-true-iff (not (b .busy) && sclHigh b) (sdaHigh b) .0 h in
+    let scl = and-eq-true-iff (b .outscl && b .drivescl) (eqb (b .hold) 0) .0 (and-eq-true-iff (not (b .busy)) (sclHigh b) .0 (outer .0) .1) .0 in
+    let drivescl = and-eq-true-iff (b .outscl) (b .drivescl) .0 scl .1 in
+    let drivesda = and-eq-true-iff (b .outsda) (b .drivesda) .0 (outer .1) .1 in
+    ap₂ (λ (x y : Bool). withDrives x y b) (sym drivescl) (sym drivesda)
+
+losses-kept : (t : Turn) (d : Device) → d .arb .turn ≡ t → Still (d .bus) → Kept (lossesFrom t d)
+unfolding lossesFrom lost
+losses-kept Nobody d e still = (still, ap (λ (t : Turn). loses t d) e)
+losses-kept (Claims m) d e still = (still, ap (λ (t : Turn). loses t d) e)
+losses-kept (Owns m) d e still = go (runsOut (side m d) (d .arb .reserve) (d .bus)) refl
+  where
+    go : (out : Bool) → runsOut (side m d) (d .arb .reserve) (d .bus) ≡ out → Kept (if out then lost m d else d)
+    go true h = (subst Still (sym (idle-released (d .bus) (out-idle (side m d) (d .arb .reserve) (d .bus) still h))) still, refl)
+    go false h = (still, ap (λ (t : Turn). loses t d) e ∙ h)
+
+-- ---- part 5: who claims stays the claimant, and a new claimant has nothing to lose
+
+requests-stays : (m : Master) (d : Device) → requests m d ≡ true → claimAfter (Claims m) d ≡ Claims m
+requests-stays m d h = ap (λ (r : Bool). if r then Claims m else newClaim d) h
+
+module _ (d : Device) where
+  new-stays : claimAfter (newClaim d) d ≡ newClaim d
+  new-stays = go (requests Zero d) (requests One d) w refl refl
+    where
+      w : Master
+      w = winner (d .side0 .contr .priority) (d .side1 .contr .priority) (d .arb .last)
+
+      go : (r0 r1 : Bool) (w : Master) → requests Zero d ≡ r0 → requests One d ≡ r1 → claimAfter (claimBy r0 r1 w) d ≡ claimBy r0 r1 w
+      go false false w e0 e1 = ap₂ (λ (r0 r1 : Bool). claimBy r0 r1 (winner (d .side0 .contr .priority) (d .side1 .contr .priority) (d .arb .last))) e0 e1
+      go true false w e0 e1 = requests-stays Zero d e0
+      go false true w e0 e1 = requests-stays One d e1
+      go true true Zero e0 e1 = requests-stays Zero d e0
+      go true true One e0 e1 = requests-stays One d e1
+
+  claim-stays : (t : Turn) → claimAfter (claimAfter t d) d ≡ claimAfter t d
+  claim-stays Nobody = new-stays
+  claim-stays (Claims m) = go (requests m d) refl
+    where
+      go : (r : Bool) → requests m d ≡ r → claimAfter (if r then Claims m else newClaim d) d ≡ (if r then Claims m else newClaim d)
+      go true h = requests-stays m d h
+      go false h = new-stays
+  claim-stays (Owns m) = refl
+
+  new-keeps : loses (newClaim d) d ≡ false
+  new-keeps = go (requests Zero d) (requests One d) (winner (d .side0 .contr .priority) (d .side1 .contr .priority) (d .arb .last))
+    where
+      go : (r0 r1 : Bool) (w : Master) → loses (claimBy r0 r1 w) d ≡ false
+      go false false w = refl
+      go true false w = refl
+      go false true w = refl
+      go true true w = refl
+
+  claim-keeps : (t : Turn) → loses t d ≡ false → loses (claimAfter t d) d ≡ false
+  claim-keeps Nobody h = new-keeps
+  claim-keeps (Claims m) h = go (requests m d)
+    where
+      go : (r : Bool) → loses (if r then Claims m else newClaim d) d ≡ false
+      go true = refl
+      go false = new-keeps
+  claim-keeps (Owns m) h = h
+
+  -- neither asks the device for its turn again
+  loses-turn : (t u : Turn) → loses t (withArb (withTurn u (d .arb)) d) ≡ loses t d
+  loses-turn Nobody u = refl
+  loses-turn (Claims m) u = refl
+  loses-turn (Owns m) u = refl
+
+  claim-turn : (t u : Turn) → claimAfter t (withArb (withTurn u (d .arb)) d) ≡ claimAfter t d
+  claim-turn Nobody u = refl
+  claim-turn (Claims m) u = refl
+  claim-turn (Owns m) u = refl
+
+  claim-ready : Kept d → Kept (claim d) × Claimed (claim d)
+  unfolding claim
+  claim-ready (still, stays) =
+      let t : Turn = claimAfter (d .arb .turn) d in
+      ((still, loses-turn t t ∙ claim-keeps (d .arb .turn) stays), claim-turn t t ∙ claim-stays (d .arb .turn))
+
+-- ---- part 6: a fresh grant has its whole reserve before it, and an idle count of 0
+
+either-way : (t : Bool) (n : ℕ) → (if t then n else n) ≡ n
+either-way true n = refl
+either-way false n = refl
+
+fresh-still : (b : Bus) → Still b → Still (withIdle 0 b)
+fresh-still b still = λ i. withIdle (either-way (isIdle b) 0 i) (still i)
+
+fresh-keeps : (s : Side) (b : Bus) → runsOut s (s .rt) (withIdle 0 b) ≡ false
+fresh-keeps s b = go (eqb (s .rt) 0)
+  where
+    go : (z : Bool) → (if z then s .contr .idletimer && eqb 0 idleLimit else z && isIdle b) ≡ false
+    go true = and-false (s .contr .idletimer)
+    go false = refl
+
+granted-ready : (m : Master) (d : Device) → Still (d .bus) → Ready (granted m d)
+unfolding granted
+granted-ready Zero d still = ((fresh-still (d .bus) still, fresh-keeps (d .side0) (d .bus)), refl, refl)
+granted-ready One d still = ((fresh-still (d .bus) still, fresh-keeps (d .side1) (d .bus)), refl, refl)
+
+grant-ready : (t : Turn) (d : Device) → d .arb .turn ≡ t → Kept d → Claimed d → Ready (grantFrom t d)
+unfolding grantFrom
+grant-ready Nobody d e kept claimed = (kept, claimed, ap (λ (t : Turn). isDue t d) e)
+grant-ready (Owns m) d e kept claimed = (kept, claimed, ap (λ (t : Turn). isDue t d) e)
+grant-ready (Claims m) d e kept claimed = go (isDue (Claims m) d) refl
+  where
+    go : (now : Bool) → isDue (Claims m) d ≡ now → Ready (if now then granted m d else d)
+    go true h = granted-ready m d (kept .0)
+    go false h = (kept, claimed, ap (λ (t : Turn). isDue t d) e ∙ h)
+
+-- ---- a step leaves all of it, whatever the device was before
+
+parts-ready : (e : Event) (d : Device) → Ready (parts e d)
+unfolding parts losses cut grant connect
+parts-ready e d =
+    let levelled : Device = levels (isReset e) (d .bus) (effect e d) in
+    let three : Device = losses levelled in
+    let four : Device = cut (isTick e) three in
+    let five : Device = claim four in
+    let six : Device = grant five in
+    let seven : Device = connect (clockOf e) six in
+    let kept = losses-kept (levelled .arb .turn) levelled refl (levels-still (isReset e) (d .bus) (effect e d)) in
+    let claimed = claim-ready four (kept-by three four (sym (cut-bare (isTick e) (three .arb .turn) three)) kept) in
+    ready-by six seven (sym (connect-bare (clockOf e) (six .arb .turn) six)) (grant-ready (five .arb .turn) five refl (claimed .0) (claimed .1))
+
+step-event-ready : (e : Event) (d : Device) → Ready d → Ready (stepEvent e d .device)
+unfolding stepEvent taken refused
+step-event-ready e d h = go (inSequence e d)
+  where
+    go : (seq : Bool) → Ready ((if seq then taken e d else refused (outcomeNumber OutOfSequence) d) .device)
+    go true = parts-ready e d
+    go false = h
+
+step-decoded-ready : (x : Decoded) (d : Device) → Ready d → Ready (stepDecoded x d .device)
+unfolding stepDecoded refused
+step-decoded-ready (Reads e) d h = step-event-ready e d h
+step-decoded-ready UnknownKind d h = h
+step-decoded-ready BadField d h = h
+
+run-ready : (d : Device) (rs : List Raw) → Ready d → Ready (runFrom d rs)
+unfolding runFrom step
+run-ready d [] h = h
+run-ready d (r ∷ rs) h = run-ready (step d r .device) rs (step-decoded-ready (decode r) d h)
+
+all-ready : (rs : List Raw) → Ready (run rs)
+unfolding run powerUp freshSide
+all-ready rs = run-ready powerUp rs ((refl, refl), refl, refl)
+
+-- ---- where all of it holds, parts 2 to 7 change nothing
+
+-- no line has moved, so there is neither START nor STOP
+busy-stays : (b : Bus) → busyAfter false b b ≡ b .busy
+busy-stays b = go (b .busy) (sclHigh b) (sdaHigh b)
+  where
+    go : (busy scl sda : Bool) → (busy || scl && scl && sda && not sda) && not (scl && scl && not sda && sda) ≡ busy
+    go true false sda = refl
+    go false false sda = refl
+    go true true true = refl
+    go true true false = refl
+    go false true true = refl
+    go false true false = refl
+
+levels-again : (d : Device) → Still (d .bus) → levels false (d .bus) d ≡ d
+unfolding levels
+levels-again d still = ap (λ (b : Bus). withBus b d) (ap (λ (busy : Bool). settledBus busy (d .bus)) (busy-stays (d .bus)) ∙ still)
+
+losses-again : (t : Turn) (d : Device) → loses t d ≡ false → lossesFrom t d ≡ d
+unfolding lossesFrom
+losses-again Nobody d h = refl
+losses-again (Claims m) d h = refl
+losses-again (Owns m) d h = ap (λ (out : Bool). if out then lost m d else d) h
+
+cut-again : (t : Turn) (d : Device) → cutFrom false t d ≡ d
+unfolding cutFrom
+cut-again Nobody d = refl
+cut-again (Claims m) d = refl
+cut-again (Owns m) d = refl
+
+claim-again : (d : Device) → Claimed d → claim d ≡ d
+unfolding claim
+claim-again d h = ap (λ (t : Turn). withArb (withTurn t (d .arb)) d) h
+
+grant-again : (t : Turn) (d : Device) → isDue t d ≡ false → grantFrom t d ≡ d
+unfolding grantFrom
+grant-again Nobody d h = refl
+grant-again (Claims m) d h = ap (λ (now : Bool). if now then granted m d else d) h
+grant-again (Owns m) d h = refl
+
+-- the switch is open where nobody owns and asks
+open-again : (d : Device) → Served d → ((j : Master) → owns j d && asksOn j d ≡ false) → switched Apart d ≡ d
+open-again d h none = ap (λ (w : Switch). switched w d) (sym (unserved (d .arb .switch) λ j. h j ∙ none j))
+
+unasked : (j m : Master) (on : Master → Bool) → on m ≡ false → sameMaster j m && on j ≡ false
+unasked Zero Zero on h = h
+unasked Zero One on h = refl
+unasked One Zero on h = refl
+unasked One One on h = h
+
+-- with no clock, a switch that serves m goes on serving it
+kept-again : (m : Master) (w : Switch) (d : Device) → serves m w ≡ true → keptJoined NoClock m w d ≡ d
+unfolding keptJoined clocked
+kept-again m Apart d s = absurd (false≢true s)
+kept-again m (Initialising k n) d s = ap (λ (mine : Bool). if mine then d else joined m d) s
+kept-again m (Closed k) d s = ap (λ (mine : Bool). if mine then d else joined m d) s
+
+connect-again : (t : Turn) (d : Device) → d .arb .turn ≡ t → Served d → connectFrom NoClock t d ≡ d
+unfolding connectFrom
+connect-again Nobody d e h = open-again d h λ j. ap (λ (t : Turn). ownsTurn j t && asksOn j d) e
+connect-again (Claims m) d e h = open-again d h λ j. ap (λ (t : Turn). ownsTurn j t && asksOn j d) e
+connect-again (Owns m) d e h = go (asksOn m d) refl
+  where
+    go : (on : Bool) → asksOn m d ≡ on → (if on then keptJoined NoClock m (d .arb .switch) d else switched Apart d) ≡ d
+    go true a = kept-again m (d .arb .switch) d (h m ∙ ap₂ (λ (t : Turn) (on : Bool). ownsTurn m t && on) e a ∙ ap (λ (o : Bool). o && true) (self m))
+    go false a = open-again d h λ j. ap (λ (t : Turn). ownsTurn j t && asksOn j d) e ∙ unasked j m (λ j. asksOn j d) a
+
+settles : (d : Device) → Ready d → Served d → settle d ≡ d
+unfolding losses cut grant connect
+settles d ((still, stays), claimed, waits) served =
+    ap (λ (x : Device). connect NoClock (grant (claim (cut false (losses x))))) (levels-again d still)
+    ∙ ap (λ (x : Device). connect NoClock (grant (claim (cut false x)))) (losses-again (d .arb .turn) d stays)
+    ∙ ap (λ (x : Device). connect NoClock (grant (claim x))) (cut-again (d .arb .turn) d)
+    ∙ ap (λ (x : Device). connect NoClock (grant x)) (claim-again d claimed)
+    ∙ ap (λ (x : Device). connect NoClock x) (grant-again (d .arb .turn) d waits)
+    ∙ connect-again (d .arb .turn) d refl served
+
+pub all-settled : AllSettled
+all-settled rs = settles (run rs) (all-ready rs) (all-served rs)
