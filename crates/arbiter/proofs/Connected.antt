@@ -2,16 +2,16 @@
 -- Assumes nothing.
 use mathlib.Core.Path.{_≡_, refl, sym, ap, _∙_}
 use mathlib.Core.Bool.{Bool, true, false, _&&_, false≢true, and-eq-true-iff}
-use mathlib.Core.List.{List, [], _∷_}
-use Rattle.arbiter.specs.Types.{ℕ, _+_, ltb, Master, Zero, One, Turn, Nobody, Claims, Owns, Switch, Apart, Initialising, Closed, Clock, NoClock, ClockLow, ClockHigh, Device, Raw, Event, Decoded, Reads, UnknownKind, BadField}
+use mathlib.Core.List.{List}
+use Rattle.arbiter.specs.Types.{ℕ, _+_, ltb, Master, Zero, One, Turn, Nobody, Claims, Owns, Switch, Apart, Initialising, Closed, Clock, NoClock, ClockLow, ClockHigh, Device, Raw, Event}
 use Rattle.arbiter.specs.Words.{if_then_else_, sameMaster, partner, side}
 use Rattle.arbiter.specs.Parts.{withSwitch, withInitFail, withArb}
 use Rattle.arbiter.specs.State.{ownsTurn, owns, closedFor}
-use Rattle.arbiter.specs.Events.{decode, inSequence}
 use Rattle.arbiter.specs.Effects.{effect, powerUp}
 use Rattle.arbiter.specs.Order.{switched, joined, initialised, initFailed, clocked, keptJoined, connectFrom, connect, levels, losses, cut, claim, grant, isReset, isTick, clockOf}
-use Rattle.arbiter.specs.Steps.{parts, taken, refused, stepEvent, stepDecoded, step, runFrom, run}
+use Rattle.arbiter.specs.Steps.{parts, step, run}
 use Rattle.arbiter.specs.Audit.{OneConnected, ApartUnowned}
+use Rattle.arbiter.proofs.Runs.{step-keeps, run-keeps}
 
 -- ---- whom the switch serves
 
@@ -135,32 +135,16 @@ connect-served c d = connect-from-served c (d .arb .turn) d refl
 
 -- ---- a step and a run
 
-step-event-served : (e : Event) (d : Device) → Served d → Served (stepEvent e d .device)
-unfolding stepEvent taken refused parts
-step-event-served e d h = go (inSequence e d)
-  where
-    go : (seq : Bool) → Served ((if seq then taken e d else refused 4 d) .device)
-    go true = connect-served (clockOf e) (grant (claim (cut (isTick e) (losses (levels (isReset e) (d .bus) (effect e d))))))
-    go false = h
-
-step-decoded-served : (x : Decoded) (d : Device) → Served d → Served (stepDecoded x d .device)
-unfolding stepDecoded refused
-step-decoded-served (Reads e) d h = step-event-served e d h
-step-decoded-served UnknownKind d h = h
-step-decoded-served BadField d h = h
+parts-served : (e : Event) (d : Device) → Served d → Served (parts e d)
+unfolding parts
+parts-served e d h = connect-served (clockOf e) (grant (claim (cut (isTick e) (losses (levels (isReset e) (d .bus) (effect e d))))))
 
 pub step-served : (d : Device) (r : Raw) → Served d → Served (step d r .device)
-unfolding step
-step-served d r h = step-decoded-served (decode r) d h
-
-run-served : (d : Device) (rs : List Raw) → Served d → Served (runFrom d rs)
-unfolding runFrom
-run-served d [] h = h
-run-served d (r ∷ rs) h = run-served (step d r .device) rs (step-served d r h)
+step-served = step-keeps Served parts-served
 
 pub all-served : (rs : List Raw) → Served (run rs)
 unfolding run powerUp
-all-served rs = run-served powerUp rs (λ m. refl)
+all-served rs = run-keeps Served parts-served powerUp rs (λ m. refl)
 
 -- ---- the auditor's first question
 

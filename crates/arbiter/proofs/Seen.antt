@@ -4,16 +4,16 @@ use Prim.Native.Nat.{_<_}
 use native.Mathlib.Omega.{arith}
 use mathlib.Core.Path.{_≡_, refl, sym, ap, ap₂, _∙_}
 use mathlib.Core.Bool.{Bool, true, false, not, _&&_, _||_, Bool·beq, false≢true, and-eq-true-iff, and-true, and-false}
-use Rattle.arbiter.specs.Types.{ℕ, _+_, _*_, eqb, ltb, Master, Zero, One, Turn, Nobody, Claims, Owns, Contr, Status, Control, Side, Bus, Switch, Apart, Initialising, Closed, Arbitration, Device, Raw, Event, Decoded, Reads, UnknownKind, BadField, OutOfSequence, Stepped}
-use Rattle.arbiter.specs.Words.{if_then_else_, bit, worth, byteOf, sameMaster, partner, side}
+use Rattle.arbiter.specs.Types.{ℕ, _+_, _*_, eqb, ltb, Master, Zero, One, Turn, Nobody, Claims, Owns, Contr, Status, Control, Side, Bus, Switch, Apart, Initialising, Closed, Arbitration, Device, Raw, Stepped}
+use Rattle.arbiter.specs.Words.{bit, worth, byteOf, sameMaster, partner, side}
 use Rattle.arbiter.specs.State.{ownsTurn, owns, closedFor, isInitialising, sclHigh, sdaHigh, busHung}
 use Rattle.arbiter.specs.Registers.{contrByte, statusByte, registerByte, readsAt}
-use Rattle.arbiter.specs.Events.{decode, inSequence, outcomeNumber}
-use Rattle.arbiter.specs.Steps.{masterNumber, ownerNumber, switchNumber, ownerByte, taken, refused, stepEvent, stepDecoded, step, run}
+use Rattle.arbiter.specs.Steps.{masterNumber, ownerNumber, switchNumber, ownerByte, taken, refused, step, run}
 use Rattle.arbiter.specs.AuditWords.{next}
 use Rattle.arbiter.specs.Audit.{ownerBits, switchBits, AnswersShow, AnswersShowOne, RegistersShow, RegistersShowOne}
 use Rattle.arbiter.proofs.Bitwise.{same}
 use Rattle.arbiter.proofs.Every.{both, both-at}
+use Rattle.arbiter.proofs.Runs.{step-cases}
 use Rattle.arbiter.proofs.Connected.{serves, asksOn, serves-owner, self, step-served, all-served}
 
 -- ---- the answers
@@ -22,23 +22,9 @@ use Rattle.arbiter.proofs.Connected.{serves, asksOn, serves-owner, self
 abbrev ShowsItself : Stepped → Type 0
 ShowsItself s = s .answer .owner ≡ ownerByte (s .device)
 
-event-shows : (e : Event) (d : Device) → ShowsItself (stepEvent e d)
-unfolding stepEvent taken refused
-event-shows e d = go (inSequence e d)
-  where
-    go : (seq : Bool) → ShowsItself (if seq then taken e d else refused (outcomeNumber OutOfSequence) d)
-    go true = refl
-    go false = refl
-
-decoded-shows : (x : Decoded) (d : Device) → ShowsItself (stepDecoded x d)
-unfolding stepDecoded refused
-decoded-shows (Reads e) d = event-shows e d
-decoded-shows UnknownKind d = refl
-decoded-shows BadField d = refl
-
 step-shows : (d : Device) (r : Raw) → ShowsItself (step d r)
-unfolding step
-step-shows d r = decoded-shows (decode r) d
+unfolding taken refused
+step-shows d r = step-cases ShowsItself d r (λ e x s. refl) (λ n. refl)
 
 -- its two pairs of bits are the owner's number and the connected one's
 owner-below : (t : Turn) → ownerNumber t < 4

@@ -1,35 +1,31 @@
 -- A refused event changes nothing, and every step of a run leaves the device settled: parts 2 to 7 done again change nothing.
 -- Assumes nothing.
 use mathlib.Core.Path.{_≡_, refl, sym, ap, ap₂, subst, _∙_}
-use mathlib.Core.Bool.{Bool, true, false, not, _&&_, _||_, true≢false, false≢true, and-eq-true-iff, and-false}
-use Rattle.arbiter.specs.Types.{ℕ, _+_, List, [], _∷_, eqb, ltb, Master, Zero, One, Turn, Nobody, Claims, Owns, Side, Bus, Switch, Apart, Initialising, Closed, Clock, NoClock, ClockLow, ClockHigh, Device, Raw, Event, Decoded, Reads, UnknownKind, BadField, OutOfSequence}
+use mathlib.Core.Bool.{Bool, true, false, not, _&&_, _||_, false≢true, and-eq-true-iff, and-true, and-false}
+use Rattle.arbiter.specs.Types.{ℕ, _+_, List, eqb, ltb, Master, Zero, One, Turn, Nobody, Claims, Owns, Side, Bus, Switch, Apart, Initialising, Closed, Clock, NoClock, ClockLow, ClockHigh, Device, Raw, Event, Decoded, Reads, Stepped}
 use Rattle.arbiter.specs.Words.{if_then_else_, sameMaster, side}
 use Rattle.arbiter.specs.Parts.{withBusConnect, withBusInit, withContr, withDrives, withIdle, withTurn, withSwitch, withInitFail, withSide, withBus, withArb}
 use Rattle.arbiter.specs.State.{ownsTurn, owns, atRest, sclHigh, sdaHigh, isIdle}
 use Rattle.arbiter.specs.Registers.{disconnected, released}
-use Rattle.arbiter.specs.Events.{decode, inSequence, outcomeNumber}
+use Rattle.arbiter.specs.Events.{decode, inSequence}
 use Rattle.arbiter.specs.Effects.{idleLimit, freshSide, powerUp, effect}
 use Rattle.arbiter.specs.Order.{isReset, isTick, clockOf, busyAfter, settledBus, levels, runsOut, lost, lossesFrom, losses, cutTicks, cutFrom, cut, claimBy, winner, newClaim, claimAfter, claim, granted, grantFrom, grant, switched, joined, initialised, initFailed, clocked, keptJoined, connectFrom, connect}
-use Rattle.arbiter.specs.Steps.{parts, taken, refused, stepEvent, stepDecoded, step, runFrom, run}
-use Rattle.arbiter.specs.AuditWords.{requests, acceptedAs}
+use Rattle.arbiter.specs.Steps.{parts, refused, run}
+use Rattle.arbiter.specs.AuditWords.{requests, acceptedAs, isAccepted}
 use Rattle.arbiter.specs.Audit.{RefusedUnchanged, settle, AllSettled}
+use Rattle.arbiter.proofs.Runs.{step-cases, run-keeps}
 use Rattle.arbiter.proofs.Connected.{serves, asksOn, Served, self, unserved, all-served}
 
 -- ---- a refused event
 
-refused-decoded : (x : Decoded) (d : Device) → acceptedAs (λ (e : Event) (x : Device). true) x d ≡ false → stepDecoded x d .device ≡ d
-unfolding stepDecoded stepEvent refused
-refused-decoded (Reads e) d h = go (inSequence e d) h
-  where
-    go : (seq : Bool) → seq && true ≡ false → (if seq then taken e d else refused (outcomeNumber OutOfSequence) d) .device ≡ d
-    go true h = absurd (true≢false h)
-    go false h = refl
-refused-decoded UnknownKind d h = refl
-refused-decoded BadField d h = refl
+-- what is in sequence is accepted
+in-sequence-accepted : (r : Raw) (e : Event) (d : Device) → decode r ≡ Reads e → inSequence e d ≡ true → isAccepted r d ≡ true
+in-sequence-accepted r e d h s = ap (λ (x : Decoded). acceptedAs (λ (e : Event) (x : Device). true) x d) h ∙ and-true (inSequence e d) ∙ s
 
 pub refused-unchanged : RefusedUnchanged
-unfolding step
-refused-unchanged d r h = refused-decoded (decode r) d h
+unfolding refused
+refused-unchanged d r h =
+    step-cases (λ (s : Stepped). s .device ≡ d) d r (λ e x s. absurd (false≢true (sym h ∙ in-sequence-accepted r e d x s))) (λ n. refl)
 
 -- ---- what there is to settle, part by part
 
@@ -336,28 +332,9 @@ parts-ready e d =
     let claimed = claim-ready four (kept-by three four (sym (cut-bare (isTick e) (three .arb .turn) three)) kept) in
     ready-by six seven (sym (connect-bare (clockOf e) (six .arb .turn) six)) (grant-ready (five .arb .turn) five refl (claimed .0) (claimed .1))
 
-step-event-ready : (e : Event) (d : Device) → Ready d → Ready (stepEvent e d .device)
-unfolding stepEvent taken refused
-step-event-ready e d h = go (inSequence e d)
-  where
-    go : (seq : Bool) → Ready ((if seq then taken e d else refused (outcomeNumber OutOfSequence) d) .device)
-    go true = parts-ready e d
-    go false = h
-
-step-decoded-ready : (x : Decoded) (d : Device) → Ready d → Ready (stepDecoded x d .device)
-unfolding stepDecoded refused
-step-decoded-ready (Reads e) d h = step-event-ready e d h
-step-decoded-ready UnknownKind d h = h
-step-decoded-ready BadField d h = h
-
-run-ready : (d : Device) (rs : List Raw) → Ready d → Ready (runFrom d rs)
-unfolding runFrom step
-run-ready d [] h = h
-run-ready d (r ∷ rs) h = run-ready (step d r .device) rs (step-decoded-ready (decode r) d h)
-
 all-ready : (rs : List Raw) → Ready (run rs)
 unfolding run powerUp freshSide
-all-ready rs = run-ready powerUp rs ((refl, refl), refl, refl)
+all-ready rs = run-keeps Ready (λ e d h. parts-ready e d) powerUp rs ((refl, refl), refl, refl)
 
 -- ---- where all of it holds, parts 2 to 7 change nothing
 
