@@ -11,7 +11,7 @@ use Rattle.arbiter.specs.Effects.{effect, powerUp}
 use Rattle.arbiter.specs.Order.{switched, joined, initialised, initFailed, clocked, keptJoined, connectFrom, connect, levels, losses, cut, claim, grant, isReset, isTick, clockOf}
 use Rattle.arbiter.specs.Steps.{parts, step, run}
 use Rattle.arbiter.specs.Audit.{OneConnected, ApartUnowned}
-use Rattle.arbiter.proofs.Runs.{step-keeps, run-keeps}
+use Rattle.arbiter.proofs.Cases.{step-keeps, run-keeps}
 
 -- ---- whom the switch serves
 

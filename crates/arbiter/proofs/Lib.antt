@@ -1,6 +1,6 @@
 pub mod Every
 pub mod Bitwise
-pub mod Runs
+pub mod Cases
 pub mod Connected
 pub mod Seen
 pub mod Settled

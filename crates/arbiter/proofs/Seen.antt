@@ -13,7 +13,7 @@ use Rattle.arbiter.specs.AuditWords.{next}
 use Rattle.arbiter.specs.Audit.{ownerBits, switchBits, AnswersShow, AnswersShowOne, RegistersShow, RegistersShowOne}
 use Rattle.arbiter.proofs.Bitwise.{same}
 use Rattle.arbiter.proofs.Every.{both, both-at}
-use Rattle.arbiter.proofs.Runs.{step-cases}
+use Rattle.arbiter.proofs.Cases.{step-cases}
 use Rattle.arbiter.proofs.Connected.{serves, asksOn, serves-owner, self, step-served, all-served}
 
 -- ---- the answers

@@ -13,7 +13,7 @@ use Rattle.arbiter.specs.Order.{isReset, isTick, clockOf, busyAfter, set
 use Rattle.arbiter.specs.Steps.{parts, refused, run}
 use Rattle.arbiter.specs.AuditWords.{requests, acceptedAs, isAccepted}
 use Rattle.arbiter.specs.Audit.{RefusedUnchanged, settle, AllSettled}
-use Rattle.arbiter.proofs.Runs.{step-cases, run-keeps}
+use Rattle.arbiter.proofs.Cases.{step-cases, run-keeps}
 use Rattle.arbiter.proofs.Connected.{serves, asksOn, Served, self, unserved, all-served}
 
 -- ---- a refused event
