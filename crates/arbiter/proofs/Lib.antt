@@ -5,3 +5,4 @@ pub mod Connected
 pub mod Seen
 pub mod Settled
 pub mod Marks
+pub mod Witnesses

@@ -14,3 +14,4 @@ pub mod Audit
 pub mod Traces
 pub mod Listing
 pub mod Marks
+pub mod Witnesses
