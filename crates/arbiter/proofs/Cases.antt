@@ -1,22 +1,18 @@
 -- What holds of every step and of every run: a step is the seven parts of an accepted event, or a refusal.
 -- Assumes nothing.
 use mathlib.Core.Path.{_≡_, refl}
-use mathlib.Core.Bool.{Bool, true, false}
+use mathlib.Core.Bool.{true}
 use Rattle.arbiter.specs.Types.{ℕ, List, [], _∷_, Device, Raw, Event, Decoded, Reads, UnknownKind, BadField, OutOfSequence, Stepped}
-use Rattle.arbiter.specs.Words.{if_then_else_}
 use Rattle.arbiter.specs.Events.{decode, decodedNumber, inSequence, outcomeNumber}
 use Rattle.arbiter.specs.Steps.{parts, taken, refused, stepEvent, stepDecoded, step, runFrom}
+use Rattle.arbiter.proofs.Choice.{either}
 
 -- what holds of every event taken in sequence and of every refusal holds of the step
 module _ (Q : Stepped → Type 0) (d : Device) (r : Raw)
     (takes : (e : Event) → decode r ≡ Reads e → inSequence e d ≡ true → Q (taken e d)) (refuses : (n : ℕ) → Q (refused n d)) where
   event-cases : (e : Event) → decode r ≡ Reads e → Q (stepEvent e d)
   unfolding stepEvent
-  event-cases e h = go (inSequence e d) refl
-    where
-      go : (seq : Bool) → inSequence e d ≡ seq → Q (if seq then taken e d else refused (outcomeNumber OutOfSequence) d)
-      go true s = takes e h s
-      go false s = refuses (outcomeNumber OutOfSequence)
+  event-cases e h = either Q (inSequence e d) (λ s. takes e h s) (λ s. refuses (outcomeNumber OutOfSequence))
 
   decoded-cases : (x : Decoded) → decode r ≡ x → Q (stepDecoded x d)
   unfolding stepDecoded

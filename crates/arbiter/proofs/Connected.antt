@@ -4,13 +4,13 @@ use mathlib.Core.Path.{_≡_, refl, sym, ap, _∙_}
 use mathlib.Core.Bool.{Bool, true, false, _&&_, false≢true, and-eq-true-iff}
 use mathlib.Core.List.{List}
 use Rattle.arbiter.specs.Types.{ℕ, _+_, ltb, Master, Zero, One, Turn, Nobody, Claims, Owns, Switch, Apart, Initialising, Closed, Clock, NoClock, ClockLow, ClockHigh, Device, Raw, Event}
-use Rattle.arbiter.specs.Words.{if_then_else_, sameMaster, partner, side}
-use Rattle.arbiter.specs.Parts.{withSwitch, withInitFail, withArb}
+use Rattle.arbiter.specs.Words.{sameMaster, partner, side}
 use Rattle.arbiter.specs.State.{ownsTurn, owns, closedFor}
 use Rattle.arbiter.specs.Effects.{effect, powerUp}
 use Rattle.arbiter.specs.Order.{switched, joined, initialised, initFailed, clocked, keptJoined, connectFrom, connect, levels, losses, cut, claim, grant, isReset, isTick, clockOf}
 use Rattle.arbiter.specs.Steps.{parts, step, run}
 use Rattle.arbiter.specs.Audit.{OneConnected, ApartUnowned}
+use Rattle.arbiter.proofs.Choice.{either, same-self}
 use Rattle.arbiter.proofs.Cases.{step-keeps, run-keeps}
 
 -- ---- whom the switch serves
@@ -33,10 +33,6 @@ abbrev onlyFor : Master → Switch → Bool
 onlyFor m Apart = true
 onlyFor m (Initialising k n) = sameMaster m k
 onlyFor m (Closed k) = sameMaster m k
-
-pub self : (m : Master) → sameMaster m m ≡ true
-self Zero = refl
-self One = refl
 
 -- who is the same as m is not the same as m's partner
 apart-from : (m k : Master) → sameMaster m k ≡ true → sameMaster (partner m) k ≡ false
@@ -81,11 +77,10 @@ module _ (m : Master) (d : Device) (e : d .arb .turn ≡ Owns m) where
   module _ (a : asksOn m d ≡ true) where
     joined-served : Served (joined m d)
     unfolding joined
-    joined-served = go ((side m d) .contr .businit)
-      where
-        go : (init : Bool) → Served (if init then withArb (withInitFail false (withSwitch (Initialising m 0) (d .arb))) d else switched (Closed m) d)
-        go true = served m (d .arb .turn) (Initialising m 0) (λ j. asksOn j d) e (self m) (self m ∙ sym a)
-        go false = served m (d .arb .turn) (Closed m) (λ j. asksOn j d) e (self m) (self m ∙ sym a)
+    joined-served =
+        either Served ((side m d) .contr .businit)
+        (λ h. served m (d .arb .turn) (Initialising m 0) (λ j. asksOn j d) e (same-self m) (same-self m ∙ sym a))
+        (λ h. served m (d .arb .turn) (Closed m) (λ j. asksOn j d) e (same-self m) (same-self m ∙ sym a))
 
     kept : onlyFor m (d .arb .switch) ≡ true → serves m (d .arb .switch) ≡ true → Served d
     kept h s = served m (d .arb .turn) (d .arb .switch) (λ j. asksOn j d) e h (s ∙ sym a)
@@ -94,26 +89,18 @@ module _ (m : Master) (d : Device) (e : d .arb .turn ≡ Owns m) where
     unfolding clocked
     clocked-served NoClock n h s = kept h s
     clocked-served ClockHigh n h s =
-        served m (d .arb .turn) (Closed m) (λ j. asksOn j (initialised m d)) e (self m) (self m ∙ sym (initialised-asks m d ∙ a))
-    clocked-served ClockLow n h s = go (ltb n 8)
-      where
-        go : (more : Bool) → Served (if more then switched (Initialising m (n + 1)) d else initFailed m d)
-        go true = served m (d .arb .turn) (Initialising m (n + 1)) (λ j. asksOn j d) e (self m) (self m ∙ sym a)
-        go false = served m (d .arb .turn) Apart (λ j. asksOn j (initFailed m d)) e refl (sym (failed-asks m d))
+        served m (d .arb .turn) (Closed m) (λ j. asksOn j (initialised m d)) e (same-self m) (same-self m ∙ sym (initialised-asks m d ∙ a))
+    clocked-served ClockLow n h s =
+        either Served (ltb n 8)
+        (λ x. served m (d .arb .turn) (Initialising m (n + 1)) (λ j. asksOn j d) e (same-self m) (same-self m ∙ sym a))
+        (λ x. served m (d .arb .turn) Apart (λ j. asksOn j (initFailed m d)) e refl (sym (failed-asks m d)))
 
     kept-served : (c : Clock) (w : Switch) → d .arb .switch ≡ w → Served (keptJoined c m w d)
     unfolding keptJoined
     kept-served c Apart s = joined-served
-    kept-served c (Initialising k n) s = go (sameMaster m k) refl
-      where
-        go : (b : Bool) → sameMaster m k ≡ b → Served (if b then clocked c m n d else joined m d)
-        go true h = clocked-served c n (ap (onlyFor m) s ∙ h) (ap (serves m) s ∙ h)
-        go false h = joined-served
-    kept-served c (Closed k) s = go (sameMaster m k) refl
-      where
-        go : (b : Bool) → sameMaster m k ≡ b → Served (if b then d else joined m d)
-        go true h = kept (ap (onlyFor m) s ∙ h) (ap (serves m) s ∙ h)
-        go false h = joined-served
+    kept-served c (Initialising k n) s =
+        either Served (sameMaster m k) (λ h. clocked-served c n (ap (onlyFor m) s ∙ h) (ap (serves m) s ∙ h)) (λ h. joined-served)
+    kept-served c (Closed k) s = either Served (sameMaster m k) (λ h. kept (ap (onlyFor m) s ∙ h) (ap (serves m) s ∙ h)) (λ h. joined-served)
 
 -- where nobody owns, an open switch is right
 unowned-served : (t : Turn) (d : Device) → d .arb .turn ≡ t → ((j : Master) → ownsTurn j t ≡ false) → Served (switched Apart d)
@@ -123,11 +110,8 @@ connect-from-served : (c : Clock) (t : Turn) (d : Device) → d .arb .turn ≡ t
 unfolding connectFrom
 connect-from-served c Nobody d e = unowned-served Nobody d e (λ j. refl)
 connect-from-served c (Claims m) d e = unowned-served (Claims m) d e (λ j. refl)
-connect-from-served c (Owns m) d e = go (asksOn m d) refl
-  where
-    go : (on : Bool) → asksOn m d ≡ on → Served (if on then keptJoined c m (d .arb .switch) d else switched Apart d)
-    go true a = kept-served m d e a c (d .arb .switch) refl
-    go false a = apart-served m d e a
+connect-from-served c (Owns m) d e =
+    either Served (asksOn m d) (λ a. kept-served m d e a c (d .arb .switch) refl) (λ a. apart-served m d e a)
 
 connect-served : (c : Clock) (d : Device) → Served (connect c d)
 unfolding connect
@@ -169,8 +153,8 @@ one-connected rs m h =
 
 pub unserved : (w : Switch) → ((m : Master) → serves m w ≡ false) → w ≡ Apart
 unserved Apart h = refl
-unserved (Initialising k n) h = absurd (false≢true (sym (h k) ∙ self k))
-unserved (Closed k) h = absurd (false≢true (sym (h k) ∙ self k))
+unserved (Initialising k n) h = absurd (false≢true (sym (h k) ∙ same-self k))
+unserved (Closed k) h = absurd (false≢true (sym (h k) ∙ same-self k))
 
 pub apart-unowned : ApartUnowned
 apart-unowned rs none =

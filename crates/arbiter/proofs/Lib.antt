@@ -1,5 +1,6 @@
 pub mod Every
 pub mod Bitwise
+pub mod Choice
 pub mod Cases
 pub mod Connected
 pub mod Seen

@@ -13,8 +13,9 @@ use Rattle.arbiter.specs.AuditWords.{next}
 use Rattle.arbiter.specs.Audit.{ownerBits, switchBits, AnswersShow, AnswersShowOne, RegistersShow, RegistersShowOne}
 use Rattle.arbiter.proofs.Bitwise.{same}
 use Rattle.arbiter.proofs.Every.{both, both-at}
+use Rattle.arbiter.proofs.Choice.{same-self}
 use Rattle.arbiter.proofs.Cases.{step-cases}
-use Rattle.arbiter.proofs.Connected.{serves, asksOn, serves-owner, self, step-served, all-served}
+use Rattle.arbiter.proofs.Connected.{serves, asksOn, serves-owner, step-served, all-served}
 
 -- ---- the answers
 
@@ -86,8 +87,8 @@ oneNumber s o = eqb s 0 || eqb s o && ltb o 3
 one-number : (t : Turn) (w : Switch) → ((m : Master) → serves m w ≡ true → ownsTurn m t ≡ true) → oneNumber (switchNumber w) (ownerNumber t) ≡ true
 one-number t Apart h = refl
 one-number t (Initialising k n) h = refl
-one-number Nobody (Closed k) h = absurd (false≢true (h k (self k)))
-one-number (Claims m) (Closed k) h = absurd (false≢true (h k (self k)))
+one-number Nobody (Closed k) h = absurd (false≢true (h k (same-self k)))
+one-number (Claims m) (Closed k) h = absurd (false≢true (h k (same-self k)))
 one-number (Owns Zero) (Closed Zero) h = refl
 one-number (Owns Zero) (Closed One) h = absurd (false≢true (h One refl))
 one-number (Owns One) (Closed Zero) h = absurd (false≢true (h Zero refl))

@@ -2,19 +2,20 @@
 -- Assumes nothing.
 use mathlib.Core.Path.{_≡_, refl, sym, ap, ap₂, subst, _∙_}
 use mathlib.Core.Bool.{Bool, true, false, not, _&&_, _||_, false≢true, and-eq-true-iff, and-true, and-false}
-use Rattle.arbiter.specs.Types.{ℕ, _+_, List, eqb, ltb, Master, Zero, One, Turn, Nobody, Claims, Owns, Side, Bus, Switch, Apart, Initialising, Closed, Clock, NoClock, ClockLow, ClockHigh, Device, Raw, Event, Decoded, Reads, Stepped}
+use Rattle.arbiter.specs.Types.{ℕ, List, eqb, ltb, Master, Zero, One, Turn, Nobody, Claims, Owns, Side, Bus, Switch, Apart, Initialising, Closed, Clock, NoClock, ClockLow, ClockHigh, Device, Raw, Event, Decoded, Reads, Stepped}
 use Rattle.arbiter.specs.Words.{if_then_else_, sameMaster, side}
 use Rattle.arbiter.specs.Parts.{withBusConnect, withBusInit, withContr, withDrives, withIdle, withTurn, withSwitch, withInitFail, withSide, withBus, withArb}
 use Rattle.arbiter.specs.State.{ownsTurn, owns, atRest, sclHigh, sdaHigh, isIdle}
 use Rattle.arbiter.specs.Registers.{disconnected, released}
 use Rattle.arbiter.specs.Events.{decode, inSequence}
 use Rattle.arbiter.specs.Effects.{idleLimit, freshSide, powerUp, effect}
-use Rattle.arbiter.specs.Order.{isReset, isTick, clockOf, busyAfter, settledBus, levels, runsOut, lost, lossesFrom, losses, cutTicks, cutFrom, cut, claimBy, winner, newClaim, claimAfter, claim, granted, grantFrom, grant, switched, joined, initialised, initFailed, clocked, keptJoined, connectFrom, connect}
+use Rattle.arbiter.specs.Order.{isReset, isTick, clockOf, busyAfter, settledBus, levels, runsOut, lost, lossesFrom, losses, cutTicks, cutFrom, cut, claimBy, winner, newClaim, claimAfter, claim, granted, grantFrom, grant, switched, joined, failedSide, clocked, keptJoined, connectFrom, connect}
 use Rattle.arbiter.specs.Steps.{parts, refused, run}
 use Rattle.arbiter.specs.AuditWords.{requests, acceptedAs, isAccepted}
 use Rattle.arbiter.specs.Audit.{RefusedUnchanged, settle, AllSettled}
+use Rattle.arbiter.proofs.Choice.{either, split, if-true, if-false, turn-owns}
 use Rattle.arbiter.proofs.Cases.{step-cases, run-keeps}
-use Rattle.arbiter.proofs.Connected.{serves, asksOn, Served, self, unserved, all-served}
+use Rattle.arbiter.proofs.Connected.{serves, asksOn, Served, unserved, all-served}
 
 -- ---- a refused event
 
@@ -97,66 +98,42 @@ module _ (x y : Device) (p : bare x ≡ bare y) where
     sym (due-bare (y .arb .turn) y) ∙ ap (λ (d : Device). isDue (d .arb .turn) d) (sym p) ∙ due-bare (x .arb .turn) x ∙ waits,
   )
 
+-- one side put in place of another that is the same but for those
+side-bare : (m : Master) (s : Side) (d : Device) → bareSide s ≡ bareSide (side m d) → bare (withSide m s d) ≡ bare d
+side-bare Zero s d h = λ i. record { side0 = h i; side1 = bareSide (d .side1); bus = d .bus; arb = withInitFail false (withSwitch Apart (d .arb)) }
+side-bare One s d h = λ i. record { side0 = bareSide (d .side0); side1 = h i; bus = d .bus; arb = withInitFail false (withSwitch Apart (d .arb)) }
+
 cut-bare : (on : Bool) (t : Turn) (d : Device) → bare (cutFrom on t d) ≡ bare d
 unfolding cutFrom
 cut-bare on Nobody d = refl
 cut-bare on (Claims m) d = refl
-cut-bare on (Owns m) d = go m (on && eqb (d .bus .lowscl) cutTicks && (side m d) .contr .smbusdis)
-  where
-    go : (k : Master) (now : Bool) → bare (if now then withSide k (disconnected (side k d)) d else d) ≡ bare d
-    go Zero true = refl
-    go One true = refl
-    go k false = refl
+cut-bare on (Owns m) d =
+    either (λ (x : Device). bare x ≡ bare d) (on && eqb (d .bus .lowscl) cutTicks && (side m d) .contr .smbusdis) (λ h. side-bare m (disconnected (side m d)) d refl) (λ h. refl)
 
 joined-bare : (m : Master) (d : Device) → bare (joined m d) ≡ bare d
 unfolding joined
-joined-bare m d = go ((side m d) .contr .businit)
-  where
-    go : (init : Bool) → bare (if init then withArb (withInitFail false (withSwitch (Initialising m 0) (d .arb))) d else switched (Closed m) d) ≡ bare d
-    go true = refl
-    go false = refl
-
-initialised-bare : (m : Master) (d : Device) → bare (initialised m d) ≡ bare d
-initialised-bare Zero d = refl
-initialised-bare One d = refl
-
-failed-bare : (m : Master) (d : Device) → bare (initFailed m d) ≡ bare d
-failed-bare Zero d = refl
-failed-bare One d = refl
+joined-bare m d = either (λ (x : Device). bare x ≡ bare d) ((side m d) .contr .businit) (λ h. refl) (λ h. refl)
 
 clocked-bare : (c : Clock) (m : Master) (n : ℕ) (d : Device) → bare (clocked c m n d) ≡ bare d
 unfolding clocked
 clocked-bare NoClock m n d = refl
-clocked-bare ClockHigh m n d = initialised-bare m d
-clocked-bare ClockLow m n d = go (ltb n 8)
-  where
-    go : (more : Bool) → bare (if more then switched (Initialising m (n + 1)) d else initFailed m d) ≡ bare d
-    go true = refl
-    go false = failed-bare m d
+clocked-bare ClockHigh m n d = side-bare m (withContr (withBusInit false ((side m d) .contr)) (side m d)) d refl
+clocked-bare ClockLow m n d =
+    either (λ (x : Device). bare x ≡ bare d) (ltb n 8) (λ h. refl) (λ h. side-bare m (failedSide (side m d)) d refl)
 
 kept-joined-bare : (c : Clock) (m : Master) (w : Switch) (d : Device) → bare (keptJoined c m w d) ≡ bare d
 unfolding keptJoined
 kept-joined-bare c m Apart d = joined-bare m d
-kept-joined-bare c m (Initialising k n) d = go (sameMaster m k)
-  where
-    go : (mine : Bool) → bare (if mine then clocked c m n d else joined m d) ≡ bare d
-    go true = clocked-bare c m n d
-    go false = joined-bare m d
-kept-joined-bare c m (Closed k) d = go (sameMaster m k)
-  where
-    go : (mine : Bool) → bare (if mine then d else joined m d) ≡ bare d
-    go true = refl
-    go false = joined-bare m d
+kept-joined-bare c m (Initialising k n) d =
+    either (λ (x : Device). bare x ≡ bare d) (sameMaster m k) (λ h. clocked-bare c m n d) (λ h. joined-bare m d)
+kept-joined-bare c m (Closed k) d = either (λ (x : Device). bare x ≡ bare d) (sameMaster m k) (λ h. refl) (λ h. joined-bare m d)
 
 connect-bare : (c : Clock) (t : Turn) (d : Device) → bare (connectFrom c t d) ≡ bare d
 unfolding connectFrom
 connect-bare c Nobody d = refl
 connect-bare c (Claims m) d = refl
-connect-bare c (Owns m) d = go (asksOn m d)
-  where
-    go : (on : Bool) → bare (if on then keptJoined c m (d .arb .switch) d else switched Apart d) ≡ bare d
-    go true = kept-joined-bare c m (d .arb .switch) d
-    go false = refl
+connect-bare c (Owns m) d =
+    either (λ (x : Device). bare x ≡ bare d) (asksOn m d) (λ h. kept-joined-bare c m (d .arb .switch) d) (λ h. refl)
 
 -- ---- part 2 leaves a still bus
 
@@ -192,18 +169,13 @@ not-idle : (b : Bus) → Still b → isIdle b ≡ false → b .idle ≡ 0
 not-idle b still h = sym (ap (λ (x : Bus). x .idle) still) ∙ ap (λ (t : Bool). if t then b .idle else 0) h
 
 counted-idle : (b : Bus) → Still b → eqb (b .idle) idleLimit ≡ true → isIdle b ≡ true
-counted-idle b still h = go (isIdle b) refl
-  where
-    go : (t : Bool) → isIdle b ≡ t → t ≡ true
-    go true e = refl
-    go false e = sym (ap (λ (n : ℕ). eqb n idleLimit) (not-idle b still e)) ∙ h
+counted-idle b still h = split (isIdle b) (λ e. e) (λ e. absurd (false≢true (sym (ap (λ (n : ℕ). eqb n idleLimit) (not-idle b still e)) ∙ h)))
 
 out-idle : (s : Side) (n : ℕ) (b : Bus) → Still b → runsOut s n b ≡ true → isIdle b ≡ true
-out-idle s n b still = go (eqb (s .rt) 0)
-  where
-    go : (z : Bool) → (if z then s .contr .idletimer && eqb (b .idle) idleLimit else eqb n 0 && isIdle b) ≡ true → isIdle b ≡ true
-    go true h = counted-idle b still (and-eq-true-iff (s .contr .idletimer) (eqb (b .idle) idleLimit) .0 h .1)
-    go false h = and-eq-true-iff (eqb n 0) (isIdle b) .0 h .1
+out-idle s n b still =
+    either (λ (x : Bool). x ≡ true → isIdle b ≡ true) (eqb (s .rt) 0)
+    (λ z h. counted-idle b still (and-eq-true-iff (s .contr .idletimer) (eqb (b .idle) idleLimit) .0 h .1))
+    (λ z h. and-eq-true-iff (eqb n 0) (isIdle b) .0 h .1)
 
 idle-released : (b : Bus) → isIdle b ≡ true → released b ≡ b
 idle-released b h =
@@ -217,16 +189,15 @@ losses-kept : (t : Turn) (d : Device) → d .arb .turn ≡ t → Still (d .bus) 
 unfolding lossesFrom lost
 losses-kept Nobody d e still = (still, ap (λ (t : Turn). loses t d) e)
 losses-kept (Claims m) d e still = (still, ap (λ (t : Turn). loses t d) e)
-losses-kept (Owns m) d e still = go (runsOut (side m d) (d .arb .reserve) (d .bus)) refl
-  where
-    go : (out : Bool) → runsOut (side m d) (d .arb .reserve) (d .bus) ≡ out → Kept (if out then lost m d else d)
-    go true h = (subst Still (sym (idle-released (d .bus) (out-idle (side m d) (d .arb .reserve) (d .bus) still h))) still, refl)
-    go false h = (still, ap (λ (t : Turn). loses t d) e ∙ h)
+losses-kept (Owns m) d e still =
+    either Kept (runsOut (side m d) (d .arb .reserve) (d .bus))
+    (λ h. (subst Still (sym (idle-released (d .bus) (out-idle (side m d) (d .arb .reserve) (d .bus) still h))) still, refl))
+    (λ h. (still, ap (λ (t : Turn). loses t d) e ∙ h))
 
 -- ---- part 5: who claims stays the claimant, and a new claimant has nothing to lose
 
 requests-stays : (m : Master) (d : Device) → requests m d ≡ true → claimAfter (Claims m) d ≡ Claims m
-requests-stays m d h = ap (λ (r : Bool). if r then Claims m else newClaim d) h
+requests-stays m d h = if-true (Claims m) (newClaim d) h
 
 module _ (d : Device) where
   new-stays : claimAfter (newClaim d) d ≡ newClaim d
@@ -244,11 +215,8 @@ module _ (d : Device) where
 
   claim-stays : (t : Turn) → claimAfter (claimAfter t d) d ≡ claimAfter t d
   claim-stays Nobody = new-stays
-  claim-stays (Claims m) = go (requests m d) refl
-    where
-      go : (r : Bool) → requests m d ≡ r → claimAfter (if r then Claims m else newClaim d) d ≡ (if r then Claims m else newClaim d)
-      go true h = requests-stays m d h
-      go false h = new-stays
+  claim-stays (Claims m) =
+      either (λ (t : Turn). claimAfter t d ≡ t) (requests m d) (λ h. requests-stays m d h) (λ h. new-stays)
   claim-stays (Owns m) = refl
 
   new-keeps : loses (newClaim d) d ≡ false
@@ -262,11 +230,7 @@ module _ (d : Device) where
 
   claim-keeps : (t : Turn) → loses t d ≡ false → loses (claimAfter t d) d ≡ false
   claim-keeps Nobody h = new-keeps
-  claim-keeps (Claims m) h = go (requests m d)
-    where
-      go : (r : Bool) → loses (if r then Claims m else newClaim d) d ≡ false
-      go true = refl
-      go false = new-keeps
+  claim-keeps (Claims m) h = either (λ (t : Turn). loses t d ≡ false) (requests m d) (λ h. refl) (λ h. new-keeps)
   claim-keeps (Owns m) h = h
 
   -- neither asks the device for its turn again
@@ -296,11 +260,8 @@ fresh-still : (b : Bus) → Still b → Still (withIdle 0 b)
 fresh-still b still = λ i. withIdle (either-way (isIdle b) 0 i) (still i)
 
 fresh-keeps : (s : Side) (b : Bus) → runsOut s (s .rt) (withIdle 0 b) ≡ false
-fresh-keeps s b = go (eqb (s .rt) 0)
-  where
-    go : (z : Bool) → (if z then s .contr .idletimer && eqb 0 idleLimit else z && isIdle b) ≡ false
-    go true = and-false (s .contr .idletimer)
-    go false = refl
+fresh-keeps s b =
+    either (λ (x : Bool). x ≡ false) (eqb (s .rt) 0) (λ z. and-false (s .contr .idletimer)) (λ z. ap (λ (n : Bool). n && isIdle b) z)
 
 granted-ready : (m : Master) (d : Device) → Still (d .bus) → Ready (granted m d)
 unfolding granted
@@ -311,11 +272,10 @@ grant-ready : (t : Turn) (d : Device) → d .arb .turn ≡ t → Kept d → Clai
 unfolding grantFrom
 grant-ready Nobody d e kept claimed = (kept, claimed, ap (λ (t : Turn). isDue t d) e)
 grant-ready (Owns m) d e kept claimed = (kept, claimed, ap (λ (t : Turn). isDue t d) e)
-grant-ready (Claims m) d e kept claimed = go (isDue (Claims m) d) refl
-  where
-    go : (now : Bool) → isDue (Claims m) d ≡ now → Ready (if now then granted m d else d)
-    go true h = granted-ready m d (kept .0)
-    go false h = (kept, claimed, ap (λ (t : Turn). isDue t d) e ∙ h)
+grant-ready (Claims m) d e kept claimed =
+    either Ready (isDue (Claims m) d)
+    (λ h. granted-ready m d (kept .0))
+    (λ h. (kept, claimed, ap (λ (t : Turn). isDue t d) e ∙ h))
 
 -- ---- a step leaves all of it, whatever the device was before
 
@@ -358,7 +318,7 @@ losses-again : (t : Turn) (d : Device) → loses t d ≡ false → lossesFrom t 
 unfolding lossesFrom
 losses-again Nobody d h = refl
 losses-again (Claims m) d h = refl
-losses-again (Owns m) d h = ap (λ (out : Bool). if out then lost m d else d) h
+losses-again (Owns m) d h = if-false (lost m d) d h
 
 cut-again : (t : Turn) (d : Device) → cutFrom false t d ≡ d
 unfolding cutFrom
@@ -373,7 +333,7 @@ claim-again d h = ap (λ (t : Turn). withArb (withTurn t (d .arb)) d) h
 grant-again : (t : Turn) (d : Device) → isDue t d ≡ false → grantFrom t d ≡ d
 unfolding grantFrom
 grant-again Nobody d h = refl
-grant-again (Claims m) d h = ap (λ (now : Bool). if now then granted m d else d) h
+grant-again (Claims m) d h = if-false (granted m d) d h
 grant-again (Owns m) d h = refl
 
 -- the switch is open where nobody owns and asks
@@ -390,18 +350,17 @@ unasked One One on h = h
 kept-again : (m : Master) (w : Switch) (d : Device) → serves m w ≡ true → keptJoined NoClock m w d ≡ d
 unfolding keptJoined clocked
 kept-again m Apart d s = absurd (false≢true s)
-kept-again m (Initialising k n) d s = ap (λ (mine : Bool). if mine then d else joined m d) s
-kept-again m (Closed k) d s = ap (λ (mine : Bool). if mine then d else joined m d) s
+kept-again m (Initialising k n) d s = if-true d (joined m d) s
+kept-again m (Closed k) d s = if-true d (joined m d) s
 
 connect-again : (t : Turn) (d : Device) → d .arb .turn ≡ t → Served d → connectFrom NoClock t d ≡ d
 unfolding connectFrom
 connect-again Nobody d e h = open-again d h λ j. ap (λ (t : Turn). ownsTurn j t && asksOn j d) e
 connect-again (Claims m) d e h = open-again d h λ j. ap (λ (t : Turn). ownsTurn j t && asksOn j d) e
-connect-again (Owns m) d e h = go (asksOn m d) refl
-  where
-    go : (on : Bool) → asksOn m d ≡ on → (if on then keptJoined NoClock m (d .arb .switch) d else switched Apart d) ≡ d
-    go true a = kept-again m (d .arb .switch) d (h m ∙ ap₂ (λ (t : Turn) (on : Bool). ownsTurn m t && on) e a ∙ ap (λ (o : Bool). o && true) (self m))
-    go false a = open-again d h λ j. ap (λ (t : Turn). ownsTurn j t && asksOn j d) e ∙ unasked j m (λ j. asksOn j d) a
+connect-again (Owns m) d e h =
+    either (λ (x : Device). x ≡ d) (asksOn m d)
+    (λ a. kept-again m (d .arb .switch) d (h m ∙ ap₂ _&&_ (turn-owns m (d .arb .turn) e) a))
+    (λ a. open-again d h λ j. ap (λ (t : Turn). ownsTurn j t && asksOn j d) e ∙ unasked j m (λ j. asksOn j d) a)
 
 settles : (d : Device) → Ready d → Served d → settle d ≡ d
 unfolding losses cut grant connect
