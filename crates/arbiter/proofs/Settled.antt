@@ -32,7 +32,7 @@ refused-unchanged d r h =
 
 -- part 2: a high line's low count is 0, and so is the idle count of a bus that is not idle
 abbrev Still : Bus → Type 0
-Still b = settledBus (b .busy) b ≡ b
+Still b = (sclHigh b ≡ true → b .lowscl ≡ 0) × (sdaHigh b ≡ true → b .lowsda ≡ 0) × (isIdle b ≡ false → b .idle ≡ 0)
 
 -- part 3: the owner loses
 abbrev loses : Turn → Device → Bool
@@ -137,39 +137,16 @@ connect-bare c (Owns m) d =
 
 -- ---- part 2 leaves a still bus
 
-idle-twice : (t : Bool) (n : ℕ) → (if t then (if t then n else 0) else 0) ≡ (if t then n else 0)
-idle-twice true n = refl
-idle-twice false n = refl
-
-low-twice : (t : Bool) (n : ℕ) → (if t then 0 else (if t then 0 else n)) ≡ (if t then 0 else n)
-low-twice true n = refl
-low-twice false n = refl
-
 levels-still : (reset : Bool) (before : Bus) (d : Device) → Still ((levels reset before d) .bus)
 unfolding levels
 levels-still reset before d =
     let b : Bus = d .bus in
-    let busy : Bool = busyAfter reset before b in
-    λ i. record {
-      outscl = b .outscl;
-      outsda = b .outsda;
-      intin = b .intin;
-      drivescl = b .drivescl;
-      drivesda = b .drivesda;
-      busy = busy;
-      hold = b .hold;
-      idle = idle-twice (not busy && sclHigh b && sdaHigh b) (b .idle) i;
-      lowscl = low-twice (sclHigh b) (b .lowscl) i;
-      lowsda = low-twice (sdaHigh b) (b .lowsda) i;
-    }
+    (λ h. if-true 0 (b .lowscl) h, λ h. if-true 0 (b .lowsda) h, λ h. if-false (b .idle) 0 h)
 
 -- ---- part 3: a loss comes only on an idle bus, whose drives are released already
 
-not-idle : (b : Bus) → Still b → isIdle b ≡ false → b .idle ≡ 0
-not-idle b still h = sym (ap (λ (x : Bus). x .idle) still) ∙ ap (λ (t : Bool). if t then b .idle else 0) h
-
 counted-idle : (b : Bus) → Still b → eqb (b .idle) idleLimit ≡ true → isIdle b ≡ true
-counted-idle b still h = split (isIdle b) (λ e. e) (λ e. absurd (false≢true (sym (ap (λ (n : ℕ). eqb n idleLimit) (not-idle b still e)) ∙ h)))
+counted-idle b still h = split (isIdle b) (λ e. e) (λ e. absurd (false≢true (sym (ap (λ (n : ℕ). eqb n idleLimit) (still .2 e)) ∙ h)))
 
 out-idle : (s : Side) (n : ℕ) (b : Bus) → Still b → runsOut s n b ≡ true → isIdle b ≡ true
 out-idle s n b still =
@@ -199,15 +176,16 @@ losses-kept (Owns m) d e still =
 requests-stays : (m : Master) (d : Device) → requests m d ≡ true → claimAfter (Claims m) d ≡ Claims m
 requests-stays m d h = if-true (Claims m) (newClaim d) h
 
+-- the winner, if both request
+abbrev winnerIn : Device → Master
+winnerIn d = winner (d .side0 .contr .priority) (d .side1 .contr .priority) (d .arb .last)
+
 module _ (d : Device) where
   new-stays : claimAfter (newClaim d) d ≡ newClaim d
-  new-stays = go (requests Zero d) (requests One d) w refl refl
+  new-stays = go (requests Zero d) (requests One d) (winnerIn d) refl refl
     where
-      w : Master
-      w = winner (d .side0 .contr .priority) (d .side1 .contr .priority) (d .arb .last)
-
       go : (r0 r1 : Bool) (w : Master) → requests Zero d ≡ r0 → requests One d ≡ r1 → claimAfter (claimBy r0 r1 w) d ≡ claimBy r0 r1 w
-      go false false w e0 e1 = ap₂ (λ (r0 r1 : Bool). claimBy r0 r1 (winner (d .side0 .contr .priority) (d .side1 .contr .priority) (d .arb .last))) e0 e1
+      go false false w e0 e1 = ap₂ (λ (r0 r1 : Bool). claimBy r0 r1 (winnerIn d)) e0 e1
       go true false w e0 e1 = requests-stays Zero d e0
       go false true w e0 e1 = requests-stays One d e1
       go true true Zero e0 e1 = requests-stays Zero d e0
@@ -220,7 +198,7 @@ module _ (d : Device) where
   claim-stays (Owns m) = refl
 
   new-keeps : loses (newClaim d) d ≡ false
-  new-keeps = go (requests Zero d) (requests One d) (winner (d .side0 .contr .priority) (d .side1 .contr .priority) (d .arb .last))
+  new-keeps = go (requests Zero d) (requests One d) (winnerIn d)
     where
       go : (r0 r1 : Bool) (w : Master) → loses (claimBy r0 r1 w) d ≡ false
       go false false w = refl
@@ -252,12 +230,8 @@ module _ (d : Device) where
 
 -- ---- part 6: a fresh grant has its whole reserve before it, and an idle count of 0
 
-either-way : (t : Bool) (n : ℕ) → (if t then n else n) ≡ n
-either-way true n = refl
-either-way false n = refl
-
 fresh-still : (b : Bus) → Still b → Still (withIdle 0 b)
-fresh-still b still = λ i. withIdle (either-way (isIdle b) 0 i) (still i)
+fresh-still b still = (still .0, still .1, λ h. refl)
 
 fresh-keeps : (s : Side) (b : Bus) → runsOut s (s .rt) (withIdle 0 b) ≡ false
 fresh-keeps s b =
@@ -294,7 +268,7 @@ parts-ready e d =
 
 all-ready : (rs : List Raw) → Ready (run rs)
 unfolding run powerUp freshSide
-all-ready rs = run-keeps Ready (λ e d h. parts-ready e d) powerUp rs ((refl, refl), refl, refl)
+all-ready rs = run-keeps Ready (λ e d h. parts-ready e d) powerUp rs (((λ h. refl, λ h. refl, λ h. refl), refl), refl, refl)
 
 -- ---- where all of it holds, parts 2 to 7 change nothing
 
@@ -310,9 +284,34 @@ busy-stays b = go (b .busy) (sclHigh b) (sdaHigh b)
     go false true true = refl
     go false true false = refl
 
+-- counts that are 0 already are not zeroed
+zeroed : (t : Bool) (n : ℕ) → (t ≡ true → n ≡ 0) → (if t then 0 else n) ≡ n
+zeroed true n h = sym (h refl)
+zeroed false n h = refl
+
+zeroed-else : (t : Bool) (n : ℕ) → (t ≡ false → n ≡ 0) → (if t then n else 0) ≡ n
+zeroed-else true n h = refl
+zeroed-else false n h = sym (h refl)
+
+bus-again : (b : Bus) → Still b → settledBus (b .busy) b ≡ b
+bus-again b still =
+    λ i. record {
+      outscl = b .outscl;
+      outsda = b .outsda;
+      intin = b .intin;
+      drivescl = b .drivescl;
+      drivesda = b .drivesda;
+      busy = b .busy;
+      hold = b .hold;
+      idle = zeroed-else (isIdle b) (b .idle) (still .2) i;
+      lowscl = zeroed (sclHigh b) (b .lowscl) (still .0) i;
+      lowsda = zeroed (sdaHigh b) (b .lowsda) (still .1) i;
+    }
+
 levels-again : (d : Device) → Still (d .bus) → levels false (d .bus) d ≡ d
 unfolding levels
-levels-again d still = ap (λ (b : Bus). withBus b d) (ap (λ (busy : Bool). settledBus busy (d .bus)) (busy-stays (d .bus)) ∙ still)
+levels-again d still =
+    ap (λ (b : Bus). withBus b d) (ap (λ (busy : Bool). settledBus busy (d .bus)) (busy-stays (d .bus)) ∙ bus-again (d .bus) still)
 
 losses-again : (t : Turn) (d : Device) → loses t d ≡ false → lossesFrom t d ≡ d
 unfolding lossesFrom
