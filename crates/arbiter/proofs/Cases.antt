@@ -1,11 +1,56 @@
--- What holds of every step and of every run: a step is the seven parts of an accepted event, or a refusal.
+-- What holds of part 7, of every step and of every run, by the cases that there are.
 -- Assumes nothing.
 use mathlib.Core.Path.{_≡_, refl}
-use mathlib.Core.Bool.{true}
-use Rattle.arbiter.specs.Types.{ℕ, List, [], _∷_, Device, Raw, Event, Decoded, Reads, UnknownKind, BadField, OutOfSequence, Stepped}
+use mathlib.Core.Bool.{Bool, true, false}
+use Rattle.arbiter.specs.Types.{ℕ, _+_, List, [], _∷_, ltb, Master, Turn, Nobody, Claims, Owns, Switch, Apart, Initialising, Closed, Clock, NoClock, ClockLow, ClockHigh, Device, Raw, Event, Decoded, Reads, UnknownKind, BadField, OutOfSequence, Stepped}
+use Rattle.arbiter.specs.Words.{sameMaster, side}
+use Rattle.arbiter.specs.Parts.{withBusConnect, withBusInit, withContr, withSwitch, withInitFail, withSide, withArb}
 use Rattle.arbiter.specs.Events.{decode, decodedNumber, inSequence, outcomeNumber}
+use Rattle.arbiter.specs.Order.{joined, clocked, keptJoined, connectFrom, connect}
 use Rattle.arbiter.specs.Steps.{parts, taken, refused, stepEvent, stepDecoded, step, runFrom}
 use Rattle.arbiter.proofs.Choice.{either}
+
+-- ---- part 7: it sets the switch and BUS_INIT_FAIL, and perhaps clears an owner's BUS_INIT, and with it perhaps its BUS_CONNECT
+
+-- the device with such a switch, and with such a flag
+abbrev pub joinedBy : Switch → Bool → Device → Device
+joinedBy w fail d = withArb (withInitFail fail (withSwitch w (d .arb))) d
+
+-- the device whose m has BUS_INIT cleared, and such a BUS_CONNECT
+abbrev pub initEnded : Master → Bool → Device → Device
+initEnded m on d = withSide m (withContr (withBusInit false (withBusConnect on ((side m d) .contr))) (side m d)) d
+
+module _ (P : Device → Type 0) (d : Device) (plain : (w : Switch) (fail : Bool) → P (joinedBy w fail d))
+    (ended : (m : Master) (on : Bool) (w : Switch) (fail : Bool) → ((side m d) .contr .busconnect ≡ false → on ≡ false) → P (joinedBy w fail (initEnded m on d))) where
+  joined-cases : (m : Master) → P (joined m d)
+  unfolding joined
+  joined-cases m = either P ((side m d) .contr .businit) (λ h. plain (Initialising m 0) false) (λ h. plain (Closed m) (d .arb .initfail))
+
+  clocked-cases : (c : Clock) (m : Master) (n : ℕ) → P (clocked c m n d)
+  unfolding clocked
+  clocked-cases NoClock m n = plain (d .arb .switch) (d .arb .initfail)
+  clocked-cases ClockHigh m n = ended m ((side m d) .contr .busconnect) (Closed m) (d .arb .initfail) (λ h. h)
+  clocked-cases ClockLow m n =
+      either P (ltb n 8) (λ h. plain (Initialising m (n + 1)) (d .arb .initfail)) (λ h. ended m false Apart true (λ x. refl))
+
+  kept-cases : (c : Clock) (m : Master) (w : Switch) → P (keptJoined c m w d)
+  unfolding keptJoined
+  kept-cases c m Apart = joined-cases m
+  kept-cases c m (Initialising k n) = either P (sameMaster m k) (λ h. clocked-cases c m n) (λ h. joined-cases m)
+  kept-cases c m (Closed k) = either P (sameMaster m k) (λ h. plain (d .arb .switch) (d .arb .initfail)) (λ h. joined-cases m)
+
+  from-cases : (c : Clock) (t : Turn) → P (connectFrom c t d)
+  unfolding connectFrom
+  from-cases c Nobody = plain Apart (d .arb .initfail)
+  from-cases c (Claims m) = plain Apart (d .arb .initfail)
+  from-cases c (Owns m) =
+      either P ((side m d) .contr .busconnect) (λ h. kept-cases c m (d .arb .switch)) (λ h. plain Apart (d .arb .initfail))
+
+  pub connect-cases : (c : Clock) → P (connect c d)
+  unfolding connect
+  connect-cases c = from-cases c (d .arb .turn)
+
+-- ---- a step: the seven parts of an accepted event, or a refusal
 
 -- what holds of every event taken in sequence and of every refusal holds of the step
 module _ (Q : Stepped → Type 0) (d : Device) (r : Raw)
@@ -23,6 +68,8 @@ module _ (Q : Stepped → Type 0) (d : Device) (r : Raw)
   pub step-cases : Q (step d r)
   unfolding step
   step-cases = decoded-cases (decode r) refl
+
+-- ---- a run
 
 -- what the seven parts keep, a step keeps, and a run
 module _ (P : Device → Type 0) (keeps : (e : Event) (d : Device) → P d → P (parts e d)) where

@@ -2,19 +2,19 @@
 -- Assumes nothing.
 use mathlib.Core.Path.{_≡_, refl, sym, ap, ap₂, subst, _∙_}
 use mathlib.Core.Bool.{Bool, true, false, not, _&&_, _||_, false≢true, and-eq-true-iff, and-true, and-false}
-use Rattle.arbiter.specs.Types.{ℕ, List, eqb, ltb, Master, Zero, One, Turn, Nobody, Claims, Owns, Side, Bus, Switch, Apart, Initialising, Closed, Clock, NoClock, ClockLow, ClockHigh, Device, Raw, Event, Decoded, Reads, Stepped}
+use Rattle.arbiter.specs.Types.{ℕ, List, eqb, Master, Zero, One, Turn, Nobody, Claims, Owns, Side, Bus, Switch, Apart, Initialising, Closed, Clock, NoClock, Device, Raw, Event, Decoded, Reads, Stepped}
 use Rattle.arbiter.specs.Words.{if_then_else_, sameMaster, side}
 use Rattle.arbiter.specs.Parts.{withBusConnect, withBusInit, withContr, withDrives, withIdle, withTurn, withSwitch, withInitFail, withSide, withBus, withArb}
 use Rattle.arbiter.specs.State.{ownsTurn, owns, atRest, sclHigh, sdaHigh, isIdle}
 use Rattle.arbiter.specs.Registers.{disconnected, released}
 use Rattle.arbiter.specs.Events.{decode, inSequence}
 use Rattle.arbiter.specs.Effects.{idleLimit, freshSide, powerUp, effect}
-use Rattle.arbiter.specs.Order.{isReset, isTick, clockOf, busyAfter, settledBus, levels, runsOut, lost, lossesFrom, losses, cutTicks, cutFrom, cut, claimBy, winner, newClaim, claimAfter, claim, granted, grantFrom, grant, switched, joined, failedSide, clocked, keptJoined, connectFrom, connect}
+use Rattle.arbiter.specs.Order.{isReset, isTick, clockOf, busyAfter, settledBus, levels, runsOut, lost, lossesFrom, losses, cutTicks, cutFrom, cut, claimBy, winner, newClaim, claimAfter, claim, granted, grantFrom, grant, switched, joined, clocked, keptJoined, connectFrom, connect}
 use Rattle.arbiter.specs.Steps.{parts, refused, run}
 use Rattle.arbiter.specs.AuditWords.{requests, acceptedAs, isAccepted}
 use Rattle.arbiter.specs.Audit.{RefusedUnchanged, settle, AllSettled}
 use Rattle.arbiter.proofs.Choice.{either, split, if-true, if-false, turn-owns}
-use Rattle.arbiter.proofs.Cases.{step-cases, run-keeps}
+use Rattle.arbiter.proofs.Cases.{connect-cases, step-cases, run-keeps}
 use Rattle.arbiter.proofs.Connected.{serves, asksOn, Served, unserved, all-served}
 
 -- ---- a refused event
@@ -110,30 +110,10 @@ cut-bare on (Claims m) d = refl
 cut-bare on (Owns m) d =
     either (λ (x : Device). bare x ≡ bare d) (on && eqb (d .bus .lowscl) cutTicks && (side m d) .contr .smbusdis) (λ h. side-bare m (disconnected (side m d)) d refl) (λ h. refl)
 
-joined-bare : (m : Master) (d : Device) → bare (joined m d) ≡ bare d
-unfolding joined
-joined-bare m d = either (λ (x : Device). bare x ≡ bare d) ((side m d) .contr .businit) (λ h. refl) (λ h. refl)
-
-clocked-bare : (c : Clock) (m : Master) (n : ℕ) (d : Device) → bare (clocked c m n d) ≡ bare d
-unfolding clocked
-clocked-bare NoClock m n d = refl
-clocked-bare ClockHigh m n d = side-bare m (withContr (withBusInit false ((side m d) .contr)) (side m d)) d refl
-clocked-bare ClockLow m n d =
-    either (λ (x : Device). bare x ≡ bare d) (ltb n 8) (λ h. refl) (λ h. side-bare m (failedSide (side m d)) d refl)
-
-kept-joined-bare : (c : Clock) (m : Master) (w : Switch) (d : Device) → bare (keptJoined c m w d) ≡ bare d
-unfolding keptJoined
-kept-joined-bare c m Apart d = joined-bare m d
-kept-joined-bare c m (Initialising k n) d =
-    either (λ (x : Device). bare x ≡ bare d) (sameMaster m k) (λ h. clocked-bare c m n d) (λ h. joined-bare m d)
-kept-joined-bare c m (Closed k) d = either (λ (x : Device). bare x ≡ bare d) (sameMaster m k) (λ h. refl) (λ h. joined-bare m d)
-
-connect-bare : (c : Clock) (t : Turn) (d : Device) → bare (connectFrom c t d) ≡ bare d
-unfolding connectFrom
-connect-bare c Nobody d = refl
-connect-bare c (Claims m) d = refl
-connect-bare c (Owns m) d =
-    either (λ (x : Device). bare x ≡ bare d) (asksOn m d) (λ h. kept-joined-bare c m (d .arb .switch) d) (λ h. refl)
+connect-bare : (c : Clock) (d : Device) → bare (connect c d) ≡ bare d
+connect-bare c d =
+    connect-cases (λ (x : Device). bare x ≡ bare d) d (λ w fail. refl)
+    (λ m on w fail h. side-bare m (withContr (withBusInit false (withBusConnect on ((side m d) .contr))) (side m d)) d refl) c
 
 -- ---- part 2 leaves a still bus
 
@@ -254,7 +234,7 @@ grant-ready (Claims m) d e kept claimed =
 -- ---- a step leaves all of it, whatever the device was before
 
 parts-ready : (e : Event) (d : Device) → Ready (parts e d)
-unfolding parts losses cut grant connect
+unfolding parts losses cut grant
 parts-ready e d =
     let levelled : Device = levels (isReset e) (d .bus) (effect e d) in
     let three : Device = losses levelled in
@@ -264,7 +244,7 @@ parts-ready e d =
     let seven : Device = connect (clockOf e) six in
     let kept = losses-kept (levelled .arb .turn) levelled refl (levels-still (isReset e) (d .bus) (effect e d)) in
     let claimed = claim-ready four (kept-by three four (sym (cut-bare (isTick e) (three .arb .turn) three)) kept) in
-    ready-by six seven (sym (connect-bare (clockOf e) (six .arb .turn) six)) (grant-ready (five .arb .turn) five refl (claimed .0) (claimed .1))
+    ready-by six seven (sym (connect-bare (clockOf e) six)) (grant-ready (five .arb .turn) five refl (claimed .0) (claimed .1))
 
 all-ready : (rs : List Raw) → Ready (run rs)
 unfolding run powerUp freshSide
