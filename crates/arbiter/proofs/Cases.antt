@@ -1,14 +1,26 @@
--- What holds of part 7, of every step and of every run, by the cases that there are.
+-- What holds of parts 5 and 7, of every step and of every run, by the cases that there are.
 -- Assumes nothing.
 use mathlib.Core.Path.{_≡_, refl}
 use mathlib.Core.Bool.{Bool, true, false}
-use Rattle.arbiter.specs.Types.{ℕ, _+_, List, [], _∷_, ltb, Master, Turn, Nobody, Claims, Owns, Switch, Apart, Initialising, Closed, Clock, NoClock, ClockLow, ClockHigh, Device, Raw, Event, Decoded, Reads, UnknownKind, BadField, OutOfSequence, Stepped}
+use Rattle.arbiter.specs.Types.{ℕ, _+_, List, [], _∷_, ltb, Master, Zero, One, Turn, Nobody, Claims, Owns, Switch, Apart, Initialising, Closed, Clock, NoClock, ClockLow, ClockHigh, Device, Raw, Event, Decoded, Reads, UnknownKind, BadField, OutOfSequence, Stepped}
 use Rattle.arbiter.specs.Words.{sameMaster, side}
 use Rattle.arbiter.specs.Parts.{withBusConnect, withBusInit, withContr, withSwitch, withInitFail, withSide, withArb}
 use Rattle.arbiter.specs.Events.{decode, decodedNumber, inSequence, outcomeNumber}
-use Rattle.arbiter.specs.Order.{joined, clocked, keptJoined, connectFrom, connect}
+use Rattle.arbiter.specs.Order.{winner, claimBy, newClaim, joined, clocked, keptJoined, connectFrom, connect}
 use Rattle.arbiter.specs.Steps.{parts, taken, refused, stepEvent, stepDecoded, step, runFrom}
 use Rattle.arbiter.proofs.Choice.{either}
+
+-- ---- part 5: a new claim is nobody's or a claimant's
+
+new-by : (P : Turn → Type 0) → P Nobody → ((m : Master) → P (Claims m)) → (r0 r1 : Bool) (w : Master) → P (claimBy r0 r1 w)
+new-by P none some false false w = none
+new-by P none some true false w = some Zero
+new-by P none some false true w = some One
+new-by P none some true true w = some w
+
+pub new-cases : (P : Turn → Type 0) (d : Device) → P Nobody → ((m : Master) → P (Claims m)) → P (newClaim d)
+new-cases P d none some =
+    new-by P none some (d .side0 .contr .lockreq) (d .side1 .contr .lockreq) (winner (d .side0 .contr .priority) (d .side1 .contr .priority) (d .arb .last))
 
 -- ---- part 7: it sets the switch and BUS_INIT_FAIL, and perhaps clears an owner's BUS_INIT, and with it perhaps its BUS_CONNECT
 

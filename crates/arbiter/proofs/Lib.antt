@@ -5,5 +5,6 @@ pub mod Cases
 pub mod Connected
 pub mod Seen
 pub mod Settled
+pub mod Ended
 pub mod Marks
 pub mod Witnesses

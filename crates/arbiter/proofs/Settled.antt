@@ -14,7 +14,7 @@ use Rattle.arbiter.specs.Steps.{parts, refused, run}
 use Rattle.arbiter.specs.AuditWords.{requests, acceptedAs, isAccepted}
 use Rattle.arbiter.specs.Audit.{RefusedUnchanged, settle, AllSettled}
 use Rattle.arbiter.proofs.Choice.{either, split, if-true, if-false, turn-owns}
-use Rattle.arbiter.proofs.Cases.{connect-cases, step-cases, run-keeps}
+use Rattle.arbiter.proofs.Cases.{new-cases, connect-cases, step-cases, run-keeps}
 use Rattle.arbiter.proofs.Connected.{serves, asksOn, Served, unserved, all-served}
 
 -- ---- a refused event
@@ -178,13 +178,7 @@ module _ (d : Device) where
   claim-stays (Owns m) = refl
 
   new-keeps : loses (newClaim d) d ≡ false
-  new-keeps = go (requests Zero d) (requests One d) (winnerIn d)
-    where
-      go : (r0 r1 : Bool) (w : Master) → loses (claimBy r0 r1 w) d ≡ false
-      go false false w = refl
-      go true false w = refl
-      go false true w = refl
-      go true true w = refl
+  new-keeps = new-cases (λ (t : Turn). loses t d ≡ false) d refl (λ m. refl)
 
   claim-keeps : (t : Turn) → loses t d ≡ false → loses (claimAfter t d) d ≡ false
   claim-keeps Nobody h = new-keeps
