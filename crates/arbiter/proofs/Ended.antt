@@ -2,6 +2,7 @@
 -- Assumes nothing.
 use mathlib.Core.Path.{_≡_, refl, sym, ap, _∙_}
 use mathlib.Core.Bool.{Bool, true, false, not, _&&_, true≢false, false≢true, and-eq-true-iff, and-not-self}
+use borrow.Author.Tests.{not-true}
 use Rattle.arbiter.specs.Types.{ℕ, eqb, Master, Zero, One, Turn, Nobody, Claims, Owns, Register, Id, Contr, Status, Rt, IntStatus, IntMask, MailLow, MailHigh, Control, Side, Clock, Device, Raw, Event, Command, Write, Read, Stop, Pair, Lines, Tick, Pulse, Reset, GeneralCall, Stepped}
 use Rattle.arbiter.specs.Words.{partner, sameMaster, side, device}
 use Rattle.arbiter.specs.Parts.{withBusConnect, withBusInit, withContr, withSide}
@@ -12,7 +13,7 @@ use Rattle.arbiter.specs.Effects.{writeRisen, partnerSide, holdAsked, wr
 use Rattle.arbiter.specs.Order.{isReset, isTick, clockOf, levels, runsOut, lost, lossesFrom, losses, cutTicks, cutFrom, cut, claimAfter, claim, granted, grantFrom, grant, connect}
 use Rattle.arbiter.specs.Steps.{parts, taken, refused}
 use Rattle.arbiter.specs.AuditWords.{next, requests, grantEnded}
-use Rattle.arbiter.proofs.Choice.{either, split, if-true, if-false, not-true}
+use Rattle.arbiter.proofs.Choice.{either, split, if-true, if-false}
 use Rattle.arbiter.proofs.Cases.{new-cases, connect-cases, step-cases}
 use Rattle.arbiter.proofs.Connected.{asksOn}
 
