@@ -41,6 +41,12 @@ apart-from Zero One h = absurd (false≢true h)
 apart-from One Zero h = absurd (false≢true h)
 apart-from One One h = refl
 
+-- where m owns, its partner does not
+pub partner-not : (m : Master) (t : Turn) → ownsTurn m t ≡ true → ownsTurn (partner m) t ≡ false
+partner-not m Nobody h = refl
+partner-not m (Claims k) h = refl
+partner-not m (Owns k) h = apart-from m k h
+
 -- a switch that serves nobody but m does not serve the partner
 not-partner : (m : Master) (w : Switch) → onlyFor m w ≡ true → serves (partner m) w ≡ false
 not-partner m Apart h = refl
@@ -71,10 +77,12 @@ failed-asks Zero d = refl
 failed-asks One d = refl
 
 module _ (m : Master) (d : Device) (e : d .arb .turn ≡ Owns m) where
+  -- an open switch is right for an owner that does not ask
   apart-served : asksOn m d ≡ false → Served (switched Apart d)
   apart-served a = served m (d .arb .turn) Apart (λ j. asksOn j d) e refl (sym a)
 
   module _ (a : asksOn m d ≡ true) where
+    -- one that is closed for it, or initialises for it, is right for an owner that asks
     joined-served : Served (joined m d)
     unfolding joined
     joined-served =
@@ -82,9 +90,11 @@ module _ (m : Master) (d : Device) (e : d .arb .turn ≡ Owns m) where
         (λ h. served m (d .arb .turn) (Initialising m 0) (λ j. asksOn j d) e (same-self m) (same-self m ∙ sym a))
         (λ h. served m (d .arb .turn) (Closed m) (λ j. asksOn j d) e (same-self m) (same-self m ∙ sym a))
 
+    -- and so is one that serves it already
     kept : onlyFor m (d .arb .switch) ≡ true → serves m (d .arb .switch) ≡ true → Served d
     kept h s = served m (d .arb .turn) (d .arb .switch) (λ j. asksOn j d) e h (s ∙ sym a)
 
+    -- PULSEs keep it so: a failure opens the switch and clears BUS_CONNECT
     clocked-served : (c : Clock) (n : ℕ) → onlyFor m (d .arb .switch) ≡ true → serves m (d .arb .switch) ≡ true → Served (clocked c m n d)
     unfolding clocked
     clocked-served NoClock n h s = kept h s
@@ -95,6 +105,7 @@ module _ (m : Master) (d : Device) (e : d .arb .turn ≡ Owns m) where
         (λ x. served m (d .arb .turn) (Initialising m (n + 1)) (λ j. asksOn j d) e (same-self m) (same-self m ∙ sym a))
         (λ x. served m (d .arb .turn) Apart (λ j. asksOn j (initFailed m d)) e refl (sym (failed-asks m d)))
 
+    -- whomever the switch served before, it serves the owner that asks
     kept-served : (c : Clock) (w : Switch) → d .arb .switch ≡ w → Served (keptJoined c m w d)
     unfolding keptJoined
     kept-served c Apart s = joined-served
@@ -106,6 +117,7 @@ module _ (m : Master) (d : Device) (e : d .arb .turn ≡ Owns m) where
 unowned-served : (t : Turn) (d : Device) → d .arb .turn ≡ t → ((j : Master) → ownsTurn j t ≡ false) → Served (switched Apart d)
 unowned-served t d e none j = sym (ap (λ (t : Turn). ownsTurn j t && asksOn j d) e ∙ ap (λ (o : Bool). o && asksOn j d) (none j))
 
+-- by whose turn it is
 connect-from-served : (c : Clock) (t : Turn) (d : Device) → d .arb .turn ≡ t → Served (connectFrom c t d)
 unfolding connectFrom
 connect-from-served c Nobody d e = unowned-served Nobody d e (λ j. refl)
@@ -113,12 +125,14 @@ connect-from-served c (Claims m) d e = unowned-served (Claims m) d e (λ j. refl
 connect-from-served c (Owns m) d e =
     either Served (asksOn m d) (λ a. kept-served m d e a c (d .arb .switch) refl) (λ a. apart-served m d e a)
 
+-- so part 7 leaves it so
 connect-served : (c : Clock) (d : Device) → Served (connect c d)
 unfolding connect
 connect-served c d = connect-from-served c (d .arb .turn) d refl
 
 -- ---- a step and a run
 
+-- part 7 is the last
 parts-served : (e : Event) (d : Device) → Served d → Served (parts e d)
 unfolding parts
 parts-served e d h = connect-served (clockOf e) (grant (claim (cut (isTick e) (losses (levels (isReset e) (d .bus) (effect e d))))))
@@ -136,11 +150,13 @@ all-served rs = run-keeps Served parts-served powerUp rs (λ m. refl)
 pub serves-owner : (d : Device) → Served d → (m : Master) → serves m (d .arb .switch) ≡ true → owns m d ≡ true
 serves-owner d h m s = and-eq-true-iff (owns m d) (asksOn m d) .0 (sym (h m) ∙ s) .0
 
+-- a closed switch serves
 closed-served : (m : Master) (w : Switch) → closedFor m w ≡ true → serves m w ≡ true
 closed-served m Apart h = h
 closed-served m (Initialising k n) h = absurd (false≢true h)
 closed-served m (Closed k) h = h
 
+-- a switch is closed for one master at most
 closed-once : (m : Master) (w : Switch) → closedFor m w ≡ true → closedFor (partner m) w ≡ false
 closed-once m Apart h = refl
 closed-once m (Initialising k n) h = refl
@@ -151,6 +167,7 @@ one-connected rs m h =
     let d : Device = run rs in
     (serves-owner d (all-served rs) m (closed-served m (d .arb .switch) h), closed-once m (d .arb .switch) h)
 
+-- a switch that serves nobody is open
 pub unserved : (w : Switch) → ((m : Master) → serves m w ≡ false) → w ≡ Apart
 unserved Apart h = refl
 unserved (Initialising k n) h = absurd (false≢true (sym (h k) ∙ same-self k))

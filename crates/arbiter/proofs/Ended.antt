@@ -15,7 +15,7 @@ use Rattle.arbiter.specs.Steps.{parts, taken, refused}
 use Rattle.arbiter.specs.AuditWords.{next, requests, grantEnded}
 use Rattle.arbiter.proofs.Choice.{either, split, if-true, if-false}
 use Rattle.arbiter.proofs.Cases.{new-cases, connect-cases, step-cases}
-use Rattle.arbiter.proofs.Connected.{asksOn}
+use Rattle.arbiter.proofs.Connected.{asksOn, partner-not}
 
 -- ---- what is kept from part to part: m owns, or its BUS_CONNECT is 0
 
@@ -71,15 +71,6 @@ mail-contr IntMask v s = refl
 mail-contr MailLow v s = either (λ (x : Side). x .contr ≡ s .contr) (s .mail .full) (λ h. refl) (λ h. refl)
 mail-contr MailHigh v s = either (λ (x : Side). x .contr ≡ s .contr) (s .mail .full) (λ h. refl) (λ h. refl)
 
--- where m owns, its partner does not
-partner-not : (m : Master) (t : Turn) → ownsTurn m t ≡ true → ownsTurn (partner m) t ≡ false
-partner-not m Nobody h = refl
-partner-not m (Claims k) h = refl
-partner-not Zero (Owns Zero) h = refl
-partner-not Zero (Owns One) h = sym h
-partner-not One (Owns Zero) h = sym h
-partner-not One (Owns One) h = refl
-
 -- what holds of m and of its partner holds of either master
 any-master : (P : Master → Type 0) (m : Master) → P m → P (partner m) → (k : Master) → P k
 any-master P Zero mine other Zero = mine
@@ -92,6 +83,7 @@ asks-mine : (m : Master) (s p : Side) (d : Device) → asksOn m (device m s p (d
 asks-mine Zero s p d = refl
 asks-mine One s p d = refl
 
+-- a WRITE: its writer's own, or the partner's, which leaves the turn
 write-off : (m : Master) (v : ℕ) (d : Device) → owns m d ≡ true → (k : Master) → Off m (written k v d)
 unfolding written
 write-off m v d o = any-master (λ (k : Master). Off m (written k v d)) m mine other
@@ -110,6 +102,7 @@ write-off m v d o = any-master (λ (k : Master). Off m (written k v d)) m mine o
         (ap (λ (g : Bool). ownsTurn m (turnWritten g ((side (partner m) d) .pointer) v (d .arb .turn))) (partner-not m (d .arb .turn) o)
         ∙ ap (ownsTurn m) (turn-left ((side (partner m) d) .pointer) v (d .arb .turn)) ∙ o)
 
+-- a PAIR: both
 pair-off : (m : Master) (v0 v1 : ℕ) (d : Device) → owns m d ≡ true → Off m (paired v0 v1 d)
 unfolding paired
 pair-off Zero v0 v1 d o h =
@@ -132,11 +125,13 @@ pair-off One v0 v1 d o h =
 
 -- ---- part 1: every event
 
+-- a reset clears it
 reset-off : (m : Master) (hold : ℕ) (d : Device) → asksOn m (wasReset hold d) ≡ false
 unfolding wasReset freshSide
 reset-off Zero hold d = refl
 reset-off One hold d = refl
 
+-- no other event touches the turn
 effect-off : (m : Master) (e : Event) (d : Device) → owns m d ≡ true → Off m (effect e d)
 unfolding effect wasRead lined ticked
 effect-off m (Command k c) d o = owner-off m (effect (Command k c) d) o
@@ -160,6 +155,7 @@ put-off Zero One s d f h = h
 put-off One Zero s d f h = h
 put-off One One s d f h = f h
 
+-- a loss clears the loser's, and the other did not own
 lost-off : (m k : Master) (d : Device) → (sameMaster m k ≡ false → asksOn m d ≡ false) → asksOn m (lost k d) ≡ false
 unfolding lost
 lost-off Zero Zero d f = refl
@@ -167,6 +163,7 @@ lost-off Zero One d f = f refl
 lost-off One Zero d f = f refl
 lost-off One One d f = refl
 
+-- so part 3 keeps it
 losses-off : (m : Master) (t : Turn) (d : Device) → d .arb .turn ≡ t → Off m d → Off m (lossesFrom t d)
 unfolding lossesFrom
 losses-off m Nobody d e f = f
@@ -174,6 +171,7 @@ losses-off m (Claims k) d e f = f
 losses-off m (Owns k) d e f =
     either (Off m) (runsOut (side k d) (d .arb .reserve) (d .bus)) (λ out h. lost-off m k d λ n. f (ap (ownsTurn m) e ∙ n)) (λ out. f)
 
+-- part 4 only clears
 cut-off : (m : Master) (on : Bool) (t : Turn) (d : Device) → Off m d → Off m (cutFrom on t d)
 unfolding cutFrom
 cut-off m on Nobody d f = f
@@ -189,6 +187,7 @@ claim-owner m (Claims k) d =
     either (λ (t : Turn). ownsTurn m t ≡ false) (requests k d) (λ h. refl) (λ h. new-cases (λ (t : Turn). ownsTurn m t ≡ false) d refl (λ k. refl))
 claim-owner m (Owns k) d = refl
 
+-- part 5
 claim-off : (m : Master) (d : Device) → Off m d → Off m (claim d)
 unfolding claim
 claim-off m d f h = f (sym (claim-owner m (d .arb .turn) d) ∙ h)
@@ -201,6 +200,7 @@ granted-asks Zero One d = refl
 granted-asks One Zero d = refl
 granted-asks One One d = refl
 
+-- part 6
 grant-off : (m : Master) (t : Turn) (d : Device) → d .arb .turn ≡ t → Off m d → Off m (grantFrom t d)
 unfolding grantFrom
 grant-off m Nobody d e f = f
@@ -208,6 +208,7 @@ grant-off m (Claims k) d e f =
     either (Off m) (atRest ((side k d) .port) && eqb (d .bus .hold) 0) (λ now h. granted-asks m k d ∙ f (ap (ownsTurn m) e)) (λ now. f)
 grant-off m (Owns k) d e f = f
 
+-- part 7 sets no BUS_CONNECT
 connect-off : (m : Master) (c : Clock) (d : Device) → Off m d → Off m (connect c d)
 connect-off m c d f =
     connect-cases (Off m) d (λ w fail. f)
@@ -215,6 +216,7 @@ connect-off m c d f =
 
 -- ---- a step
 
+-- so whoever owned before the event owns after it, or has BUS_CONNECT 0
 parts-off : (m : Master) (e : Event) (d : Device) → owns m d ≡ true → Off m (parts e d)
 unfolding parts levels losses cut grant
 parts-off m e d o =

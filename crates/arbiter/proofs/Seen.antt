@@ -13,9 +13,9 @@ use Rattle.arbiter.specs.AuditWords.{next}
 use Rattle.arbiter.specs.Audit.{ownerBits, switchBits, AnswersShow, AnswersShowOne, RegistersShow, RegistersShowOne}
 use Rattle.arbiter.proofs.Bitwise.{same}
 use Rattle.arbiter.proofs.Every.{both, both-at}
-use Rattle.arbiter.proofs.Choice.{same-self}
+use Rattle.arbiter.proofs.Choice.{split, same-self}
 use Rattle.arbiter.proofs.Cases.{step-cases}
-use Rattle.arbiter.proofs.Connected.{serves, asksOn, serves-owner, step-served, all-served}
+use Rattle.arbiter.proofs.Connected.{serves, asksOn, partner-not, serves-owner, step-served, all-served}
 
 -- ---- the answers
 
@@ -27,22 +27,25 @@ step-shows : (d : Device) (r : Raw) → ShowsItself (step d r)
 unfolding taken refused
 step-shows d r = step-cases ShowsItself d r (λ e x s. refl) (λ n. refl)
 
--- its two pairs of bits are the owner's number and the connected one's
+-- an owner's number fits two bits
 owner-below : (t : Turn) → ownerNumber t < 4
 owner-below Nobody = omega arith
 owner-below (Claims m) = omega arith
 owner-below (Owns Zero) = omega arith
 owner-below (Owns One) = omega arith
 
+-- the byte of a turn and a switch
 abbrev byteFor : Turn → Switch → ℕ
 byteFor t w = ownerNumber t + 4 * switchNumber w + worth 16 (isInitialising w)
 
+-- the switch adds fours, and the initialisation a sixteen
 bits-of : (t : Turn) (w : Switch) → (ownerBits (byteFor t w) ≡ ownerNumber t) × (switchBits (byteFor t w) ≡ switchNumber w)
 bits-of t Apart = omega (arith, owner-below t)
 bits-of t (Initialising k n) = omega (arith, owner-below t)
 bits-of t (Closed Zero) = omega (arith, owner-below t)
 bits-of t (Closed One) = omega (arith, owner-below t)
 
+-- so an answer shows owner and connected one as they are after the step
 shown-bits : (d : Device) (r : Raw) → let b : ℕ = step d r .answer .owner in let a : Arbitration = (next d r) .arb in
     (ownerBits b ≡ ownerNumber (a .turn)) × (switchBits b ≡ switchNumber (a .switch))
 unfolding ownerByte
@@ -62,11 +65,13 @@ number-of Zero One = refl
 number-of One Zero = refl
 number-of One One = refl
 
+-- no number but the owner's own is the owner's
 owner-told : (m : Master) (t : Turn) → eqb (ownerNumber t) (masterNumber m) ≡ ownsTurn m t
 owner-told m Nobody = no-number m
 owner-told m (Claims k) = no-number m
 owner-told m (Owns k) = number-of m k
 
+-- and so for the connected one
 connected-told : (m : Master) (w : Switch) → eqb (switchNumber w) (masterNumber m) ≡ closedFor m w
 connected-told m Apart = no-number m
 connected-told m (Initialising k n) = no-number m
@@ -112,6 +117,7 @@ all-bits : both (λ b7. both (λ b6. both (λ b5. both (λ b4. both (λ b3. both
 unfolding both byteOf
 all-bits = refl
 
+-- and so for each byte
 three-bits : (b7 b6 b5 b4 b3 b2 b1 b0 : Bool) → let v : ℕ = byteOf b7 b6 b5 b4 b3 b2 b1 b0 in (bit 2 v ≡ b2) × (bit 1 v ≡ b1) × (bit 0 v ≡ b0)
 three-bits b7 b6 b5 b4 b3 b2 b1 b0 =
     let v : ℕ = byteOf b7 b6 b5 b4 b3 b2 b1 b0 in
@@ -120,7 +126,7 @@ three-bits b7 b6 b5 b4 b3 b2 b1 b0 =
     let t10 = and-eq-true-iff (Bool·beq (bit 1 v) b1) (Bool·beq (bit 0 v) b0) .0 (t210 .1) in
     (same (bit 2 v) b2 (t210 .0), same (bit 1 v) b1 (t10 .0), same (bit 0 v) b0 (t10 .1))
 
--- CONTR shows the grant and BUS_CONNECT, and STATUS the partner's grant
+-- CONTR shows the grant in bit 1, and BUS_CONNECT in bit 2
 contr-shows : (m : Master) (d : Device) → let v : ℕ = readsAt Contr m d in (bit 2 v ≡ asksOn m d) × (bit 1 v ≡ owns m d)
 unfolding registerByte contrByte
 contr-shows m d =
@@ -128,6 +134,7 @@ contr-shows m d =
     let t = three-bits (c .priority) (c .smbusdis) (c .idletimer) (c .swrst) (c .businit) (c .busconnect) (owns m d) (c .lockreq) in
     (t .0, t .1)
 
+-- STATUS shows the partner's grant in bit 0
 status-shows : (m : Master) (d : Device) → bit 0 (readsAt Status m d) ≡ owns (partner m) d
 unfolding registerByte statusByte
 status-shows m d =
@@ -136,6 +143,7 @@ status-shows m d =
     let b : Bus = d .bus in
     three-bits (sdaHigh b) (sclHigh b) false (own .mail .full) (not (other .mail .full)) (busHung b) (d .arb .initfail) (owns (partner m) d) .2
 
+-- the partner's partner is oneself
 back : (m : Master) → partner (partner m) ≡ m
 back Zero = refl
 back One = refl
@@ -158,12 +166,7 @@ registers-show rs m =
 
 -- the two masters never own at once
 one-owner : (m : Master) (t : Turn) → ownsTurn m t && ownsTurn (partner m) t ≡ false
-one-owner m Nobody = refl
-one-owner m (Claims k) = refl
-one-owner Zero (Owns Zero) = refl
-one-owner Zero (Owns One) = refl
-one-owner One (Owns Zero) = refl
-one-owner One (Owns One) = refl
+one-owner m t = split (ownsTurn m t) (λ h. ap₂ _&&_ h (partner-not m t h)) (λ h. ap (λ (o : Bool). o && ownsTurn (partner m) t) h)
 
 pub registers-show-one : RegistersShowOne
 registers-show-one rs m =

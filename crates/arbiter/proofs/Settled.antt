@@ -19,7 +19,7 @@ use Rattle.arbiter.proofs.Connected.{serves, asksOn, Served, unserved, 
 
 -- ---- a refused event
 
--- what is in sequence is accepted
+-- what reads as an event and is in sequence is accepted, so what is not accepted is refused
 in-sequence-accepted : (r : Raw) (e : Event) (d : Device) → decode r ≡ Reads e → inSequence e d ≡ true → isAccepted r d ≡ true
 in-sequence-accepted r e d h s = ap (λ (x : Decoded). acceptedAs (λ (e : Event) (x : Device). true) x d) h ∙ and-true (inSequence e d) ∙ s
 
@@ -54,6 +54,7 @@ Kept d = Still (d .bus) × (loses (d .arb .turn) d ≡ false)
 abbrev Claimed : Device → Type 0
 Claimed d = claimAfter (d .arb .turn) d ≡ d .arb .turn
 
+-- all of parts 2 to 6: nothing to level, to lose, to claim or to grant
 abbrev Ready : Device → Type 0
 Ready d = Kept d × Claimed d × (isDue (d .arb .turn) d ≡ false)
 
@@ -66,18 +67,21 @@ bareSide s = withContr (withBusInit false (withBusConnect false (s .contr))) s
 abbrev bare : Device → Device
 bare d = record { side0 = bareSide (d .side0); side1 = bareSide (d .side1); bus = d .bus; arb = withInitFail false (withSwitch Apart (d .arb)) }
 
+-- whether the owner loses is asked of RT, the idle timer, the reserve count and the bus
 loses-bare : (t : Turn) (d : Device) → loses t (bare d) ≡ loses t d
 loses-bare Nobody d = refl
 loses-bare (Claims m) d = refl
 loses-bare (Owns Zero) d = refl
 loses-bare (Owns One) d = refl
 
+-- who claims is asked of LOCK_REQ, the priorities and the last granted
 claim-bare : (t : Turn) (d : Device) → claimAfter t (bare d) ≡ claimAfter t d
 claim-bare Nobody d = refl
 claim-bare (Claims Zero) d = refl
 claim-bare (Claims One) d = refl
 claim-bare (Owns m) d = refl
 
+-- whether the claimant is to be granted is asked of its port and the hold
 due-bare : (t : Turn) (d : Device) → isDue t (bare d) ≡ isDue t d
 due-bare Nobody d = refl
 due-bare (Claims Zero) d = refl
@@ -85,12 +89,14 @@ due-bare (Claims One) d = refl
 due-bare (Owns m) d = refl
 
 module _ (x y : Device) (p : bare x ≡ bare y) where
+  -- so a device that differs in those alone is as still, and its owner as safe
   kept-by : Kept x → Kept y
   kept-by (still, stays) = (
     subst (λ (d : Device). Still (d .bus)) p still,
     sym (loses-bare (y .arb .turn) y) ∙ ap (λ (d : Device). loses (d .arb .turn) d) (sym p) ∙ loses-bare (x .arb .turn) x ∙ stays,
   )
 
+  -- and as ready
   ready-by : Ready x → Ready y
   ready-by (kept, claimed, waits) = (
     kept-by kept,
@@ -103,6 +109,7 @@ side-bare : (m : Master) (s : Side) (d : Device) → bareSide s ≡ bareSide (si
 side-bare Zero s d h = λ i. record { side0 = h i; side1 = bareSide (d .side1); bus = d .bus; arb = withInitFail false (withSwitch Apart (d .arb)) }
 side-bare One s d h = λ i. record { side0 = bareSide (d .side0); side1 = h i; bus = d .bus; arb = withInitFail false (withSwitch Apart (d .arb)) }
 
+-- part 4 clears BUS_CONNECT and nothing else
 cut-bare : (on : Bool) (t : Turn) (d : Device) → bare (cutFrom on t d) ≡ bare d
 unfolding cutFrom
 cut-bare on Nobody d = refl
@@ -110,6 +117,7 @@ cut-bare on (Claims m) d = refl
 cut-bare on (Owns m) d =
     either (λ (x : Device). bare x ≡ bare d) (on && eqb (d .bus .lowscl) cutTicks && (side m d) .contr .smbusdis) (λ h. side-bare m (disconnected (side m d)) d refl) (λ h. refl)
 
+-- part 7 touches nothing but those
 connect-bare : (c : Clock) (d : Device) → bare (connect c d) ≡ bare d
 connect-bare c d =
     connect-cases (λ (x : Device). bare x ≡ bare d) d (λ w fail. refl)
@@ -117,6 +125,7 @@ connect-bare c d =
 
 -- ---- part 2 leaves a still bus
 
+-- the levels are as before part 2, which zeroed the counts by them
 levels-still : (reset : Bool) (before : Bus) (d : Device) → Still ((levels reset before d) .bus)
 unfolding levels
 levels-still reset before d =
@@ -125,15 +134,18 @@ levels-still reset before d =
 
 -- ---- part 3: a loss comes only on an idle bus, whose drives are released already
 
+-- an idle count of 101 is not 0, so the bus is idle
 counted-idle : (b : Bus) → Still b → eqb (b .idle) idleLimit ≡ true → isIdle b ≡ true
 counted-idle b still h = split (isIdle b) (λ e. e) (λ e. absurd (false≢true (sym (ap (λ (n : ℕ). eqb n idleLimit) (still .2 e)) ∙ h)))
 
+-- a reserve that runs out asks for an idle bus, and the idle timer for its count
 out-idle : (s : Side) (n : ℕ) (b : Bus) → Still b → runsOut s n b ≡ true → isIdle b ≡ true
 out-idle s n b still =
     either (λ (x : Bool). x ≡ true → isIdle b ≡ true) (eqb (s .rt) 0)
     (λ z h. counted-idle b still (and-eq-true-iff (s .contr .idletimer) (eqb (b .idle) idleLimit) .0 h .1))
     (λ z h. and-eq-true-iff (eqb n 0) (isIdle b) .0 h .1)
 
+-- lines that are high are not driven low
 idle-released : (b : Bus) → isIdle b ≡ true → released b ≡ b
 idle-released b h =
     let outer = and-eq-true-iff (not (b .busy) && sclHigh b) (sdaHigh b) .0 h in
@@ -142,6 +154,7 @@ idle-released b h =
     let drivesda = and-eq-true-iff (b .outsda) (b .drivesda) .0 (outer .1) .1 in
     ap₂ (λ (x y : Bool). withDrives x y b) (sym drivescl) (sym drivesda)
 
+-- after part 3 nobody is left to lose, and the bus is as it was
 losses-kept : (t : Turn) (d : Device) → d .arb .turn ≡ t → Still (d .bus) → Kept (lossesFrom t d)
 unfolding lossesFrom lost
 losses-kept Nobody d e still = (still, ap (λ (t : Turn). loses t d) e)
@@ -153,6 +166,7 @@ losses-kept (Owns m) d e still =
 
 -- ---- part 5: who claims stays the claimant, and a new claimant has nothing to lose
 
+-- a claimant that still requests stays
 requests-stays : (m : Master) (d : Device) → requests m d ≡ true → claimAfter (Claims m) d ≡ Claims m
 requests-stays m d h = if-true (Claims m) (newClaim d) h
 
@@ -161,6 +175,7 @@ abbrev winnerIn : Device → Master
 winnerIn d = winner (d .side0 .contr .priority) (d .side1 .contr .priority) (d .arb .last)
 
 module _ (d : Device) where
+  -- a new claimant requests; and where nobody claims, nobody requests
   new-stays : claimAfter (newClaim d) d ≡ newClaim d
   new-stays = go (requests Zero d) (requests One d) (winnerIn d) refl refl
     where
@@ -171,21 +186,24 @@ module _ (d : Device) where
       go true true Zero e0 e1 = requests-stays Zero d e0
       go true true One e0 e1 = requests-stays One d e1
 
+  -- part 5 done twice is part 5 done once
   claim-stays : (t : Turn) → claimAfter (claimAfter t d) d ≡ claimAfter t d
   claim-stays Nobody = new-stays
   claim-stays (Claims m) =
       either (λ (t : Turn). claimAfter t d ≡ t) (requests m d) (λ h. requests-stays m d h) (λ h. new-stays)
   claim-stays (Owns m) = refl
 
+  -- a new claimant does not own
   new-keeps : loses (newClaim d) d ≡ false
   new-keeps = new-cases (λ (t : Turn). loses t d ≡ false) d refl (λ m. refl)
 
+  -- an owner stays the owner, and nobody else is made one
   claim-keeps : (t : Turn) → loses t d ≡ false → loses (claimAfter t d) d ≡ false
   claim-keeps Nobody h = new-keeps
   claim-keeps (Claims m) h = either (λ (t : Turn). loses t d ≡ false) (requests m d) (λ h. refl) (λ h. new-keeps)
   claim-keeps (Owns m) h = h
 
-  -- neither asks the device for its turn again
+  -- both are asked of the turn that is given, and not of the device's own
   loses-turn : (t u : Turn) → loses t (withArb (withTurn u (d .arb)) d) ≡ loses t d
   loses-turn Nobody u = refl
   loses-turn (Claims m) u = refl
@@ -196,6 +214,7 @@ module _ (d : Device) where
   claim-turn (Claims m) u = refl
   claim-turn (Owns m) u = refl
 
+  -- so part 5 leaves a claimant that stays, and an owner as safe as before
   claim-ready : Kept d → Kept (claim d) × Claimed (claim d)
   unfolding claim
   claim-ready (still, stays) =
@@ -204,18 +223,22 @@ module _ (d : Device) where
 
 -- ---- part 6: a fresh grant has its whole reserve before it, and an idle count of 0
 
+-- a zeroed idle count is right on any bus
 fresh-still : (b : Bus) → Still b → Still (withIdle 0 b)
 fresh-still b still = (still .0, still .1, λ h. refl)
 
+-- a reserve count of RT is 0 only for RT 00h, and an idle count of 0 is not 101
 fresh-keeps : (s : Side) (b : Bus) → runsOut s (s .rt) (withIdle 0 b) ≡ false
 fresh-keeps s b =
     either (λ (x : Bool). x ≡ false) (eqb (s .rt) 0) (λ z. and-false (s .contr .idletimer)) (λ z. ap (λ (n : Bool). n && isIdle b) z)
 
+-- so a fresh owner does not lose at once, and an owner is the claimant, with no grant due
 granted-ready : (m : Master) (d : Device) → Still (d .bus) → Ready (granted m d)
 unfolding granted
 granted-ready Zero d still = ((fresh-still (d .bus) still, fresh-keeps (d .side0) (d .bus)), refl, refl)
 granted-ready One d still = ((fresh-still (d .bus) still, fresh-keeps (d .side1) (d .bus)), refl, refl)
 
+-- whoever is due is granted, so after part 6 nobody is
 grant-ready : (t : Turn) (d : Device) → d .arb .turn ≡ t → Kept d → Claimed d → Ready (grantFrom t d)
 unfolding grantFrom
 grant-ready Nobody d e kept claimed = (kept, claimed, ap (λ (t : Turn). isDue t d) e)
@@ -227,6 +250,7 @@ grant-ready (Claims m) d e kept claimed =
 
 -- ---- a step leaves all of it, whatever the device was before
 
+-- part 2 levels, part 3 loses, 4 leaves both, 5 claims, 6 grants, and 7 leaves all
 parts-ready : (e : Event) (d : Device) → Ready (parts e d)
 unfolding parts losses cut grant
 parts-ready e d =
@@ -240,6 +264,7 @@ parts-ready e d =
     let claimed = claim-ready four (kept-by three four (sym (cut-bare (isTick e) (three .arb .turn) three)) kept) in
     ready-by six seven (sym (connect-bare (clockOf e) six)) (grant-ready (five .arb .turn) five refl (claimed .0) (claimed .1))
 
+-- so it holds after every run, and at power-up
 all-ready : (rs : List Raw) → Ready (run rs)
 unfolding run powerUp freshSide
 all-ready rs = run-keeps Ready (λ e d h. parts-ready e d) powerUp rs (((λ h. refl, λ h. refl, λ h. refl), refl), refl, refl)
@@ -267,6 +292,7 @@ zeroed-else : (t : Bool) (n : ℕ) → (t ≡ false → n ≡ 0) → (if t then 
 zeroed-else true n h = refl
 zeroed-else false n h = sym (h refl)
 
+-- a still bus is levelled already
 bus-again : (b : Bus) → Still b → settledBus (b .busy) b ≡ b
 bus-again b still =
     λ i. record {
@@ -282,27 +308,32 @@ bus-again b still =
       lowsda = zeroed (sdaHigh b) (b .lowsda) (still .1) i;
     }
 
+-- part 2
 levels-again : (d : Device) → Still (d .bus) → levels false (d .bus) d ≡ d
 unfolding levels
 levels-again d still =
     ap (λ (b : Bus). withBus b d) (ap (λ (busy : Bool). settledBus busy (d .bus)) (busy-stays (d .bus)) ∙ bus-again (d .bus) still)
 
+-- part 3
 losses-again : (t : Turn) (d : Device) → loses t d ≡ false → lossesFrom t d ≡ d
 unfolding lossesFrom
 losses-again Nobody d h = refl
 losses-again (Claims m) d h = refl
 losses-again (Owns m) d h = if-false (lost m d) d h
 
+-- part 4, which needs a tick
 cut-again : (t : Turn) (d : Device) → cutFrom false t d ≡ d
 unfolding cutFrom
 cut-again Nobody d = refl
 cut-again (Claims m) d = refl
 cut-again (Owns m) d = refl
 
+-- part 5
 claim-again : (d : Device) → Claimed d → claim d ≡ d
 unfolding claim
 claim-again d h = ap (λ (t : Turn). withArb (withTurn t (d .arb)) d) h
 
+-- part 6
 grant-again : (t : Turn) (d : Device) → isDue t d ≡ false → grantFrom t d ≡ d
 unfolding grantFrom
 grant-again Nobody d h = refl
@@ -313,6 +344,7 @@ grant-again (Owns m) d h = refl
 open-again : (d : Device) → Served d → ((j : Master) → owns j d && asksOn j d ≡ false) → switched Apart d ≡ d
 open-again d h none = ap (λ (w : Switch). switched w d) (sym (unserved (d .arb .switch) λ j. h j ∙ none j))
 
+-- where m does not ask, nobody is m and asks
 unasked : (j m : Master) (on : Master → Bool) → on m ≡ false → sameMaster j m && on j ≡ false
 unasked Zero Zero on h = h
 unasked Zero One on h = refl
@@ -326,6 +358,7 @@ kept-again m Apart d s = absurd (false≢true s)
 kept-again m (Initialising k n) d s = if-true d (joined m d) s
 kept-again m (Closed k) d s = if-true d (joined m d) s
 
+-- part 7: the switch serves the owner that asks already, and is open already if there is none
 connect-again : (t : Turn) (d : Device) → d .arb .turn ≡ t → Served d → connectFrom NoClock t d ≡ d
 unfolding connectFrom
 connect-again Nobody d e h = open-again d h λ j. ap (λ (t : Turn). ownsTurn j t && asksOn j d) e
@@ -335,6 +368,7 @@ connect-again (Owns m) d e h =
     (λ a. kept-again m (d .arb .switch) d (h m ∙ ap₂ _&&_ (turn-owns m (d .arb .turn) e) a))
     (λ a. open-again d h λ j. ap (λ (t : Turn). ownsTurn j t && asksOn j d) e ∙ unasked j m (λ j. asksOn j d) a)
 
+-- parts 2 to 7, one after the other
 settles : (d : Device) → Ready d → Served d → settle d ≡ d
 unfolding losses cut grant connect
 settles d ((still, stays), claimed, waits) served =
