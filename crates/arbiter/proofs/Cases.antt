@@ -1,17 +1,31 @@
--- What holds of parts 5 and 7, of every step and of every run, by the cases that there are.
+-- What holds of parts 4 to 7, of every step and of every run, by the cases that there are.
 -- Assumes nothing.
-use mathlib.Core.Path.{_≡_, refl}
-use mathlib.Core.Bool.{Bool, true, false}
-use Rattle.arbiter.specs.Types.{ℕ, _+_, List, [], _∷_, ltb, Master, Zero, One, Turn, Nobody, Claims, Owns, Switch, Apart, Initialising, Closed, Clock, NoClock, ClockLow, ClockHigh, Device, Raw, Event, Decoded, Reads, UnknownKind, BadField, OutOfSequence, Stepped}
+use mathlib.Core.Path.{_≡_, refl, sym, subst}
+use mathlib.Core.Bool.{Bool, true, false, _&&_}
+use Rattle.arbiter.specs.Types.{ℕ, List, [], _∷_, eqb, ltb, Master, Zero, One, Turn, Nobody, Claims, Owns, Switch, Apart, Initialising, Closed, Clock, NoClock, ClockLow, ClockHigh, Device, Raw, Event, Decoded, Reads, UnknownKind, BadField, OutOfSequence, Stepped}
 use Rattle.arbiter.specs.Words.{sameMaster, side}
 use Rattle.arbiter.specs.Parts.{withBusConnect, withBusInit, withContr, withSwitch, withInitFail, withSide, withArb}
+use Rattle.arbiter.specs.State.{atRest}
+use Rattle.arbiter.specs.Registers.{disconnected}
 use Rattle.arbiter.specs.Events.{decode, decodedNumber, inSequence, outcomeNumber}
-use Rattle.arbiter.specs.Order.{winner, claimBy, newClaim, joined, clocked, keptJoined, connectFrom, connect}
+use Rattle.arbiter.specs.Order.{cutTicks, cutFrom, claimBy, newClaim, claimAfter, granted, grantFrom, joined, clocked, keptJoined, connectFrom, connect}
+use Rattle.arbiter.specs.AuditWords.{requests}
 use Rattle.arbiter.specs.Steps.{parts, taken, refused, stepEvent, stepDecoded, step, runFrom}
-use Rattle.arbiter.proofs.Choice.{either}
+use Rattle.arbiter.proofs.Choice.{either, split, if-true, if-false}
 
--- ---- part 5: a new claim is nobody's or a claimant's
+-- ---- part 4: the owner's BUS_CONNECT is cleared, or nothing is
 
+pub cut-cases : (P : Device → Type 0) (on : Bool) (m : Master) (d : Device) → P (withSide m (disconnected (side m d)) d) → P d → P (cutFrom on (Owns m) d)
+unfolding cutFrom
+cut-cases P on m d cleared left = either P (on && eqb (d .bus .lowscl) cutTicks && (side m d) .contr .smbusdis) (λ h. cleared) (λ h. left)
+
+-- ---- part 5
+
+-- a claimant that still requests stays
+pub claimant-stays : (m : Master) (d : Device) → requests m d ≡ true → claimAfter (Claims m) d ≡ Claims m
+claimant-stays m d h = if-true (Claims m) _ h
+
+-- a new claim is nobody's or a claimant's
 new-by : (P : Turn → Type 0) → P Nobody → ((m : Master) → P (Claims m)) → (r0 r1 : Bool) (w : Master) → P (claimBy r0 r1 w)
 new-by P none some false false w = none
 new-by P none some true false w = some Zero
@@ -19,8 +33,20 @@ new-by P none some false true w = some One
 new-by P none some true true w = some w
 
 pub new-cases : (P : Turn → Type 0) (d : Device) → P Nobody → ((m : Master) → P (Claims m)) → P (newClaim d)
-new-cases P d none some =
-    new-by P none some (d .side0 .contr .lockreq) (d .side1 .contr .lockreq) (winner (d .side0 .contr .priority) (d .side1 .contr .priority) (d .arb .last))
+new-cases P d none some = new-by P none some (requests Zero d) (requests One d) _
+
+-- and so is what comes of a claim
+pub claim-cases : (P : Turn → Type 0) (m : Master) (d : Device) → P Nobody → ((m : Master) → P (Claims m)) → P (claimAfter (Claims m) d)
+claim-cases P m d none some =
+    split (requests m d)
+    (λ h. subst P (sym (claimant-stays m d h)) (some m))
+    (λ h. subst P (sym (if-false _ (newClaim d) h)) (new-cases P d none some))
+
+-- ---- part 6: the claimant is granted, or nothing is done
+
+pub grant-cases : (P : Device → Type 0) (m : Master) (d : Device) → P (granted m d) → P d → P (grantFrom (Claims m) d)
+unfolding grantFrom
+grant-cases P m d given left = either P (atRest ((side m d) .port) && eqb (d .bus .hold) 0) (λ h. given) (λ h. left)
 
 -- ---- part 7: it sets the switch and BUS_INIT_FAIL, and perhaps clears an owner's BUS_INIT, and with it perhaps its BUS_CONNECT
 
@@ -36,27 +62,27 @@ module _ (P : Device → Type 0) (d : Device) (plain : (w : Switch) (fail : Bool
     (ended : (m : Master) (on : Bool) (w : Switch) (fail : Bool) → ((side m d) .contr .busconnect ≡ false → on ≡ false) → P (joinedBy w fail (initEnded m on d))) where
   joined-cases : (m : Master) → P (joined m d)
   unfolding joined
-  joined-cases m = either P ((side m d) .contr .businit) (λ h. plain (Initialising m 0) false) (λ h. plain (Closed m) (d .arb .initfail))
+  joined-cases m = either P ((side m d) .contr .businit) (λ h. plain _ _) (λ h. plain _ _)
 
   clocked-cases : (c : Clock) (m : Master) (n : ℕ) → P (clocked c m n d)
   unfolding clocked
-  clocked-cases NoClock m n = plain (d .arb .switch) (d .arb .initfail)
+  clocked-cases NoClock m n = plain _ _
   clocked-cases ClockHigh m n = ended m ((side m d) .contr .busconnect) (Closed m) (d .arb .initfail) (λ h. h)
   clocked-cases ClockLow m n =
-      either P (ltb n 8) (λ h. plain (Initialising m (n + 1)) (d .arb .initfail)) (λ h. ended m false Apart true (λ x. refl))
+      either P (ltb n 8) (λ h. plain _ _) (λ h. ended m false Apart true (λ x. refl))
 
   kept-cases : (c : Clock) (m : Master) (w : Switch) → P (keptJoined c m w d)
   unfolding keptJoined
   kept-cases c m Apart = joined-cases m
   kept-cases c m (Initialising k n) = either P (sameMaster m k) (λ h. clocked-cases c m n) (λ h. joined-cases m)
-  kept-cases c m (Closed k) = either P (sameMaster m k) (λ h. plain (d .arb .switch) (d .arb .initfail)) (λ h. joined-cases m)
+  kept-cases c m (Closed k) = either P (sameMaster m k) (λ h. plain _ _) (λ h. joined-cases m)
 
   from-cases : (c : Clock) (t : Turn) → P (connectFrom c t d)
   unfolding connectFrom
-  from-cases c Nobody = plain Apart (d .arb .initfail)
-  from-cases c (Claims m) = plain Apart (d .arb .initfail)
+  from-cases c Nobody = plain _ _
+  from-cases c (Claims m) = plain _ _
   from-cases c (Owns m) =
-      either P ((side m d) .contr .busconnect) (λ h. kept-cases c m (d .arb .switch)) (λ h. plain Apart (d .arb .initfail))
+      either P ((side m d) .contr .busconnect) (λ h. kept-cases c m (d .arb .switch)) (λ h. plain _ _)
 
   pub connect-cases : (c : Clock) → P (connect c d)
   unfolding connect

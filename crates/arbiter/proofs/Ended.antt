@@ -3,18 +3,18 @@
 use mathlib.Core.Path.{_≡_, refl, sym, ap, _∙_}
 use mathlib.Core.Bool.{Bool, true, false, not, _&&_, true≢false, false≢true, and-eq-true-iff, and-not-self}
 use borrow.Author.Tests.{not-true}
-use Rattle.arbiter.specs.Types.{ℕ, eqb, Master, Zero, One, Turn, Nobody, Claims, Owns, Register, Id, Contr, Status, Rt, IntStatus, IntMask, MailLow, MailHigh, Control, Side, Clock, Device, Raw, Event, Command, Write, Read, Stop, Pair, Lines, Tick, Pulse, Reset, GeneralCall, Stepped}
+use Rattle.arbiter.specs.Types.{ℕ, Master, Zero, One, Turn, Nobody, Claims, Owns, Register, Id, Contr, Status, Rt, IntStatus, IntMask, MailLow, MailHigh, Control, Side, Clock, Device, Raw, Event, Command, Write, Read, Stop, Pair, Lines, Tick, Pulse, Reset, GeneralCall, Stepped}
 use Rattle.arbiter.specs.Words.{partner, sameMaster, side, device}
 use Rattle.arbiter.specs.Parts.{withBusConnect, withBusInit, withContr, withSide}
-use Rattle.arbiter.specs.State.{ownsTurn, owns, atRest}
+use Rattle.arbiter.specs.State.{ownsTurn, owns}
 use Rattle.arbiter.specs.Registers.{disconnected, withdraws, controlOf, ownWritten, mailWritten, turnWritten}
 use Rattle.arbiter.specs.Events.{softReset}
 use Rattle.arbiter.specs.Effects.{writeRisen, partnerSide, holdAsked, written, paired, wasRead, lined, ticked, freshSide, wasReset, effect}
-use Rattle.arbiter.specs.Order.{isReset, isTick, clockOf, levels, runsOut, lost, lossesFrom, losses, cutTicks, cutFrom, cut, claimAfter, claim, granted, grantFrom, grant, connect}
+use Rattle.arbiter.specs.Order.{isReset, isTick, clockOf, levels, runsOut, lost, lossesFrom, losses, cutFrom, cut, claimAfter, claim, granted, grantFrom, grant, connect}
 use Rattle.arbiter.specs.Steps.{parts, taken, refused}
-use Rattle.arbiter.specs.AuditWords.{next, requests, grantEnded}
+use Rattle.arbiter.specs.AuditWords.{next, grantEnded}
 use Rattle.arbiter.proofs.Choice.{either, split, if-true, if-false}
-use Rattle.arbiter.proofs.Cases.{new-cases, connect-cases, step-cases}
+use Rattle.arbiter.proofs.Cases.{cut-cases, new-cases, claim-cases, grant-cases, connect-cases, step-cases}
 use Rattle.arbiter.proofs.Connected.{asksOn, partner-not}
 
 -- ---- what is kept from part to part: m owns, or its BUS_CONNECT is 0
@@ -176,15 +176,12 @@ cut-off : (m : Master) (on : Bool) (t : Turn) (d : Device) → Off m d → Off m
 unfolding cutFrom
 cut-off m on Nobody d f = f
 cut-off m on (Claims k) d f = f
-cut-off m on (Owns k) d f =
-    either (Off m) (on && eqb (d .bus .lowscl) cutTicks && (side k d) .contr .smbusdis)
-    (λ now h. put-off m k (disconnected (side k d)) d (λ x. refl) (f h)) (λ now. f)
+cut-off m on (Owns k) d f = cut-cases (Off m) on k d (λ h. put-off m k (disconnected (side k d)) d (λ x. refl) (f h)) f
 
 -- a claim makes no owner and unmakes none
 claim-owner : (m : Master) (t : Turn) (d : Device) → ownsTurn m (claimAfter t d) ≡ ownsTurn m t
 claim-owner m Nobody d = new-cases (λ (t : Turn). ownsTurn m t ≡ false) d refl (λ k. refl)
-claim-owner m (Claims k) d =
-    either (λ (t : Turn). ownsTurn m t ≡ false) (requests k d) (λ h. refl) (λ h. new-cases (λ (t : Turn). ownsTurn m t ≡ false) d refl (λ k. refl))
+claim-owner m (Claims k) d = claim-cases (λ (t : Turn). ownsTurn m t ≡ false) k d refl (λ j. refl)
 claim-owner m (Owns k) d = refl
 
 -- part 5
@@ -204,8 +201,7 @@ granted-asks One One d = refl
 grant-off : (m : Master) (t : Turn) (d : Device) → d .arb .turn ≡ t → Off m d → Off m (grantFrom t d)
 unfolding grantFrom
 grant-off m Nobody d e f = f
-grant-off m (Claims k) d e f =
-    either (Off m) (atRest ((side k d) .port) && eqb (d .bus .hold) 0) (λ now h. granted-asks m k d ∙ f (ap (ownsTurn m) e)) (λ now. f)
+grant-off m (Claims k) d e f = grant-cases (Off m) k d (λ h. granted-asks m k d ∙ f (ap (ownsTurn m) e)) f
 grant-off m (Owns k) d e f = f
 
 -- part 7 sets no BUS_CONNECT

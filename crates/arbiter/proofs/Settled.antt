@@ -9,12 +9,12 @@ use Rattle.arbiter.specs.State.{ownsTurn, owns, atRest, sclHigh, sdaHigh
 use Rattle.arbiter.specs.Registers.{disconnected, released}
 use Rattle.arbiter.specs.Events.{decode, inSequence}
 use Rattle.arbiter.specs.Effects.{idleLimit, freshSide, powerUp, effect}
-use Rattle.arbiter.specs.Order.{isReset, isTick, clockOf, busyAfter, settledBus, levels, runsOut, lost, lossesFrom, losses, cutTicks, cutFrom, cut, claimBy, winner, newClaim, claimAfter, claim, granted, grantFrom, grant, switched, joined, clocked, keptJoined, connectFrom, connect}
+use Rattle.arbiter.specs.Order.{isReset, isTick, clockOf, busyAfter, settledBus, levels, runsOut, lost, lossesFrom, losses, cutFrom, cut, claimBy, winner, newClaim, claimAfter, claim, granted, grantFrom, grant, switched, joined, clocked, keptJoined, connectFrom, connect}
 use Rattle.arbiter.specs.Steps.{parts, refused, run}
 use Rattle.arbiter.specs.AuditWords.{requests, acceptedAs, isAccepted}
 use Rattle.arbiter.specs.Audit.{RefusedUnchanged, settle, AllSettled}
 use Rattle.arbiter.proofs.Choice.{either, split, if-true, if-false, turn-owns}
-use Rattle.arbiter.proofs.Cases.{new-cases, connect-cases, step-cases, run-keeps}
+use Rattle.arbiter.proofs.Cases.{cut-cases, claimant-stays, new-cases, claim-cases, connect-cases, step-cases, run-keeps}
 use Rattle.arbiter.proofs.Connected.{serves, asksOn, Served, unserved, all-served}
 
 -- ---- a refused event
@@ -114,8 +114,7 @@ cut-bare : (on : Bool) (t : Turn) (d : Device) → bare (cutFrom on t d) ≡ bar
 unfolding cutFrom
 cut-bare on Nobody d = refl
 cut-bare on (Claims m) d = refl
-cut-bare on (Owns m) d =
-    either (λ (x : Device). bare x ≡ bare d) (on && eqb (d .bus .lowscl) cutTicks && (side m d) .contr .smbusdis) (λ h. side-bare m (disconnected (side m d)) d refl) (λ h. refl)
+cut-bare on (Owns m) d = cut-cases (λ (x : Device). bare x ≡ bare d) on m d (side-bare m (disconnected (side m d)) d refl) refl
 
 -- part 7 touches nothing but those
 connect-bare : (c : Clock) (d : Device) → bare (connect c d) ≡ bare d
@@ -166,10 +165,6 @@ losses-kept (Owns m) d e still =
 
 -- ---- part 5: who claims stays the claimant, and a new claimant has nothing to lose
 
--- a claimant that still requests stays
-requests-stays : (m : Master) (d : Device) → requests m d ≡ true → claimAfter (Claims m) d ≡ Claims m
-requests-stays m d h = if-true (Claims m) (newClaim d) h
-
 -- the winner, if both request
 abbrev winnerIn : Device → Master
 winnerIn d = winner (d .side0 .contr .priority) (d .side1 .contr .priority) (d .arb .last)
@@ -181,26 +176,22 @@ module _ (d : Device) where
     where
       go : (r0 r1 : Bool) (w : Master) → requests Zero d ≡ r0 → requests One d ≡ r1 → claimAfter (claimBy r0 r1 w) d ≡ claimBy r0 r1 w
       go false false w e0 e1 = ap₂ (λ (r0 r1 : Bool). claimBy r0 r1 (winnerIn d)) e0 e1
-      go true false w e0 e1 = requests-stays Zero d e0
-      go false true w e0 e1 = requests-stays One d e1
-      go true true Zero e0 e1 = requests-stays Zero d e0
-      go true true One e0 e1 = requests-stays One d e1
+      go true false w e0 e1 = claimant-stays Zero d e0
+      go false true w e0 e1 = claimant-stays One d e1
+      go true true Zero e0 e1 = claimant-stays Zero d e0
+      go true true One e0 e1 = claimant-stays One d e1
 
   -- part 5 done twice is part 5 done once
   claim-stays : (t : Turn) → claimAfter (claimAfter t d) d ≡ claimAfter t d
   claim-stays Nobody = new-stays
   claim-stays (Claims m) =
-      either (λ (t : Turn). claimAfter t d ≡ t) (requests m d) (λ h. requests-stays m d h) (λ h. new-stays)
+      either (λ (t : Turn). claimAfter t d ≡ t) (requests m d) (λ h. claimant-stays m d h) (λ h. new-stays)
   claim-stays (Owns m) = refl
-
-  -- a new claimant does not own
-  new-keeps : loses (newClaim d) d ≡ false
-  new-keeps = new-cases (λ (t : Turn). loses t d ≡ false) d refl (λ m. refl)
 
   -- an owner stays the owner, and nobody else is made one
   claim-keeps : (t : Turn) → loses t d ≡ false → loses (claimAfter t d) d ≡ false
-  claim-keeps Nobody h = new-keeps
-  claim-keeps (Claims m) h = either (λ (t : Turn). loses t d ≡ false) (requests m d) (λ h. refl) (λ h. new-keeps)
+  claim-keeps Nobody h = new-cases (λ (t : Turn). loses t d ≡ false) d refl (λ k. refl)
+  claim-keeps (Claims m) h = claim-cases (λ (t : Turn). loses t d ≡ false) m d refl (λ k. refl)
   claim-keeps (Owns m) h = h
 
   -- both are asked of the turn that is given, and not of the device's own
