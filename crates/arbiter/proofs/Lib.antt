@@ -1,4 +1,5 @@
 pub mod Every
 pub mod Bitwise
 pub mod Connected
+pub mod Runs
 pub mod Marks
