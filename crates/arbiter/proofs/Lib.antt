@@ -1,5 +1,7 @@
 pub mod Every
 pub mod Bitwise
+pub mod Choice
 pub mod Connected
 pub mod Runs
+pub mod Effects
 pub mod Marks
