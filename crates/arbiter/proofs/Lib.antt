@@ -4,4 +4,5 @@ pub mod Choice
 pub mod Connected
 pub mod Runs
 pub mod Effects
+pub mod Order
 pub mod Marks
