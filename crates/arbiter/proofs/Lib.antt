@@ -5,4 +5,5 @@ pub mod Connected
 pub mod Runs
 pub mod Effects
 pub mod Order
+pub mod Owner
 pub mod Marks

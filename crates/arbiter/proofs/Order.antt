@@ -200,7 +200,7 @@ unfolding granted
 granted-fresh Zero d h = record { reserve = refl; idle = refl; hold = h }
 granted-fresh One d h = record { reserve = refl; idle = refl; hold = h }
 
-owner-same : (k m : Master) → Owns k ≡ Owns m → k ≡ m
+pub owner-same : (k m : Master) → Owns k ≡ Owns m → k ≡ m
 owner-same k m h = cc
 
 grant-fresh : (m : Master) (t : Turn) (d : Device) → owned t ≡ false → (grantFrom t (turned t d)) .arb .turn ≡ Owns m → Fresh m (grantFrom t (turned t d))
@@ -210,6 +210,7 @@ grant-fresh m (Claims k) d u h = go (atRest ((side k d) .port) && eqb (d .bus .h
   where
     g : Bool → Device
     g b = if b then granted k (turned (Claims k) d) else turned (Claims k) d
+
     go : (b : Bool) → atRest ((side k d) .port) && eqb (d .bus .hold) 0 ≡ b → (g b) .arb .turn ≡ Owns m → Fresh m (g b)
     go true t o =
         subst (λ (j : Master). Fresh j (granted k (turned (Claims k) d))) (owner-same k m o)
