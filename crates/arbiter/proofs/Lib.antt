@@ -6,4 +6,6 @@ pub mod Runs
 pub mod Effects
 pub mod Order
 pub mod Owner
+pub mod Raws
+pub mod Tenure
 pub mod Marks

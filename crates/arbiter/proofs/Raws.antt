@@ -1,0 +1,59 @@
+-- Four bytes as a device meets them: refused, with nothing changed, or taken as an event with its seven parts.
+-- Assumes nothing.
+use mathlib.Core.Path.{_≡_, refl, ap, _∙_}
+use Rattle.arbiter.specs.Types.{Bool, true, false, _&&_, Device, Raw, Event, Decoded, Reads, UnknownKind, BadField, Stepped}
+use Rattle.arbiter.specs.Words.{if_then_else_}
+use Rattle.arbiter.specs.Events.{decode, inSequence}
+use Rattle.arbiter.specs.Steps.{parts, refused, taken, stepEvent, stepDecoded, step}
+use Rattle.arbiter.specs.AuditWords.{next, acceptedAs, accepted, levelledBy, levelled}
+use Rattle.arbiter.proofs.Choice.{split, if-true, if-false}
+use Rattle.arbiter.proofs.Owner.{mid}
+
+-- Of r in d: the device after it, the one in which part 3 looks for a loss, and what may be said of it.
+pub record Refuses (r : Raw) (d : Device) : Type 0 where
+  pub after : next d r ≡ d
+  pub middle : levelled r d ≡ d
+  pub none : (such : Event → Device → Bool) → accepted such r d ≡ false
+
+pub record Takes (e : Event) (r : Raw) (d : Device) : Type 0 where
+  pub after : next d r ≡ parts e d
+  pub middle : levelled r d ≡ mid e d
+  pub same : (such : Event → Device → Bool) → accepted such r d ≡ such e d
+
+pub data Met (r : Raw) (d : Device) : Type 0 where
+  refuses : Refuses r d → Met r d
+  takes : (e : Event) → Takes e r d → Met r d
+
+met-decoded : (x : Decoded) (r : Raw) (d : Device) → decode r ≡ x → Met r d
+unfolding step stepDecoded stepEvent taken refused
+met-decoded (Reads e) r d h =
+    split (inSequence e d)
+    (λ s. takes e
+    (record {
+      after = ap (λ (x : Decoded). stepDecoded x d .device) h ∙ ap (λ (b : Bool). (if b then taken e d else refused 4 d) .device) s;
+      middle = ap (λ (x : Decoded). levelledBy x d) h ∙ if-true (mid e d) d s;
+      same = λ such. ap (λ (x : Decoded). acceptedAs such x d) h ∙ ap (λ (b : Bool). b && such e d) s;
+    }))
+    (λ s. refuses
+    (record {
+      after = ap (λ (x : Decoded). stepDecoded x d .device) h ∙ ap (λ (b : Bool). (if b then taken e d else refused 4 d) .device) s;
+      middle = ap (λ (x : Decoded). levelledBy x d) h ∙ if-false (mid e d) d s;
+      none = λ such. ap (λ (x : Decoded). acceptedAs such x d) h ∙ ap (λ (b : Bool). b && such e d) s;
+    }))
+met-decoded UnknownKind r d h =
+    refuses
+    (record {
+      after = ap (λ (x : Decoded). stepDecoded x d .device) h;
+      middle = ap (λ (x : Decoded). levelledBy x d) h;
+      none = λ such. ap (λ (x : Decoded). acceptedAs such x d) h;
+    })
+met-decoded BadField r d h =
+    refuses
+    (record {
+      after = ap (λ (x : Decoded). stepDecoded x d .device) h;
+      middle = ap (λ (x : Decoded). levelledBy x d) h;
+      none = λ such. ap (λ (x : Decoded). acceptedAs such x d) h;
+    })
+
+pub met : (r : Raw) (d : Device) → Met r d
+met r d = met-decoded (decode r) r d refl

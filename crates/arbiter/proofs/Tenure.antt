@@ -1,0 +1,95 @@
+-- An owner over the events of a run: no hold runs while there is one, part 3 would find no loss, and each event leaves it the owner or
+-- ends its grant.
+-- Assumes nothing.
+use mathlib.Core.Path.{_≡_, refl, sym, ap, ap₂, _∙_, subst}
+use mathlib.Core.Bool.{true≢false, false≢true}
+use mathlib.Core.Logic.{_⊎_, ⊎-elim}
+use native.Mathlib.Nat.{sub-zero}
+use Rattle.arbiter.specs.Types.{ℕ, _-_, Bool, true, false, not, _&&_, _||_, List, [], _∷_, eqb, Master, Turn, Nobody, Claims, Owns, Side, Bus, Device, Raw, Event}
+use Rattle.arbiter.specs.Words.{if_then_else_, worth, side}
+use Rattle.arbiter.specs.State.{owns, isIdle}
+use Rattle.arbiter.specs.Effects.{idleLimit, ticked, effect, powerUp}
+use Rattle.arbiter.specs.Order.{isReset, isTick, levels}
+use Rattle.arbiter.specs.Steps.{parts, step, runFrom, run}
+use Rattle.arbiter.specs.AuditWords.{next, reserveOf, letsGo, reset, tick, withdrawalOf, grantTaken, levelled}
+use Rattle.arbiter.proofs.Choice.{either, split, if-true, if-false, and-off, owns-turn, turn-owns}
+use Rattle.arbiter.proofs.Effects.{kept, effect-side, ownerLetsGo, effect-turn, counts, effect-counts}
+use Rattle.arbiter.proofs.Order.{still, still-sides, side-kept, owned, Fresh}
+use Rattle.arbiter.proofs.Owner.{mid, expired, unheld, Over, Stays, Fate, stays, ends, fate, origin}
+use Rattle.arbiter.proofs.Raws.{Refuses, Takes, Met, refuses, takes, met}
+
+-- m owns, no hold runs, and part 3 would find no loss.
+pub record Owner (m : Master) (d : Device) : Type 0 where
+  pub turn : d .arb .turn ≡ Owns m
+  pub hold : d .bus .hold ≡ 0
+  pub unlost : expired m d ≡ false
+
+-- ---- in every run
+
+-- What part 3 asks is read off what `still` names.
+expired-still : (m : Master) (n d : Device) → still n ≡ still d → expired m n ≡ expired m d
+expired-still m n d e =
+    ap (λ k. asks (k .1) (k .2) (n .arb .reserve) (n .bus)) (side-kept m n d (still-sides n d e))
+    ∙ ap (λ s. asks ((side m d) .contr .idletimer) ((side m d) .rt) (s .3) (s .2)) e
+  where
+    asks : Bool → ℕ → ℕ → Bus → Bool
+    asks timer rt reserve b = if eqb rt 0 then timer && eqb (b .idle) idleLimit else eqb reserve 0 && isIdle b
+
+-- A new grant has not run out.
+fresh-owner : (m : Master) (d : Device) → d .arb .turn ≡ Owns m → Fresh m d → Owner m d
+fresh-owner m d t f =
+    let timer : Bool = (side m d) .contr .idletimer in
+    let rt : ℕ = (side m d) .rt in
+    record {
+      turn = t;
+      hold = f .hold;
+      unlost =
+          split (eqb rt 0) (λ z. if-true _ _ z ∙ ap (λ (n : ℕ). timer && eqb n idleLimit) (f .idle) ∙ and-off timer)
+          (λ z. if-false _ _ z ∙ ap (λ (n : ℕ). eqb n 0 && isIdle (d .bus)) (f .reserve) ∙ ap (λ (b : Bool). b && isIdle (d .bus)) z);
+    }
+
+-- Who keeps its grant is the owner still.
+stays-owner : (m : Master) (e : Event) (d : Device) → isReset e ≡ false → d .bus .hold ≡ 0 → Stays m e d → Owner m (parts e d)
+unfolding levels
+stays-owner m e d ok z s =
+    record {
+      turn = ap (λ x. x .4) (s .left) ∙ s .turn;
+      hold = ap (λ x. x .2 .hold) (s .left) ∙ unheld e d ok z;
+      unlost = expired-still m (parts e d) (mid e d) (s .left) ∙ s .unlost;
+    }
+
+-- Part 1 makes nobody the owner.
+turn-back : (m : Master) (e : Event) (d : Device) → (effect e d) .arb .turn ≡ Owns m → (isReset e ≡ false) × (d .arb .turn ≡ Owns m)
+turn-back m e d h = go (isReset e) (ownerLetsGo (d .arb .turn) e d) (sym (effect-turn e d) ∙ h)
+  where
+    go : (r o : Bool) → (if r || o then Nobody else d .arb .turn) ≡ Owns m → (r ≡ false) × (d .arb .turn ≡ Owns m)
+    go true o t = absurd (false≢true (ap owned t))
+    go false true t = absurd (false≢true (ap owned t))
+    go false false t = (refl, t)
+
+-- whoever owns does so with no hold and no loss to come
+abbrev Owned : Device → Type 0
+Owned d = (m : Master) → d .arb .turn ≡ Owns m → Owner m d
+
+parts-owned : (e : Event) (d : Device) → Owned d → Owned (parts e d)
+unfolding levels
+parts-owned e d i m h =
+    ⊎-elim (fresh-owner m (parts e d) h)
+    (λ (s : Stays m e d). let b = turn-back m e d (s .turn) in stays-owner m e d (b .0) (i m (b .1) .hold) s)
+    (origin m e d h)
+
+next-owned : (r : Raw) (d : Device) → Owned d → Owned (next d r)
+next-owned r d i =
+    elim (met r d) [
+      | refuses f ↦ subst Owned (sym (f .after)) i
+      | takes e t ↦ subst Owned (sym (t .after)) (parts-owned e d i)
+    ]
+
+from-owned : (rs : List Raw) (d : Device) → Owned d → Owned (runFrom d rs)
+unfolding runFrom
+from-owned [] d i = i
+from-owned (r ∷ rs) d i = from-owned rs (next d r) (next-owned r d i)
+
+pub run-owned : (rs : List Raw) (m : Master) → (run rs) .arb .turn ≡ Owns m → Owner m (run rs)
+unfolding run powerUp
+run-owned rs = from-owned rs powerUp λ m h. absurd (false≢true (ap owned h))
