@@ -2,7 +2,7 @@
 -- ends its grant.
 -- Assumes nothing.
 use mathlib.Core.Path.{_≡_, refl, sym, ap, ap₂, _∙_, subst}
-use mathlib.Core.Bool.{true≢false, false≢true}
+use mathlib.Core.Bool.{true≢false, false≢true, and-eq-true-iff}
 use mathlib.Core.Logic.{_⊎_, ⊎-elim}
 use native.Mathlib.Nat.{sub-zero}
 use Rattle.arbiter.specs.Types.{ℕ, _-_, Bool, true, false, not, _&&_, _||_, List, [], _∷_, eqb, Master, Turn, Nobody, Claims, Owns, Side, Bus, Device, Raw, Event}
@@ -12,7 +12,7 @@ use Rattle.arbiter.specs.Effects.{idleLimit, ticked, effect, powerUp}
 use Rattle.arbiter.specs.Order.{isReset, isTick, levels}
 use Rattle.arbiter.specs.Steps.{parts, step, runFrom, run}
 use Rattle.arbiter.specs.AuditWords.{next, reserveOf, letsGo, reset, tick, withdrawalOf, grantTaken, levelled}
-use Rattle.arbiter.proofs.Choice.{either, split, if-true, if-false, and-off, owns-turn, turn-owns}
+use Rattle.arbiter.proofs.Choice.{either, split, if-true, if-false, and-off, not-true, owns-turn, turn-owns}
 use Rattle.arbiter.proofs.Effects.{kept, effect-side, ownerLetsGo, effect-turn, counts, effect-counts}
 use Rattle.arbiter.proofs.Order.{still, still-sides, side-kept, owned, Fresh}
 use Rattle.arbiter.proofs.Owner.{mid, expired, unheld, Over, Stays, Fate, stays, ends, fate, origin}
@@ -93,3 +93,90 @@ from-owned (r ∷ rs) d i = from-owned rs (next d r) (next-owned r d i)
 pub run-owned : (rs : List Raw) (m : Master) → (run rs) .arb .turn ≡ Owns m → Owner m (run rs)
 unfolding run powerUp
 run-owned rs = from-owned rs powerUp λ m h. absurd (false≢true (ap owned h))
+
+-- ---- a new grant
+
+-- Who did not own before r and does after it has a new grant.
+parts-fresh : (m : Master) (e : Event) (d : Device) → owns m d ≡ false → (parts e d) .arb .turn ≡ Owns m → Fresh m (parts e d)
+unfolding levels
+parts-fresh m e d o h =
+    ⊎-elim (λ (f : Fresh m (parts e d)). f)
+    (λ (s : Stays m e d). absurd (true≢false (sym (turn-owns m (d .arb .turn) (turn-back m e d (s .turn) .1)) ∙ o))) (origin m e d h)
+
+pub taken-fresh : (m : Master) (r : Raw) (d : Device) → grantTaken m r d ≡ true → (Fresh m (next d r)) × (Owner m (next d r))
+taken-fresh m r d h =
+    let both = and-eq-true-iff (not (owns m d)) (owns m (next d r)) .0 h in
+    let t : (next d r) .arb .turn ≡ Owns m = owns-turn m ((next d r) .arb .turn) (both .1) in
+    let o : owns m d ≡ false = not-true (owns m d) (both .0) in
+    let f : Fresh m (next d r) =
+    elim (met r d) [
+      | refuses x ↦ absurd (true≢false (sym (both .1) ∙ ap (owns m) (x .after) ∙ o))
+      | takes e x ↦ subst (Fresh m) (sym (x .after)) (parts-fresh m e d o (sym (ap (λ (n : Device). n .arb .turn) (x .after)) ∙ t))
+    ]
+    in (f, fresh-owner m (next d r) t f)
+
+-- ---- one event
+
+-- m keeps the grant over r: it is the owner still, as part 3 found it.
+pub record Keeps (m : Master) (r : Raw) (d : Device) : Type 0 where
+  pub owner : Owner m (next d r)
+  pub unlost : expired m (levelled r d) ≡ false
+  pub left : still (next d r) ≡ still (levelled r d)
+
+-- m owns and r is no reset: m keeps the grant, or it is over by m's withdrawal or by a loss.
+pub data Lot (m : Master) (r : Raw) (d : Device) : Type 0 where
+  keeps : Keeps m r d → Lot m r d
+  over : Over m (next d r) → (withdrawalOf m r d ≡ false → expired m (levelled r d) ≡ true) → Lot m r d
+
+pub lot : (m : Master) (r : Raw) (d : Device) → Owner m d → reset r d ≡ false → Lot m r d
+lot m r d o ok =
+    elim (met r d) [
+      | refuses x ↦
+          (keeps
+          (record {
+            owner = subst (Owner m) (sym (x .after)) o;
+            unlost = ap (expired m) (x .middle) ∙ o .unlost;
+            left = ap still (x .after ∙ sym (x .middle));
+          }))
+      | takes e x ↦
+          (let no : isReset e ≡ false = sym (x .same λ f y. isReset f) ∙ ok in
+          elim (fate m e d no (o .turn) (o .hold)) [
+            | stays s ↦
+                (keeps
+                (record {
+                  owner = subst (Owner m) (sym (x .after)) (stays-owner m e d no (o .hold) s);
+                  unlost = ap (expired m) (x .middle) ∙ s .unlost;
+                  left = ap still (x .after) ∙ s .left ∙ sym (ap still (x .middle));
+                }))
+            | ends h c ↦ over (subst (Over m) (sym (x .after)) h) (λ w. ap (expired m) (x .middle) ∙ c (sym (x .same (letsGo m)) ∙ w))
+          ])
+    ]
+
+-- When part 3 looks, the owner's RT is as it was,
+pub rt-found : (m : Master) (r : Raw) (d : Device) → owns m d ≡ true → reset r d ≡ false → reserveOf m (levelled r d) ≡ reserveOf m d
+unfolding levels
+rt-found m r d o ok =
+    elim (met r d) [
+      | refuses x ↦ ap (reserveOf m) (x .middle)
+      | takes e x ↦ ap (reserveOf m) (x .middle) ∙ effect-side m e d (sym (x .same λ f y. isReset f) ∙ ok) .keeps o
+    ]
+
+-- and a tick has been taken from the reserve count.
+pub reserve-found : (r : Raw) (d : Device) → reset r d ≡ false → (levelled r d) .arb .reserve ≡ d .arb .reserve - worth 1 (tick r d)
+unfolding levels ticked
+reserve-found r d ok =
+    elim (met r d) [
+      | refuses x ↦
+          (ap (λ (n : Device). n .arb .reserve) (x .middle)
+          ∙ sym (sub-zero (d .arb .reserve))
+          ∙ sym (ap (λ (b : Bool). d .arb .reserve - worth 1 b) (x .none λ f y. isTick f)))
+      | takes e x ↦
+          (ap (λ (n : Device). n .arb .reserve) (x .middle)
+          ∙ ap (λ c. c .2) (effect-counts e d (sym (x .same λ f y. isReset f) ∙ ok))
+          ∙ go (isTick e)
+          ∙ sym (ap (λ (b : Bool). d .arb .reserve - worth 1 b) (x .same λ f y. isTick f)))
+    ]
+  where
+    go : (b : Bool) → (if b then counts (ticked d) else counts d) .2 ≡ d .arb .reserve - worth 1 b
+    go true = refl
+    go false = sym (sub-zero (d .arb .reserve))
