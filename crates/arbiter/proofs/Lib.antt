@@ -8,4 +8,5 @@ pub mod Order
 pub mod Owner
 pub mod Raws
 pub mod Tenure
+pub mod Reserve
 pub mod Marks
