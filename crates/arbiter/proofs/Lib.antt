@@ -9,4 +9,5 @@ pub mod Owner
 pub mod Raws
 pub mod Tenure
 pub mod Reserve
+pub mod Waiting
 pub mod Marks

@@ -192,6 +192,11 @@ module _ (p : Master) (e : Event) (d : Device) (ok : isReset e ≡ false) (t : d
   withdraws z g =
       subst (λ (n : Device). requests p n ≡ false) (sym claim-passed) (asks e (mid e d) (unheld e d ok z) p ∙ effect-side p e d ok .falls g)
 
+  -- Its port is as part 1 left it.
+  pub port-left : d .bus .hold ≡ 0 → resting p (parts e d) ≡ resting p (effect e d)
+  unfolding levels
+  port-left z = ap (resting p) claim-passed ∙ rests e (mid e d) (unheld e d ok z) p
+
 -- ---- where an owner comes from
 
 -- Part 3 leaves an owner only if it owned before and has not lost.

@@ -24,16 +24,21 @@ pub data Met (r : Raw) (d : Device) : Type 0 where
   refuses : Refuses r d → Met r d
   takes : (e : Event) → Takes e r d → Met r d
 
+-- An event that reads as e and is in sequence is taken as e.
+pub taken-as : (e : Event) (r : Raw) (d : Device) → decode r ≡ Reads e → inSequence e d ≡ true → Takes e r d
+unfolding step stepDecoded stepEvent taken refused
+taken-as e r d h s =
+    record {
+      after = ap (λ (x : Decoded). stepDecoded x d .device) h ∙ ap (λ (b : Bool). (if b then taken e d else refused 4 d) .device) s;
+      middle = ap (λ (x : Decoded). levelledBy x d) h ∙ if-true (mid e d) d s;
+      same = λ such. ap (λ (x : Decoded). acceptedAs such x d) h ∙ ap (λ (b : Bool). b && such e d) s;
+    }
+
 met-decoded : (x : Decoded) (r : Raw) (d : Device) → decode r ≡ x → Met r d
 unfolding step stepDecoded stepEvent taken refused
 met-decoded (Reads e) r d h =
     split (inSequence e d)
-    (λ s. takes e
-    (record {
-      after = ap (λ (x : Decoded). stepDecoded x d .device) h ∙ ap (λ (b : Bool). (if b then taken e d else refused 4 d) .device) s;
-      middle = ap (λ (x : Decoded). levelledBy x d) h ∙ if-true (mid e d) d s;
-      same = λ such. ap (λ (x : Decoded). acceptedAs such x d) h ∙ ap (λ (b : Bool). b && such e d) s;
-    }))
+    (λ s. takes e (taken-as e r d h s))
     (λ s. refuses
     (record {
       after = ap (λ (x : Decoded). stepDecoded x d .device) h ∙ ap (λ (b : Bool). (if b then taken e d else refused 4 d) .device) s;

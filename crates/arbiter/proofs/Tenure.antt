@@ -68,7 +68,7 @@ turn-back m e d h = go (isReset e) (ownerLetsGo (d .arb .turn) e d) (sym (effect
     go false false t = (refl, t)
 
 -- whoever owns does so with no hold and no loss to come
-abbrev Owned : Device → Type 0
+abbrev pub Owned : Device → Type 0
 Owned d = (m : Master) → d .arb .turn ≡ Owns m → Owner m d
 
 parts-owned : (e : Event) (d : Device) → Owned d → Owned (parts e d)
@@ -78,7 +78,7 @@ parts-owned e d i m h =
     (λ (s : Stays m e d). let b = turn-back m e d (s .turn) in stays-owner m e d (b .0) (i m (b .1) .hold) s)
     (origin m e d h)
 
-next-owned : (r : Raw) (d : Device) → Owned d → Owned (next d r)
+pub next-owned : (r : Raw) (d : Device) → Owned d → Owned (next d r)
 next-owned r d i =
     elim (met r d) [
       | refuses f ↦ subst Owned (sym (f .after)) i
@@ -90,7 +90,7 @@ unfolding runFrom
 from-owned [] d i = i
 from-owned (r ∷ rs) d i = from-owned rs (next d r) (next-owned r d i)
 
-pub run-owned : (rs : List Raw) (m : Master) → (run rs) .arb .turn ≡ Owns m → Owner m (run rs)
+pub run-owned : (rs : List Raw) → Owned (run rs)
 unfolding run powerUp
 run-owned rs = from-owned rs powerUp λ m h. absurd (false≢true (ap owned h))
 
