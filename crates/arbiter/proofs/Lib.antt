@@ -10,4 +10,5 @@ pub mod Raws
 pub mod Tenure
 pub mod Reserve
 pub mod Waiting
+pub mod InTime
 pub mod Marks
