@@ -2,58 +2,24 @@
 -- Assumes nothing.
 use Prim.Native.Nat.{_<_}
 use mathlib.Core.Path.{_≡_, refl, sym, ap, ap₂, _∙_, subst}
-use mathlib.Core.Bool.{true≢false, false≢true, and-eq-true-iff}
+use mathlib.Core.Bool.{true≢false}
 use native.Mathlib.Omega.{arith}
 use borrow.Author.Tests.{ne-eqb, eq-eqb}
-use Rattle.arbiter.specs.Types.{ℕ, _+_, _-_, Bool, true, false, not, _&&_, List, [], _∷_, _++_, eqb, Master, Owns, Device, Raw, Event, Command, Write, Read, Stop, Pair, Lines, Tick, Pulse, Reset, GeneralCall}
+use Rattle.arbiter.specs.Types.{ℕ, _+_, _-_, Bool, true, false, not, _&&_, List, [], _∷_, _++_, eqb, Master, Owns, Device, Raw, Event}
 use Rattle.arbiter.specs.Words.{if_then_else_, worth, partner, side}
 use Rattle.arbiter.specs.State.{owns, isIdle}
-use Rattle.arbiter.specs.Order.{isReset, isTick}
+use Rattle.arbiter.specs.Order.{isReset}
 use Rattle.arbiter.specs.Steps.{parts, step, runFrom, run}
 use Rattle.arbiter.specs.AuditWords.{next, requests, resting, reserveOf, letsGo, reset, tick, levelled, ticksIn, never, throughout}
 use Rattle.arbiter.specs.Audit.{PartnerInTime}
 use Rattle.arbiter.proofs.Choice.{split, if-false, turn-owns}
+use Rattle.arbiter.proofs.Runs.{never-comes, now, hence}
 use Rattle.arbiter.proofs.Order.{still, Fresh}
 use Rattle.arbiter.proofs.Owner.{expired, Next, Over, over-next, waits, withdraws}
-use Rattle.arbiter.proofs.Raws.{Met, refuses, takes, met}
+use Rattle.arbiter.proofs.Raws.{Met, refuses, takes, met, tick-no-reset}
 use Rattle.arbiter.proofs.Tenure.{Owner, Owned, next-owned, run-owned, Keeps, Lot, keeps, over, lot, taken-fresh, rt-found, reserve-found}
-use Rattle.arbiter.proofs.Reserve.{never-comes, rt-kept, reserve-kept}
+use Rattle.arbiter.proofs.Reserve.{rt-kept, reserve-kept}
 use Rattle.arbiter.proofs.Waiting.{Waiting, next-owns, next-waits}
-
--- ---- what holds throughout
-
--- holds at once,
-pub now : (holds : Device → Bool) (rs : List Raw) (d : Device) → throughout holds d rs ≡ true → holds d ≡ true
-unfolding throughout
-now holds [] d h = h
-now holds (r ∷ rs) d h = and-eq-true-iff (holds d) (throughout holds (next d r) rs) .0 h .0
-
--- and after the first event.
-pub hence : (holds : Device → Bool) (r : Raw) (rs : List Raw) (d : Device) → throughout holds d (r ∷ rs) ≡ true → throughout holds (next d r) rs ≡ true
-unfolding throughout
-hence holds r rs d h = and-eq-true-iff (holds d) (throughout holds (next d r) rs) .0 h .1
-
--- ---- a tick
-
--- A tick is no reset.
-event-tick : (e : Event) → isTick e ≡ true → isReset e ≡ false
-event-tick (Command k c) h = refl
-event-tick (Write k v) h = refl
-event-tick (Read k) h = refl
-event-tick (Stop k) h = refl
-event-tick (Pair v0 v1) h = refl
-event-tick (Lines scl sda intin) h = refl
-event-tick Tick h = refl
-event-tick (Pulse sda) h = refl
-event-tick Reset h = absurd (false≢true h)
-event-tick (GeneralCall k b) h = absurd (false≢true h)
-
-pub tick-no-reset : (t : Raw) (d : Device) → tick t d ≡ true → reset t d ≡ false
-tick-no-reset t d h =
-    elim (met t d) [
-      | refuses x ↦ x .none (λ f y. isReset f)
-      | takes e x ↦ x .same (λ f y. isReset f) ∙ event-tick e (sym (x .same λ f y. isTick f) ∙ h)
-    ]
 
 -- ---- in line
 

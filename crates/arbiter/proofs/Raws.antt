@@ -1,11 +1,13 @@
 -- Four bytes as a device meets them: refused, with nothing changed, or taken as an event with its seven parts.
 -- Assumes nothing.
-use mathlib.Core.Path.{_≡_, refl, ap, _∙_}
-use Rattle.arbiter.specs.Types.{Bool, true, false, _&&_, Device, Raw, Event, Decoded, Reads, UnknownKind, BadField, Stepped}
+use mathlib.Core.Path.{_≡_, refl, sym, ap, _∙_, subst}
+use mathlib.Core.Bool.{false≢true}
+use Rattle.arbiter.specs.Types.{Bool, true, false, _&&_, Device, Raw, Event, Command, Write, Read, Stop, Pair, Lines, Tick, Pulse, Reset, GeneralCall, Decoded, Reads, UnknownKind, BadField, Stepped}
 use Rattle.arbiter.specs.Words.{if_then_else_}
 use Rattle.arbiter.specs.Events.{decode, inSequence}
+use Rattle.arbiter.specs.Order.{isReset, isTick}
 use Rattle.arbiter.specs.Steps.{parts, refused, taken, stepEvent, stepDecoded, step}
-use Rattle.arbiter.specs.AuditWords.{next, acceptedAs, accepted, levelledBy, levelled}
+use Rattle.arbiter.specs.AuditWords.{next, acceptedAs, accepted, reset, tick, levelledBy, levelled}
 use Rattle.arbiter.proofs.Choice.{split, if-true, if-false}
 use Rattle.arbiter.proofs.Owner.{mid}
 
@@ -62,3 +64,28 @@ met-decoded BadField r d h =
 
 pub met : (r : Raw) (d : Device) → Met r d
 met r d = met-decoded (decode r) r d refl
+
+-- ---- a tick
+
+-- Only TICK is a tick.
+event-tick : (e : Event) → isTick e ≡ true → e ≡ Tick
+event-tick (Command k c) h = absurd (false≢true h)
+event-tick (Write k v) h = absurd (false≢true h)
+event-tick (Read k) h = absurd (false≢true h)
+event-tick (Stop k) h = absurd (false≢true h)
+event-tick (Pair v0 v1) h = absurd (false≢true h)
+event-tick (Lines scl sda intin) h = absurd (false≢true h)
+event-tick Tick h = refl
+event-tick (Pulse sda) h = absurd (false≢true h)
+event-tick Reset h = absurd (false≢true h)
+event-tick (GeneralCall k b) h = absurd (false≢true h)
+
+pub taken-tick : (t : Raw) (d : Device) → tick t d ≡ true → Takes Tick t d
+taken-tick t d h =
+    elim (met t d) [
+      | refuses x ↦ absurd (false≢true (sym (x .none λ f y. isTick f) ∙ h))
+      | takes e x ↦ subst (λ (f : Event). Takes f t d) (event-tick e (sym (x .same λ f y. isTick f) ∙ h)) x
+    ]
+
+pub tick-no-reset : (t : Raw) (d : Device) → tick t d ≡ true → reset t d ≡ false
+tick-no-reset t d h = taken-tick t d h .same λ f y. isReset f

@@ -2,7 +2,7 @@
 -- Assumes nothing.
 use Prim.Native.Nat.{_<_}
 use mathlib.Core.Path.{_≡_, refl, sym, ap, _∙_}
-use mathlib.Core.Bool.{true≢false, false≢true, and-eq-true-iff}
+use mathlib.Core.Bool.{true≢false}
 use native.Mathlib.Omega.{arith}
 use borrow.Author.Tests.{ne-eqb}
 use Rattle.arbiter.specs.Types.{ℕ, _+_, _-_, Bool, true, false, not, _&&_, List, [], _∷_, eqb, Master, Owns, Device, Raw}
@@ -11,18 +11,11 @@ use Rattle.arbiter.specs.State.{owns, isIdle}
 use Rattle.arbiter.specs.Steps.{step, runFrom, run}
 use Rattle.arbiter.specs.AuditWords.{next, reserveOf, reset, tick, withdrawalOf, levelled, ticksIn, never}
 use Rattle.arbiter.specs.Audit.{ReserveLasts}
-use Rattle.arbiter.proofs.Choice.{if-false, not-true, turn-owns}
+use Rattle.arbiter.proofs.Choice.{if-false, turn-owns}
+use Rattle.arbiter.proofs.Runs.{never-comes}
 use Rattle.arbiter.proofs.Order.{still, still-sides, side-kept, Fresh}
 use Rattle.arbiter.proofs.Owner.{expired, Over}
 use Rattle.arbiter.proofs.Tenure.{Owner, Keeps, Lot, keeps, over, lot, taken-fresh, rt-found, reserve-found}
-
--- What never comes does not come first, nor after that.
-pub never-comes : (such : Raw → Device → Bool) (r : Raw) (rs : List Raw) (d : Device) → never such d (r ∷ rs) ≡ true
-    → (such r d ≡ false) × (never such (next d r) rs ≡ true)
-unfolding never
-never-comes such r rs d h =
-    let both = and-eq-true-iff (not (such r d)) (never such (next d r) rs) .0 h in
-    (not-true (such r d) (both .0), both .1)
 
 module _ (m : Master) (r : Raw) (d : Device) (o : Owner m d) (ok : reset r d ≡ false) where
   -- Who keeps the grant keeps its RT, and a tick is taken from its reserve count.

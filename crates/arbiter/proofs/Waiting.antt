@@ -12,11 +12,11 @@ use Rattle.arbiter.specs.Steps.{parts, step, runFrom, run}
 use Rattle.arbiter.specs.AuditWords.{next, requests, resting, letsGo, isStopOf, reset, withdrawalOf, stopOf, never}
 use Rattle.arbiter.specs.Audit.{PartnerNext}
 use Rattle.arbiter.proofs.Choice.{not-true, owns-turn, turn-owns}
+use Rattle.arbiter.proofs.Runs.{never-comes}
 use Rattle.arbiter.proofs.Effects.{effect-side}
 use Rattle.arbiter.proofs.Owner.{heir, Next, Over, over-next, waits, port-left}
 use Rattle.arbiter.proofs.Raws.{Met, refuses, takes, met, taken-as}
 use Rattle.arbiter.proofs.Tenure.{Owner, run-owned, Keeps, Lot, keeps, over, lot}
-use Rattle.arbiter.proofs.Reserve.{never-comes}
 
 -- p is the claimant, its request stands, no hold runs, and its port is not at rest.
 pub record Waiting (p : Master) (d : Device) : Type 0 where
