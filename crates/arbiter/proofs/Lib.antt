@@ -11,4 +11,5 @@ pub mod Tenure
 pub mod Reserve
 pub mod Waiting
 pub mod InTime
+pub mod Timer
 pub mod Marks
