@@ -12,4 +12,5 @@ pub mod Reserve
 pub mod Waiting
 pub mod InTime
 pub mod Timer
+pub mod IdleCount
 pub mod Marks

@@ -23,7 +23,7 @@ use Rattle.arbiter.proofs.Tenure.{Owner, run-owned, Keeps, Lot, keeps, 
 use Rattle.arbiter.proofs.Reserve.{rt-kept}
 
 -- With a reserve of 00h part 3 asks for the idle timer and the idle count.
-expires : (m : Master) (d : Device) → reserveOf m d ≡ 0 → expired m d ≡ (idleTimerOn m d && eqb (d .bus .idle) idleLimit)
+pub expires : (m : Master) (d : Device) → reserveOf m d ≡ 0 → expired m d ≡ (idleTimerOn m d && eqb (d .bus .idle) idleLimit)
 expires m d z = if-true _ _ (eq-eqb (reserveOf m d) 0 z)
 
 -- ---- the idle timer
@@ -89,7 +89,7 @@ heir-other true true m = same-not m
 heir-other true false m = refl
 heir-other false rest m = refl
 
-over-unowned : (m : Master) (d : Device) → Over m d → owns m d ≡ false
+pub over-unowned : (m : Master) (d : Device) → Over m d → owns m d ≡ false
 over-unowned m d h = ap (ownsTurn m) (h .turn) ∙ heir-other (requests (partner m) d) (resting (partner m) d) m
 
 pub idle-timer-exact : IdleTimerExact
