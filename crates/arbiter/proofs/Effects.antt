@@ -1,17 +1,17 @@
 -- Part 1 of a step, seen from one master: what an event's own effect does to its request, its RT and its port, to the turn and to the counts.
 -- Assumes nothing.
-use mathlib.Core.Path.{_≡_, refl, sym, ap, ap₂, _∙_}
-use mathlib.Core.Bool.{true≢false, false≢true}
-use Rattle.arbiter.specs.Types.{ℕ, _-_, Bool, true, false, not, _&&_, _||_, Master, Zero, One, Turn, Nobody, Claims, Owns, Port, Open, Writing, Register, Id, Contr, Status, Rt, IntStatus, IntMask, MailLow, MailHigh, Side, Bus, Device, Event, Command, Write, Read, Stop, Pair, Lines, Tick, Pulse, Reset, GeneralCall}
-use Rattle.arbiter.specs.Words.{if_then_else_, bit, partner, sameMaster, of, side}
-use Rattle.arbiter.specs.Parts.{withContr, withPort, withAuto, withPointer, withRt}
-use Rattle.arbiter.specs.State.{ownsTurn, owns, atRest, isIdle}
-use Rattle.arbiter.specs.Registers.{disconnected, withdraws, controlOf, ownWritten, mailWritten, mailLow, mailHigh, drivesWritten, turnWritten}
+use mathlib.Core.Path.{_≡_, refl, sym, ap, _∙_}
+use mathlib.Core.Bool.{true≢false, false≢true, and-false}
+use Rattle.arbiter.specs.Types.{ℕ, Bool, true, false, not, _&&_, _||_, Master, Zero, One, Turn, Nobody, Claims, Owns, Port, Open, Register, Id, Contr, Status, Rt, IntStatus, IntMask, MailLow, MailHigh, Side, Bus, Device, Event, Command, Write, Read, Stop, Pair, Lines, Tick, Pulse, Reset, GeneralCall}
+use Rattle.arbiter.specs.Words.{if_then_else_, bit, partner, side}
+use Rattle.arbiter.specs.Parts.{withPort}
+use Rattle.arbiter.specs.State.{ownsTurn, owns, atRest}
+use Rattle.arbiter.specs.Registers.{withdraws, ownWritten, mailWritten, drivesWritten, turnWritten}
 use Rattle.arbiter.specs.Events.{goodCommand, softReset}
-use Rattle.arbiter.specs.Effects.{registerAt, commanded, writeRisen, readerSide, written, paired, wasRead, lined, countedTo, idleLimit, ticked, wasReset, holdAsked, effect}
+use Rattle.arbiter.specs.Effects.{commanded, writeRisen, readerSide, written, paired, wasRead, lined, ticked, wasReset, holdAsked, effect}
 use Rattle.arbiter.specs.Order.{isReset, isTick}
 use Rattle.arbiter.specs.AuditWords.{isContr, clearsRequest, letsGo, isStopOf}
-use Rattle.arbiter.proofs.Choice.{either, split, and-off, of-either}
+use Rattle.arbiter.proofs.Choice.{either, of-either}
 
 -- ---- what a side shows to the later parts
 
@@ -185,7 +185,7 @@ turn-written g MailHigh v t = refl
 
 -- Who is not granted keeps the turn as it is.
 turn-unwritten : (r : Register) (v : ℕ) (t : Turn) → turnWritten false r v t ≡ t
-turn-unwritten r v t = turn-written false r v t ∙ ap (λ (b : Bool). if b then Nobody else t) (and-off (isContr r))
+turn-unwritten r v t = turn-written false r v t ∙ ap (λ (b : Bool). if b then Nobody else t) (and-false (isContr r))
 
 -- the owner, if there is one, lets go
 abbrev pub ownerLetsGo : Turn → Event → Device → Bool

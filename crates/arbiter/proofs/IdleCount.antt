@@ -1,26 +1,25 @@
 -- The idle count on a bus that stays idle: it counts the ticks, so that with a reserve of 00h and the idle timer on a grant lasts 100 of them.
 -- Assumes nothing.
-use Prim.Native.Nat.{_<_, _≤_}
+use Prim.Native.Nat.{_<_}
 use mathlib.Core.Path.{_≡_, refl, sym, ap, ap₂, _∙_, subst}
-use mathlib.Core.Bool.{true≢false, false≢true, and-eq-true-iff}
+use mathlib.Core.Bool.{true≢false, false≢true, and-eq-true-iff, and-false}
 use native.Mathlib.Nat.{add-zero}
 use native.Mathlib.Omega.{arith}
 use borrow.Author.Tests.{eq-eqb, ne-eqb, lt-ltb}
-use Rattle.arbiter.specs.Types.{ℕ, _+_, _-_, Bool, true, false, not, _&&_, _||_, List, [], _∷_, eqb, ltb, Master, Bus, Device, Raw, Tick}
-use Rattle.arbiter.specs.Words.{if_then_else_, worth, side}
+use Rattle.arbiter.specs.Types.{ℕ, _+_, _-_, Bool, true, false, not, _&&_, _||_, List, [], _∷_, eqb, Master, Bus, Device, Raw, Tick}
+use Rattle.arbiter.specs.Words.{if_then_else_, worth}
 use Rattle.arbiter.specs.State.{owns, sclHigh, sdaHigh, isIdle}
-use Rattle.arbiter.specs.Effects.{idleLimit, countedTo, tickedBus, ticked, effect}
+use Rattle.arbiter.specs.Effects.{idleLimit, tickedBus, ticked, effect}
 use Rattle.arbiter.specs.Order.{isReset, isTick, busyAfter, settledBus, levels}
-use Rattle.arbiter.specs.Steps.{step, runFrom, run}
+use Rattle.arbiter.specs.Steps.{runFrom, run}
 use Rattle.arbiter.specs.AuditWords.{next, reserveOf, idleTimerOn, reset, tick, withdrawalOf, levelled, ticksIn, never, throughout}
 use Rattle.arbiter.specs.Audit.{IdleTimerEnds}
-use Rattle.arbiter.proofs.Choice.{either, if-true, and-off, turn-owns}
+use Rattle.arbiter.proofs.Choice.{either, if-true, turn-owns}
 use Rattle.arbiter.proofs.Runs.{never-comes, now, hence}
 use Rattle.arbiter.proofs.Effects.{counts, effect-counts}
-use Rattle.arbiter.proofs.Order.{still, Fresh}
-use Rattle.arbiter.proofs.Owner.{mid, expired, Over}
-use Rattle.arbiter.proofs.Raws.{Takes, Met, refuses, takes, met, taken-tick, tick-no-reset}
-use Rattle.arbiter.proofs.Tenure.{Owner, Keeps, Lot, keeps, over, lot, taken-fresh, rt-found}
+use Rattle.arbiter.proofs.Owner.{mid, expired}
+use Rattle.arbiter.proofs.Raws.{Takes, refuses, takes, met, taken-tick, tick-no-reset}
+use Rattle.arbiter.proofs.Tenure.{Owner, keeps, over, lot, taken-fresh, rt-found}
 use Rattle.arbiter.proofs.Reserve.{rt-kept}
 use Rattle.arbiter.proofs.Timer.{expires, over-unowned}
 
@@ -79,7 +78,7 @@ unexpired : (m : Master) (d : Device) → reserveOf m d ≡ 0 → d .bus .idle <
 unexpired m d z low =
     expires m d z
     ∙ ap (λ (b : Bool). idleTimerOn m d && b) (ne-eqb (d .bus .idle) idleLimit (λ e. omega arith))
-    ∙ and-off (idleTimerOn m d)
+    ∙ and-false (idleTimerOn m d)
 
 -- At the tick that makes the limit, it has.
 ends-at : (m : Master) (t : Raw) (d : Device) → Owner m d → reserveOf m d ≡ 0 → idling m d ≡ true → tick t d ≡ true → d .bus .idle + 1 ≡ idleLimit

@@ -1,23 +1,22 @@
 -- In sum, over every run: a partner whose request stands has the bus at the tick at which the owner's reserve runs out.
 -- Assumes nothing.
 use Prim.Native.Nat.{_<_}
-use mathlib.Core.Path.{_≡_, refl, sym, ap, ap₂, _∙_, subst}
+use mathlib.Core.Path.{_≡_, sym, ap, ap₂, _∙_, subst}
 use mathlib.Core.Bool.{true≢false}
 use native.Mathlib.Omega.{arith}
 use borrow.Author.Tests.{ne-eqb, eq-eqb}
-use Rattle.arbiter.specs.Types.{ℕ, _+_, _-_, Bool, true, false, not, _&&_, List, [], _∷_, _++_, eqb, Master, Owns, Device, Raw, Event}
-use Rattle.arbiter.specs.Words.{if_then_else_, worth, partner, side}
+use Rattle.arbiter.specs.Types.{_+_, _-_, Bool, true, false, _&&_, List, [], _∷_, _++_, Master, Owns, Device, Raw}
+use Rattle.arbiter.specs.Words.{worth, partner}
 use Rattle.arbiter.specs.State.{owns, isIdle}
 use Rattle.arbiter.specs.Order.{isReset}
-use Rattle.arbiter.specs.Steps.{parts, step, runFrom, run}
+use Rattle.arbiter.specs.Steps.{parts, runFrom, run}
 use Rattle.arbiter.specs.AuditWords.{next, requests, resting, reserveOf, letsGo, reset, tick, levelled, ticksIn, never, throughout}
 use Rattle.arbiter.specs.Audit.{PartnerInTime}
 use Rattle.arbiter.proofs.Choice.{split, if-false, turn-owns}
 use Rattle.arbiter.proofs.Runs.{never-comes, now, hence}
-use Rattle.arbiter.proofs.Order.{still, Fresh}
-use Rattle.arbiter.proofs.Owner.{expired, Next, Over, over-next, waits, withdraws}
-use Rattle.arbiter.proofs.Raws.{Met, refuses, takes, met, tick-no-reset}
-use Rattle.arbiter.proofs.Tenure.{Owner, Owned, next-owned, run-owned, Keeps, Lot, keeps, over, lot, taken-fresh, rt-found, reserve-found}
+use Rattle.arbiter.proofs.Owner.{expired, Next, over-next, waits, withdraws}
+use Rattle.arbiter.proofs.Raws.{refuses, takes, met, tick-no-reset}
+use Rattle.arbiter.proofs.Tenure.{Owner, Owned, next-owned, run-owned, keeps, over, lot, taken-fresh, rt-found, reserve-found}
 use Rattle.arbiter.proofs.Reserve.{rt-kept, reserve-kept}
 use Rattle.arbiter.proofs.Waiting.{Waiting, next-owns, next-waits}
 
@@ -41,7 +40,7 @@ stays-in-line p r d i ok (soon w) q =
       | takes e x ↦
           (let no : isReset e ≡ false = sym (x .same λ f y. isReset f) ∙ ok in
           split (letsGo p e d)
-          (λ g. absurd (true≢false (sym q ∙ ap (requests p) (x .after) ∙ withdraws p e d no (w .turn) (w .hold) g)))
+          (λ g. absurd (true≢false (sym q ∙ ap (requests p) (x .after) ∙ withdraws p e d no (w .turn) g)))
           (λ g. subst (InLine p) (sym (x .after)) (next-in-line p (parts e d) (waits p e d no (w .turn) (w .request) (w .hold) g))))
     ]
 

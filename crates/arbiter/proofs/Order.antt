@@ -1,17 +1,15 @@
 -- Parts 2 to 7 of a step: what they leave as it was, and what they make of the turn.
 -- Assumes nothing.
-use mathlib.Core.Path.{_≡_, refl, sym, ap, ap₂, _∙_, subst}
+use mathlib.Core.Path.{_≡_, refl, sym, ap, _∙_, subst}
 use mathlib.Core.Bool.{true≢false, false≢true, and-eq-true-iff}
 use borrow.Author.Tests.{eqb-true}
-use Rattle.arbiter.specs.Types.{ℕ, _+_, Bool, true, false, not, _&&_, _||_, eqb, ltb, Master, Zero, One, Turn, Nobody, Claims, Owns, Port, Side, Bus, Switch, Apart, Initialising, Closed, Device, Clock, NoClock, ClockLow, ClockHigh, Event}
-use Rattle.arbiter.specs.Words.{if_then_else_, partner, sameMaster, of, side}
-use Rattle.arbiter.specs.Parts.{withTurn, withSwitch, withInitFail, withSide, withArb}
-use Rattle.arbiter.specs.State.{atRest, isIdle}
+use Rattle.arbiter.specs.Types.{ℕ, Bool, true, false, _&&_, eqb, ltb, Master, Zero, One, Turn, Nobody, Claims, Owns, Port, Side, Bus, Switch, Apart, Initialising, Closed, Device, Clock, NoClock, ClockLow, ClockHigh, Event}
+use Rattle.arbiter.specs.Words.{if_then_else_, sameMaster, side}
+use Rattle.arbiter.specs.Parts.{withTurn, withSide, withArb}
+use Rattle.arbiter.specs.State.{atRest}
 use Rattle.arbiter.specs.Registers.{disconnected}
-use Rattle.arbiter.specs.Effects.{effect}
-use Rattle.arbiter.specs.Order.{isReset, isTick, clockOf, levels, runsOut, lost, lossesFrom, losses, cutTicks, cutFrom, cut, claimBy, newClaim, winner, claimAfter, claim, granted, grantFrom, grant, switched, joined, initialised, initFailed, clocked, keptJoined, connectFrom, connect}
-use Rattle.arbiter.specs.Steps.{parts}
-use Rattle.arbiter.proofs.Choice.{either, split, if-true, if-false}
+use Rattle.arbiter.specs.Order.{isTick, clockOf, lossesFrom, losses, cutTicks, cutFrom, cut, claimBy, claimAfter, claim, granted, grantFrom, grant, joined, clocked, keptJoined, connectFrom, connect}
+use Rattle.arbiter.proofs.Choice.{either}
 use Rattle.arbiter.proofs.Effects.{kept}
 
 -- ---- what is left as it was

@@ -1,10 +1,10 @@
 -- One step from an owned bus, and one from a claim: the owner stays as part 3 found it, or its grant is over and its partner is next.
 -- Assumes nothing.
 use mathlib.Core.Path.{_≡_, refl, sym, ap, ap₂, _∙_, subst}
-use mathlib.Core.Bool.{true≢false, false≢true}
+use mathlib.Core.Bool.{and-true, true≢false, false≢true}
 use mathlib.Core.Logic.{_⊎_, inl, inr}
 use borrow.Author.Tests.{eq-eqb}
-use Rattle.arbiter.specs.Types.{ℕ, _-_, Bool, true, false, not, _&&_, _||_, eqb, Master, Zero, One, Turn, Nobody, Claims, Owns, Side, Bus, Device, Event}
+use Rattle.arbiter.specs.Types.{ℕ, _-_, Bool, true, false, _&&_, _||_, Master, Zero, One, Turn, Nobody, Claims, Owns, Device, Event}
 use Rattle.arbiter.specs.Words.{if_then_else_, partner, side}
 use Rattle.arbiter.specs.State.{atRest}
 use Rattle.arbiter.specs.Effects.{ticked, effect}
@@ -12,8 +12,8 @@ use Rattle.arbiter.specs.Order.{isReset, isTick, levels, runsOut, lost, 
 use Rattle.arbiter.specs.Steps.{parts}
 use Rattle.arbiter.specs.AuditWords.{requests, resting, letsGo}
 use Rattle.arbiter.proofs.Choice.{either, split, if-true, if-false}
-use Rattle.arbiter.proofs.Effects.{kept, Moved, effect-side, ownerLetsGo, effect-turn, counts, effect-counts}
-use Rattle.arbiter.proofs.Order.{sides, still, side-kept, owned, awarded, after, after-sides, after-owned, losses-unowned, after-turn, Fresh, after-fresh, owner-same}
+use Rattle.arbiter.proofs.Effects.{effect-side, ownerLetsGo, effect-turn, effect-counts}
+use Rattle.arbiter.proofs.Order.{still, side-kept, owned, awarded, after, after-sides, after-owned, losses-unowned, after-turn, Fresh, after-fresh, owner-same}
 
 -- the device after parts 1 and 2 of e's step, where part 3 looks for a loss
 abbrev pub mid : Event → Device → Device
@@ -37,10 +37,12 @@ unheld e d ok h =
 
 -- ---- part 3
 
+-- An owner that has not lost is left as it is,
 losses-kept : (m : Master) (d : Device) → d .arb .turn ≡ Owns m → expired m d ≡ false → losses d ≡ d
 unfolding losses lossesFrom
 losses-kept m d h x = ap (λ (t : Turn). lossesFrom t d) h ∙ if-false (lost m d) d x
 
+-- and one that has loses its request.
 losses-lost : (m : Master) (d : Device) → d .arb .turn ≡ Owns m → expired m d ≡ true → losses d ≡ lost m d
 unfolding losses lossesFrom
 losses-lost m d h x = ap (λ (t : Turn). lossesFrom t d) h ∙ if-true (lost m d) d x
@@ -52,16 +54,12 @@ lost-request One d = refl
 
 -- ---- parts 5 and 6 with no hold
 
--- a claimant with its port at rest owns
+-- who has the turn after p's claim: with its port at rest p owns
 abbrev pub heir : Bool → Master → Turn
 heir rest p = if rest then Owns p else Claims p
 
-and-on : (b : Bool) → b && true ≡ b
-and-on true = refl
-and-on false = refl
-
 awarded-heir : (p : Master) (d : Device) → d .bus .hold ≡ 0 → awarded (Claims p) d ≡ heir (resting p d) p
-awarded-heir p d h = ap (λ (b : Bool). heir b p) (ap (λ (b : Bool). resting p d && b) (eq-eqb (d .bus .hold) 0 h) ∙ and-on (resting p d))
+awarded-heir p d h = ap (λ (b : Bool). heir b p) (ap (λ (b : Bool). resting p d && b) (eq-eqb (d .bus .hold) 0 h) ∙ and-true (resting p d))
 
 -- p is next: its request stands, no hold runs, and it owns if its port is at rest and else is the claimant.
 pub record Next (p : Master) (d : Device) : Type 0 where
@@ -75,6 +73,7 @@ pub record Over (m : Master) (d : Device) : Type 0 where
   pub hold : d .bus .hold ≡ 0
   pub turn : d .arb .turn ≡ (if requests (partner m) d then heir (resting (partner m) d) (partner m) else Nobody)
 
+-- So it is.
 pub over-next : (m : Master) (d : Device) → Over m d → requests (partner m) d ≡ true → Next (partner m) d
 over-next m d h q = record { request = q; hold = h .hold; turn = h .turn ∙ if-true _ Nobody q }
 
@@ -99,40 +98,42 @@ awarded-sole : (b : Bool) (p : Master) (d : Device) → d .bus .hold ≡ 0
 awarded-sole true p d h = awarded-heir p d h
 awarded-sole false p d h = refl
 
+-- p's request and port are after part 7 as they were before part 4.
+asks : (p : Master) (e : Event) (d : Device) → requests p (after e d) ≡ requests p d
+asks p e d = ap (λ k. k .0) (side-kept p (after e d) d (after-sides e d))
+
+rests : (p : Master) (e : Event) (d : Device) → resting p (after e d) ≡ resting p d
+rests p e d = ap (λ k. atRest (k .3)) (side-kept p (after e d) d (after-sides e d))
+
 module _ (e : Event) (d : Device) (hold : d .bus .hold ≡ 0) where
-  -- p's request and port are as they were before part 4.
-  asks : (p : Master) → requests p (after e d) ≡ requests p d
-  asks p = ap (λ k. k .0) (side-kept p (after e d) d (after-sides e d))
-
-  rests : (p : Master) → resting p (after e d) ≡ resting p d
-  rests p = ap (λ k. atRest (k .3)) (side-kept p (after e d) d (after-sides e d))
-
   held : (after e d) .bus .hold ≡ 0
   held = ap (λ s. s .2) (after-sides e d) ∙ hold
 
+  -- Where the turn is nobody's and m does not request, m's grant is over,
   after-over : (m : Master) → d .arb .turn ≡ Nobody → requests m d ≡ false → Over m (after e d)
   after-over m t q =
       let p : Master = partner m in
       record {
-        request = asks m ∙ q;
+        request = asks m e d ∙ q;
         hold = held;
         turn =
             after-turn e d (ap owned t)
             ∙ ap (λ (u : Turn). awarded u d) (ap (λ (u : Turn). claimAfter u d) t ∙ sole-claim m d q)
             ∙ awarded-sole (requests p d) p d hold
-            ∙ ap₂ (λ (a b : Bool). if a then heir b p else Nobody) (sym (asks p)) (sym (rests p));
+            ∙ ap₂ (λ (a b : Bool). if a then heir b p else Nobody) (sym (asks p e d)) (sym (rests p e d));
       }
 
+  -- and a claimant that requests is next.
   after-claim : (p : Master) → d .arb .turn ≡ Claims p → requests p d ≡ true → Next p (after e d)
   after-claim p t q =
       record {
-        request = asks p ∙ q;
+        request = asks p e d ∙ q;
         hold = held;
         turn =
             after-turn e d (ap owned t)
             ∙ ap (λ (u : Turn). awarded u d) (ap (λ (u : Turn). claimAfter u d) t ∙ if-true (Claims p) (newClaim d) q)
             ∙ awarded-heir p d hold
-            ∙ ap (λ (b : Bool). heir b p) (sym (rests p));
+            ∙ ap (λ (b : Bool). heir b p) (sym (rests p e d));
       }
 
 -- ---- a step from an owned bus
@@ -143,11 +144,12 @@ pub record Stays (m : Master) (e : Event) (d : Device) : Type 0 where
   pub unlost : expired m (mid e d) ≡ false
   pub left : still (parts e d) ≡ still (mid e d)
 
--- m owns and no reset comes: it keeps the grant, or the grant is over by its withdrawal or by a loss.
+-- Of an owner in a step that is no reset: it keeps the grant, or the grant is over, by a loss unless it lets go.
 pub data Fate (m : Master) (e : Event) (d : Device) : Type 0 where
   stays : Stays m e d → Fate m e d
   ends : Over m (parts e d) → (letsGo m e d ≡ false → expired m (mid e d) ≡ true) → Fate m e d
 
+-- Whom part 3 finds owning and not lost keeps the grant.
 stay : (m : Master) (e : Event) (d : Device) → (mid e d) .arb .turn ≡ Owns m → expired m (mid e d) ≡ false → Stays m e d
 unfolding parts
 stay m e d t x =
@@ -172,6 +174,7 @@ fate m e d ok t z =
 -- ---- a step from a claim
 
 module _ (p : Master) (e : Event) (d : Device) (ok : isReset e ≡ false) (t : d .arb .turn ≡ Claims p) where
+  -- The claim stands when part 3 looks, which does nothing to it.
   claim-kept : (mid e d) .arb .turn ≡ Claims p
   unfolding levels
   claim-kept = turn-kept e d (Claims p) ok t
@@ -187,15 +190,15 @@ module _ (p : Master) (e : Event) (d : Device) (ok : isReset e ≡ false) (t : d
       subst (Next p) (sym claim-passed) (after-claim e (mid e d) (unheld e d ok z) p claim-kept (effect-side p e d ok .stands g q))
 
   -- and one that withdraws no longer requests.
-  pub withdraws : d .bus .hold ≡ 0 → letsGo p e d ≡ true → requests p (parts e d) ≡ false
+  pub withdraws : letsGo p e d ≡ true → requests p (parts e d) ≡ false
   unfolding levels
-  withdraws z g =
-      subst (λ (n : Device). requests p n ≡ false) (sym claim-passed) (asks e (mid e d) (unheld e d ok z) p ∙ effect-side p e d ok .falls g)
+  withdraws g =
+      subst (λ (n : Device). requests p n ≡ false) (sym claim-passed) (asks p e (mid e d) ∙ effect-side p e d ok .falls g)
 
   -- Its port is as part 1 left it.
-  pub port-left : d .bus .hold ≡ 0 → resting p (parts e d) ≡ resting p (effect e d)
+  pub port-left : resting p (parts e d) ≡ resting p (effect e d)
   unfolding levels
-  port-left z = ap (resting p) claim-passed ∙ rests e (mid e d) (unheld e d ok z) p
+  port-left = ap (resting p) claim-passed ∙ rests p e (mid e d)
 
 -- ---- where an owner comes from
 

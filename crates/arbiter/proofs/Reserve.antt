@@ -1,21 +1,21 @@
 -- Can a reserved transfer be cut short? Over every run, an owner keeps the bus for the ticks of its reserve.
 -- Assumes nothing.
 use Prim.Native.Nat.{_<_}
-use mathlib.Core.Path.{_≡_, refl, sym, ap, _∙_}
+use mathlib.Core.Path.{_≡_, sym, ap, _∙_}
 use mathlib.Core.Bool.{true≢false}
 use native.Mathlib.Omega.{arith}
 use borrow.Author.Tests.{ne-eqb}
-use Rattle.arbiter.specs.Types.{ℕ, _+_, _-_, Bool, true, false, not, _&&_, List, [], _∷_, eqb, Master, Owns, Device, Raw}
-use Rattle.arbiter.specs.Words.{if_then_else_, worth, side}
+use Rattle.arbiter.specs.Types.{_-_, Bool, true, false, _&&_, List, [], _∷_, Master, Device, Raw}
+use Rattle.arbiter.specs.Words.{worth}
 use Rattle.arbiter.specs.State.{owns, isIdle}
-use Rattle.arbiter.specs.Steps.{step, runFrom, run}
+use Rattle.arbiter.specs.Steps.{runFrom, run}
 use Rattle.arbiter.specs.AuditWords.{next, reserveOf, reset, tick, withdrawalOf, levelled, ticksIn, never}
 use Rattle.arbiter.specs.Audit.{ReserveLasts}
 use Rattle.arbiter.proofs.Choice.{if-false, turn-owns}
 use Rattle.arbiter.proofs.Runs.{never-comes}
-use Rattle.arbiter.proofs.Order.{still, still-sides, side-kept, Fresh}
-use Rattle.arbiter.proofs.Owner.{expired, Over}
-use Rattle.arbiter.proofs.Tenure.{Owner, Keeps, Lot, keeps, over, lot, taken-fresh, rt-found, reserve-found}
+use Rattle.arbiter.proofs.Order.{still-sides, side-kept}
+use Rattle.arbiter.proofs.Owner.{expired}
+use Rattle.arbiter.proofs.Tenure.{Owner, Keeps, keeps, over, lot, taken-fresh, rt-found, reserve-found}
 
 module _ (m : Master) (r : Raw) (d : Device) (o : Owner m d) (ok : reset r d ≡ false) where
   -- Who keeps the grant keeps its RT, and a tick is taken from its reserve count.

@@ -2,7 +2,7 @@
 -- Assumes nothing.
 use mathlib.Core.Path.{_≡_, refl}
 use mathlib.Core.Bool.{and-eq-true-iff}
-use Rattle.arbiter.specs.Types.{Bool, true, false, not, _&&_, List, [], _∷_, _++_, Device, Raw}
+use Rattle.arbiter.specs.Types.{Bool, true, false, not, List, [], _∷_, _++_, Device, Raw}
 use Rattle.arbiter.specs.Effects.{powerUp}
 use Rattle.arbiter.specs.Steps.{step, runFrom, run}
 use Rattle.arbiter.specs.AuditWords.{next, never, throughout}

@@ -1,22 +1,22 @@
 -- An owner over the events of a run: no hold runs while there is one, part 3 would find no loss, and each event leaves it the owner or
 -- ends its grant.
 -- Assumes nothing.
-use mathlib.Core.Path.{_≡_, refl, sym, ap, ap₂, _∙_, subst}
-use mathlib.Core.Bool.{true≢false, false≢true, and-eq-true-iff}
-use mathlib.Core.Logic.{_⊎_, ⊎-elim}
+use mathlib.Core.Path.{_≡_, refl, sym, ap, _∙_, subst}
+use mathlib.Core.Bool.{true≢false, false≢true, and-eq-true-iff, and-false}
+use mathlib.Core.Logic.{⊎-elim}
 use native.Mathlib.Nat.{sub-zero}
-use Rattle.arbiter.specs.Types.{ℕ, _-_, Bool, true, false, not, _&&_, _||_, List, [], _∷_, eqb, Master, Turn, Nobody, Claims, Owns, Side, Bus, Device, Raw, Event}
+use Rattle.arbiter.specs.Types.{ℕ, _-_, Bool, true, false, not, _&&_, _||_, List, [], _∷_, eqb, Master, Nobody, Owns, Bus, Device, Raw, Event}
 use Rattle.arbiter.specs.Words.{if_then_else_, worth, side}
 use Rattle.arbiter.specs.State.{owns, isIdle}
 use Rattle.arbiter.specs.Effects.{idleLimit, ticked, effect, powerUp}
 use Rattle.arbiter.specs.Order.{isReset, isTick, levels}
-use Rattle.arbiter.specs.Steps.{parts, step, runFrom, run}
+use Rattle.arbiter.specs.Steps.{parts, runFrom, run}
 use Rattle.arbiter.specs.AuditWords.{next, reserveOf, letsGo, reset, tick, withdrawalOf, grantTaken, levelled}
-use Rattle.arbiter.proofs.Choice.{either, split, if-true, if-false, and-off, not-true, owns-turn, turn-owns}
-use Rattle.arbiter.proofs.Effects.{kept, effect-side, ownerLetsGo, effect-turn, counts, effect-counts}
+use Rattle.arbiter.proofs.Choice.{split, if-true, if-false, not-true, owns-turn, turn-owns}
+use Rattle.arbiter.proofs.Effects.{effect-side, ownerLetsGo, effect-turn, counts, effect-counts}
 use Rattle.arbiter.proofs.Order.{still, still-sides, side-kept, owned, Fresh}
-use Rattle.arbiter.proofs.Owner.{mid, expired, unheld, Over, Stays, Fate, stays, ends, fate, origin}
-use Rattle.arbiter.proofs.Raws.{Refuses, Takes, Met, refuses, takes, met}
+use Rattle.arbiter.proofs.Owner.{mid, expired, unheld, Over, Stays, stays, ends, fate, origin}
+use Rattle.arbiter.proofs.Raws.{refuses, takes, met}
 
 -- m owns, no hold runs, and part 3 would find no loss.
 pub record Owner (m : Master) (d : Device) : Type 0 where
@@ -44,7 +44,7 @@ fresh-owner m d t f =
       turn = t;
       hold = f .hold;
       unlost =
-          split (eqb rt 0) (λ z. if-true _ _ z ∙ ap (λ (n : ℕ). timer && eqb n idleLimit) (f .idle) ∙ and-off timer)
+          split (eqb rt 0) (λ z. if-true _ _ z ∙ ap (λ (n : ℕ). timer && eqb n idleLimit) (f .idle) ∙ and-false timer)
           (λ z. if-false _ _ z ∙ ap (λ (n : ℕ). eqb n 0 && isIdle (d .bus)) (f .reserve) ∙ ap (λ (b : Bool). b && isIdle (d .bus)) z);
     }
 

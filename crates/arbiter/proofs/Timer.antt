@@ -1,25 +1,22 @@
 -- What does a reserve of 00h mean? Over every run, the grant lasts until it is let go, or with the idle timer on until the idle count is 101.
 -- Assumes nothing.
-use Prim.Native.Nat.{_<_}
-use mathlib.Core.Path.{_≡_, refl, sym, ap, ap₂, _∙_, subst}
-use mathlib.Core.Bool.{true≢false, false≢true, and-eq-true-iff}
-use native.Mathlib.Omega.{arith}
-use borrow.Author.Tests.{eqb-true, eq-eqb, ne-eqb, lt-ltb}
-use Rattle.arbiter.specs.Types.{ℕ, _+_, _-_, Bool, true, false, not, _&&_, _||_, List, [], _∷_, eqb, ltb, Master, Zero, One, Turn, Nobody, Claims, Owns, Bus, Device, Raw, Event, Tick}
-use Rattle.arbiter.specs.Words.{if_then_else_, worth, partner, side}
-use Rattle.arbiter.specs.State.{ownsTurn, owns, sclHigh, sdaHigh, isIdle}
-use Rattle.arbiter.specs.Effects.{idleLimit, countedTo, tickedBus, ticked, effect}
-use Rattle.arbiter.specs.Order.{isReset, isTick, busyAfter, settledBus, levels, lost, lossesFrom, losses}
-use Rattle.arbiter.specs.Steps.{parts, step, runFrom, run}
-use Rattle.arbiter.specs.AuditWords.{next, requests, resting, reserveOf, idleTimerOn, reset, tick, withdrawalOf, levelled, ticksIn, never, throughout}
-use Rattle.arbiter.specs.Audit.{HeldUntilLetGo, IdleTimerExact, IdleTimerEnds}
+use mathlib.Core.Path.{_≡_, refl, sym, ap, _∙_}
+use mathlib.Core.Bool.{true≢false}
+use borrow.Author.Tests.{eq-eqb}
+use Rattle.arbiter.specs.Types.{Bool, true, false, not, _&&_, List, [], _∷_, eqb, Master, Zero, One, Turn, Nobody, Claims, Owns, Device, Raw}
+use Rattle.arbiter.specs.Words.{if_then_else_, partner}
+use Rattle.arbiter.specs.State.{ownsTurn, owns}
+use Rattle.arbiter.specs.Effects.{idleLimit}
+use Rattle.arbiter.specs.Order.{lost, lossesFrom, losses}
+use Rattle.arbiter.specs.Steps.{parts, runFrom, run}
+use Rattle.arbiter.specs.AuditWords.{next, requests, resting, reserveOf, idleTimerOn, reset, withdrawalOf, levelled, never, throughout}
+use Rattle.arbiter.specs.Audit.{HeldUntilLetGo, IdleTimerExact}
 use Rattle.arbiter.proofs.Choice.{either, if-true, not-true, same-not, owns-turn, turn-owns}
 use Rattle.arbiter.proofs.Runs.{never-comes, now, hence}
-use Rattle.arbiter.proofs.Effects.{kept, counts, effect-counts}
-use Rattle.arbiter.proofs.Order.{still, side-kept, after, after-sides, Fresh}
+use Rattle.arbiter.proofs.Order.{side-kept, after, after-sides}
 use Rattle.arbiter.proofs.Owner.{mid, expired, heir, Over}
-use Rattle.arbiter.proofs.Raws.{Takes, Met, refuses, takes, met, taken-tick, tick-no-reset}
-use Rattle.arbiter.proofs.Tenure.{Owner, run-owned, Keeps, Lot, keeps, over, lot, taken-fresh, rt-found}
+use Rattle.arbiter.proofs.Raws.{refuses, takes, met}
+use Rattle.arbiter.proofs.Tenure.{Owner, run-owned, keeps, over, lot, taken-fresh, rt-found}
 use Rattle.arbiter.proofs.Reserve.{rt-kept}
 
 -- With a reserve of 00h part 3 asks for the idle timer and the idle count.

@@ -1,22 +1,22 @@
 -- When does the waiting one get its turn? Over every run, the partner of a master whose grant ends is next.
 -- Assumes nothing.
 use mathlib.Core.Path.{_≡_, refl, sym, ap, _∙_, subst}
-use mathlib.Core.Bool.{true≢false, false≢true, and-eq-true-iff}
-use Rattle.arbiter.specs.Types.{Bool, true, false, not, _&&_, List, [], _∷_, Master, Zero, One, Turn, Claims, Owns, Device, Raw, Event, Stop, Reads}
-use Rattle.arbiter.specs.Words.{if_then_else_, partner, side}
-use Rattle.arbiter.specs.State.{owns, atRest}
+use mathlib.Core.Bool.{true≢false, and-eq-true-iff}
+use Rattle.arbiter.specs.Types.{Bool, true, false, not, List, [], _∷_, Master, Zero, One, Claims, Owns, Device, Raw, Stop, Reads}
+use Rattle.arbiter.specs.Words.{partner}
+use Rattle.arbiter.specs.State.{owns}
 use Rattle.arbiter.specs.Events.{decode, inSequence}
 use Rattle.arbiter.specs.Effects.{effect}
 use Rattle.arbiter.specs.Order.{isReset}
-use Rattle.arbiter.specs.Steps.{parts, step, runFrom, run}
+use Rattle.arbiter.specs.Steps.{parts, runFrom, run}
 use Rattle.arbiter.specs.AuditWords.{next, requests, resting, letsGo, isStopOf, reset, withdrawalOf, stopOf, never}
 use Rattle.arbiter.specs.Audit.{PartnerNext}
 use Rattle.arbiter.proofs.Choice.{not-true, owns-turn, turn-owns}
 use Rattle.arbiter.proofs.Runs.{never-comes}
 use Rattle.arbiter.proofs.Effects.{effect-side}
-use Rattle.arbiter.proofs.Owner.{heir, Next, Over, over-next, waits, port-left}
-use Rattle.arbiter.proofs.Raws.{Met, refuses, takes, met, taken-as}
-use Rattle.arbiter.proofs.Tenure.{Owner, run-owned, Keeps, Lot, keeps, over, lot}
+use Rattle.arbiter.proofs.Owner.{heir, Next, over-next, waits, port-left}
+use Rattle.arbiter.proofs.Raws.{refuses, takes, met, taken-as}
+use Rattle.arbiter.proofs.Tenure.{Owner, run-owned, keeps, over, lot}
 
 -- p is the claimant, its request stands, no hold runs, and its port is not at rest.
 pub record Waiting (p : Master) (d : Device) : Type 0 where
@@ -42,7 +42,7 @@ waits-on p r d w ok on up =
           (let no : isReset e ≡ false = sym (x .same λ f y. isReset f) ∙ ok in
           subst (Waiting p) (sym (x .after))
           (next-waits p (parts e d) (waits p e d no (w .turn) (w .request) (w .hold) (sym (x .same (letsGo p)) ∙ on))
-          (port-left p e d no (w .turn) (w .hold) ∙ effect-side p e d no .opened (sym (x .same λ f y. isStopOf p f) ∙ up) (w .port))))
+          (port-left p e d no (w .turn) ∙ effect-side p e d no .opened (sym (x .same λ f y. isStopOf p f) ∙ up) (w .port))))
     ]
 
 -- and its STOP makes it the owner.
@@ -57,7 +57,7 @@ stop-owns p r d w h =
     ap (owns p) (taken-as (Stop p) r d h (ap not (w .port)) .after)
     ∙ turn-owns p ((parts (Stop p) d) .arb .turn)
     (next-owns p (parts (Stop p) d) (waits p (Stop p) d refl (w .turn) (w .request) (w .hold) refl)
-    (port-left p (Stop p) d refl (w .turn) (w .hold) ∙ stop-rests p d))
+    (port-left p (Stop p) d refl (w .turn) ∙ stop-rests p d))
 
 until-stop : (p : Master) (rs : List Raw) (d : Device) → Waiting p d → never reset d rs ≡ true → never (withdrawalOf p) d rs ≡ true
     → never (stopOf p) d rs ≡ true
