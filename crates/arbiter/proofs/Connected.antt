@@ -12,6 +12,7 @@ use Rattle.arbiter.specs.Effects.{effect, powerUp}
 use Rattle.arbiter.specs.Order.{switched, joined, initFailed, clocked, keptJoined, connectFrom, connect, levels, losses, cut, claim, grant, isReset, isTick, clockOf}
 use Rattle.arbiter.specs.Steps.{parts, taken, refused, stepEvent, stepDecoded, step, runFrom, run}
 use Rattle.arbiter.specs.Audit.{OneConnected, ApartUnowned}
+use Rattle.arbiter.proofs.Choice.{same-self}
 
 -- ---- whom the switch serves
 
@@ -43,10 +44,6 @@ served m t Apart e h j s = absurd (false≢true s)
 served m t (Initialising k n) e h j s = ap (ownsTurn j) e ∙ three j m k h s
 served m t (Closed k) e h j s = ap (ownsTurn j) e ∙ three j m k h s
 
-self : (m : Master) → sameMaster m m ≡ true
-self Zero = refl
-self One = refl
-
 -- ---- part 7
 
 apart-served : (d : Device) → Served (switched Apart d)
@@ -58,17 +55,17 @@ module _ (m : Master) (d : Device) (e : d .arb .turn ≡ Owns m) where
   joined-served = go ((side m d) .contr .businit)
     where
       go : (init : Bool) → Served (if init then withArb (withInitFail false (withSwitch (Initialising m 0) (d .arb))) d else switched (Closed m) d)
-      go true = served m (d .arb .turn) (Initialising m 0) e (self m)
-      go false = served m (d .arb .turn) (Closed m) e (self m)
+      go true = served m (d .arb .turn) (Initialising m 0) e (same-self m)
+      go false = served m (d .arb .turn) (Closed m) e (same-self m)
 
   clocked-served : (c : Clock) (n : ℕ) → onlyFor m (d .arb .switch) ≡ true → Served (clocked c m n d)
   unfolding clocked
   clocked-served NoClock n h = served m (d .arb .turn) (d .arb .switch) e h
-  clocked-served ClockHigh n h = served m (d .arb .turn) (Closed m) e (self m)
+  clocked-served ClockHigh n h = served m (d .arb .turn) (Closed m) e (same-self m)
   clocked-served ClockLow n h = go (ltb n 8)
     where
       go : (more : Bool) → Served (if more then switched (Initialising m (n + 1)) d else initFailed m d)
-      go true = served m (d .arb .turn) (Initialising m (n + 1)) e (self m)
+      go true = served m (d .arb .turn) (Initialising m (n + 1)) e (same-self m)
       go false = served m (d .arb .turn) Apart e refl
 
   kept-served : (c : Clock) (w : Switch) → d .arb .switch ≡ w → Served (keptJoined c m w d)
@@ -146,8 +143,8 @@ one-connected rs m h =
 
 unserved : (w : Switch) → ((m : Master) → serves m w ≡ true → ⊥) → w ≡ Apart
 unserved Apart h = refl
-unserved (Initialising k n) h = absurd (h k (self k))
-unserved (Closed k) h = absurd (h k (self k))
+unserved (Initialising k n) h = absurd (h k (same-self k))
+unserved (Closed k) h = absurd (h k (same-self k))
 
 pub apart-unowned : ApartUnowned
 apart-unowned rs none = unserved ((run rs) .arb .switch) λ m s. false≢true (sym (none m) ∙ all-served rs m s)

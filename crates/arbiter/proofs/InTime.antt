@@ -27,6 +27,7 @@ data InLine (p : Master) (d : Device) : Type 0 where
   mine : d .arb .turn ≡ Owns p → InLine p d
   soon : Waiting p d → InLine p d
 
+-- Who is next is in line.
 next-in-line : (p : Master) (d : Device) → Next p d → InLine p d
 next-in-line p d n = split (resting p d) (λ r. mine (next-owns p d n r)) (λ r. soon (next-waits p d n r))
 
@@ -44,6 +45,7 @@ stays-in-line p r d i ok (soon w) q =
           (λ g. subst (InLine p) (sym (x .after)) (next-in-line p (parts e d) (waits p e d no (w .turn) (w .request) (w .hold) g))))
     ]
 
+-- So over any events and a last one t.
 line : (p : Master) (rs : List Raw) (t : Raw) (d : Device) → Owned d → InLine p d → never reset d rs ≡ true → reset t (runFrom d rs) ≡ false
     → throughout (requests p) d (rs ++ t ∷ []) ≡ true → InLine p (next (runFrom d rs) t)
 unfolding runFrom
@@ -53,6 +55,7 @@ line p (r ∷ rs) t d i l nr ok st =
     let on = hence (requests p) r (rs ++ t ∷ []) d st in
     line p rs t (next d r) (next-owned r d i) (stays-in-line p r d i (first .0) l (now (requests p) (rs ++ t ∷ []) (next d r) on)) (first .1) ok on
 
+-- In line with its port at rest, it owns.
 line-owns : (p : Master) (d : Device) → InLine p d → resting p d ≡ true → owns p d ≡ true
 line-owns p d (mine t) r = turn-owns p (d .arb .turn) t
 line-owns p d (soon w) r = absurd (true≢false (sym r ∙ w .port))

@@ -1,4 +1,4 @@
--- Parts 2 to 7 of a step: what they leave as it was, and what they make of the turn.
+-- Parts 3 to 7 of a step: what they leave as it was, what they make of a bus that nobody owns, and what a new grant is.
 -- Assumes nothing.
 use mathlib.Core.Path.{_≡_, refl, sym, ap, _∙_, subst}
 use mathlib.Core.Bool.{true≢false, false≢true, and-eq-true-iff}
@@ -14,28 +14,29 @@ use Rattle.arbiter.proofs.Effects.{kept}
 
 -- ---- what is left as it was
 
--- of both sides, the four that `kept` names, and the hold
+-- of both sides the four that `kept` names, and the hold
 abbrev pub sides : Device → (Bool × Bool × ℕ × Port) × (Bool × Bool × ℕ × Port) × ℕ
 sides d = (kept (d .side0), kept (d .side1), d .bus .hold)
 
--- and with them the whole bus, the reserve count and the turn
+-- the same with the whole bus, the reserve count and the turn
 abbrev pub still : Device → (Bool × Bool × ℕ × Port) × (Bool × Bool × ℕ × Port) × Bus × ℕ × Turn
 still d = (kept (d .side0), kept (d .side1), d .bus, d .arb .reserve, d .arb .turn)
 
+-- What leaves the second leaves the first,
 pub still-sides : (n d : Device) → still n ≡ still d → sides n ≡ sides d
 still-sides n d e = ap (λ x. (x .0, x .1, x .2 .hold)) e
 
--- of m's side
+-- and m's side in either.
 pub side-kept : (m : Master) (n d : Device) → sides n ≡ sides d → kept (side m n) ≡ kept (side m d)
 side-kept Zero n d e = ap (λ x. x .0) e
 side-kept One n d e = ap (λ x. x .1) e
 
--- A device in which one side is put in place of another like it.
+-- A side with the same four in m's place changes none of this.
 alike : (m : Master) (s : Side) (d : Device) → kept s ≡ kept (side m d) → still (withSide m s d) ≡ still d
 alike Zero s d e = ap (λ x. (x, kept (d .side1), d .bus, d .arb .reserve, d .arb .turn)) e
 alike One s d e = ap (λ x. (kept (d .side0), x, d .bus, d .arb .reserve, d .arb .turn)) e
 
--- ---- part 4
+-- ---- part 4 clears BUS_CONNECT at most
 
 cut-still : (tick : Bool) (t : Turn) (d : Device) → still (cutFrom tick t d) ≡ still d
 unfolding cutFrom
@@ -45,7 +46,7 @@ cut-still tick (Owns m) d =
     either (λ (n : Device). still n ≡ still d) (tick && eqb (d .bus .lowscl) cutTicks && (side m d) .contr .smbusdis)
     (λ h. alike m (disconnected (side m d)) d refl) (λ h. refl)
 
--- ---- part 7
+-- ---- part 7 changes the switch, BUS_INIT, BUS_CONNECT and BUS_INIT_FAIL at most
 
 joined-still : (m : Master) (d : Device) → still (joined m d) ≡ still d
 unfolding joined
@@ -71,7 +72,7 @@ connect-still c (Claims m) d = refl
 connect-still c (Owns m) d =
     either (λ (x : Device). still x ≡ still d) ((side m d) .contr .busconnect) (λ h. joining-still c m (d .arb .switch) d) (λ h. refl)
 
--- ---- parts 5 and 6
+-- ---- part 6
 
 -- d with the turn t
 abbrev turned : Turn → Device → Device
@@ -83,6 +84,7 @@ awarded Nobody d = Nobody
 awarded (Claims m) d = if atRest ((side m d) .port) && eqb (d .bus .hold) 0 then Owns m else Claims m
 awarded (Owns m) d = Owns m
 
+-- A grant sets the grant's interrupt, zeroes the idle count and sets the reserve count: the sides and the hold are left.
 granted-sides : (m : Master) (d : Device) → sides (granted m d) ≡ sides d
 unfolding granted
 granted-sides Zero d = refl
@@ -95,6 +97,7 @@ grant-sides (Claims m) d =
     either (λ (n : Device). sides n ≡ sides d) (atRest ((side m d) .port) && eqb (d .bus .hold) 0) (λ h. granted-sides m d) (λ h. refl)
 grant-sides (Owns m) d = refl
 
+-- Of the turn t it makes this.
 grant-turn : (t : Turn) (d : Device) → (grantFrom t (turned t d)) .arb .turn ≡ awarded t d
 unfolding grantFrom granted
 grant-turn Nobody d = refl
@@ -107,6 +110,7 @@ grant-turn (Owns m) d = refl
 
 -- ---- parts 4 to 7
 
+-- the four parts after the losses
 abbrev pub after : Event → Device → Device
 after e d = connect (clockOf e) (grant (claim (cut (isTick e) d)))
 
@@ -142,6 +146,7 @@ after-owned e m d h =
 
 -- ---- parts 3 to 7 of a bus that nobody owns
 
+-- some master owns
 abbrev pub owned : Turn → Bool
 owned Nobody = false
 owned (Claims m) = false
@@ -164,16 +169,18 @@ uncut tick Nobody d h = refl
 uncut tick (Claims m) d h = refl
 uncut tick (Owns m) d h = absurd (true≢false h)
 
--- so that the turn goes by the claim and the grant alone.
-abbrev claimed : Device → Turn
+-- the turn after part 5
+abbrev pub claimed : Device → Turn
 claimed d = claimAfter (d .arb .turn) d
 
+-- so that the device goes by the claim and the grant alone,
 after-unowned : (e : Event) (d : Device) → owned (d .arb .turn) ≡ false → still (after e d) ≡ still (grantFrom (claimed d) (turned (claimed d) d))
 unfolding connect grant claim cut
 after-unowned e d h =
     let g : Device = grant (claim d) in
     ap (λ (x : Device). still (connect (clockOf e) (grant (claim x)))) (uncut (isTick e) (d .arb .turn) d h) ∙ connect-still (clockOf e) (g .arb .turn) g
 
+-- and so does the turn.
 pub after-turn : (e : Event) (d : Device) → owned (d .arb .turn) ≡ false → (after e d) .arb .turn ≡ awarded (claimed d) d
 after-turn e d h = ap (λ x. x .4) (after-unowned e d h) ∙ grant-turn (claimed d) d
 
@@ -185,6 +192,7 @@ pub record Fresh (m : Master) (d : Device) : Type 0 where
   pub idle : d .bus .idle ≡ 0
   pub hold : d .bus .hold ≡ 0
 
+-- It is read off what `still` names,
 fresh-still : (m : Master) (n d : Device) → still n ≡ still d → Fresh m d → Fresh m n
 fresh-still m n d e h =
     record {
@@ -193,14 +201,17 @@ fresh-still m n d e h =
       hold = ap (λ x. x .2 .hold) e ∙ h .hold;
     }
 
+-- and part 6 makes it so:
 granted-fresh : (m : Master) (d : Device) → d .bus .hold ≡ 0 → Fresh m (granted m d)
 unfolding granted
 granted-fresh Zero d h = record { reserve = refl; idle = refl; hold = h }
 granted-fresh One d h = record { reserve = refl; idle = refl; hold = h }
 
+-- a turn has one owner,
 pub owner-same : (k m : Master) → Owns k ≡ Owns m → k ≡ m
 owner-same k m h = cc
 
+-- and a claimant owns after part 6 only by a new grant.
 grant-fresh : (m : Master) (t : Turn) (d : Device) → owned t ≡ false → (grantFrom t (turned t d)) .arb .turn ≡ Owns m → Fresh m (grantFrom t (turned t d))
 unfolding grantFrom granted
 grant-fresh m Nobody d u h = absurd (false≢true (ap owned h))
@@ -216,7 +227,7 @@ grant-fresh m (Claims k) d u h = go (atRest ((side k d) .port) && eqb (d .bus .h
     go false t o = absurd (false≢true (ap owned o))
 grant-fresh m (Owns k) d u h = absurd (true≢false u)
 
--- A claim is no grant.
+-- A claim is no grant, and part 5 makes no owner.
 claim-by-unowned : (a b : Bool) (w : Master) → owned (claimBy a b w) ≡ false
 claim-by-unowned true true w = refl
 claim-by-unowned true false w = refl
@@ -229,7 +240,7 @@ claimed-unowned (Claims m) d h =
     either (λ (t : Turn). owned t ≡ false) ((side m d) .contr .lockreq) (λ q. refl) (λ q. claim-by-unowned (d .side0 .contr .lockreq) (d .side1 .contr .lockreq) _)
 claimed-unowned (Owns m) d h = absurd (true≢false h)
 
--- Who owns after part 7 and not before part 3 has a new grant.
+-- So who owns after part 7 on a bus that nobody owned before part 4 has a new grant.
 pub after-fresh : (m : Master) (e : Event) (d : Device) → owned (d .arb .turn) ≡ false → (after e d) .arb .turn ≡ Owns m → Fresh m (after e d)
 after-fresh m e d u h =
     let s = after-unowned e d u in

@@ -155,6 +155,7 @@ unfolding parts
 stay m e d t x =
     record { turn = t; unlost = x; left = ap (λ (y : Device). still (after e y)) (losses-kept m (mid e d) t x) ∙ after-owned e m (mid e d) t }
 
+-- It is one of these.
 pub fate : (m : Master) (e : Event) (d : Device) → isReset e ≡ false → d .arb .turn ≡ Owns m → d .bus .hold ≡ 0 → Fate m e d
 unfolding parts levels lost
 fate m e d ok t z =

@@ -11,12 +11,13 @@ use Rattle.arbiter.specs.AuditWords.{next, acceptedAs, accepted, reset, 
 use Rattle.arbiter.proofs.Choice.{split, if-true, if-false}
 use Rattle.arbiter.proofs.Owner.{mid}
 
--- Of r in d: the device after it, the one in which part 3 looks for a loss, and what may be said of it.
+-- r is refused in d: the device after it and the one in which part 3 would look for a loss are d, and nothing is said of it.
 pub record Refuses (r : Raw) (d : Device) : Type 0 where
   pub after : next d r ≡ d
   pub middle : levelled r d ≡ d
   pub none : (such : Event → Device → Bool) → accepted such r d ≡ false
 
+-- r is taken as e in d: so are both devices, and what is said of r is said of e.
 pub record Takes (e : Event) (r : Raw) (d : Device) : Type 0 where
   pub after : next d r ≡ parts e d
   pub middle : levelled r d ≡ mid e d
@@ -36,38 +37,34 @@ taken-as e r d h s =
       same = λ such. ap (λ (x : Decoded). acceptedAs such x d) h ∙ ap (λ (b : Bool). b && such e d) s;
     }
 
+-- Bytes that read as no event, or as one out of sequence, are refused.
+refused-as : (x : Decoded) (r : Raw) (d : Device) → decode r ≡ x → stepDecoded x d .device ≡ d → levelledBy x d ≡ d
+    → ((such : Event → Device → Bool) → acceptedAs such x d ≡ false) → Refuses r d
+unfolding step
+refused-as x r d h n l a =
+    record {
+      after = ap (λ (y : Decoded). stepDecoded y d .device) h ∙ n;
+      middle = ap (λ (y : Decoded). levelledBy y d) h ∙ l;
+      none = λ such. ap (λ (y : Decoded). acceptedAs such y d) h ∙ a such;
+    }
+
+-- One or the other holds of every four bytes.
 met-decoded : (x : Decoded) (r : Raw) (d : Device) → decode r ≡ x → Met r d
-unfolding step stepDecoded stepEvent taken refused
+unfolding stepDecoded stepEvent refused taken
 met-decoded (Reads e) r d h =
-    split (inSequence e d)
-    (λ s. takes e (taken-as e r d h s))
+    split (inSequence e d) (λ s. takes e (taken-as e r d h s))
     (λ s. refuses
-    (record {
-      after = ap (λ (x : Decoded). stepDecoded x d .device) h ∙ ap (λ (b : Bool). (if b then taken e d else refused 4 d) .device) s;
-      middle = ap (λ (x : Decoded). levelledBy x d) h ∙ if-false (mid e d) d s;
-      none = λ such. ap (λ (x : Decoded). acceptedAs such x d) h ∙ ap (λ (b : Bool). b && such e d) s;
-    }))
-met-decoded UnknownKind r d h =
-    refuses
-    (record {
-      after = ap (λ (x : Decoded). stepDecoded x d .device) h;
-      middle = ap (λ (x : Decoded). levelledBy x d) h;
-      none = λ such. ap (λ (x : Decoded). acceptedAs such x d) h;
-    })
-met-decoded BadField r d h =
-    refuses
-    (record {
-      after = ap (λ (x : Decoded). stepDecoded x d .device) h;
-      middle = ap (λ (x : Decoded). levelledBy x d) h;
-      none = λ such. ap (λ (x : Decoded). acceptedAs such x d) h;
-    })
+    (refused-as (Reads e) r d h (ap (λ (b : Bool). (if b then taken e d else refused 4 d) .device) s) (if-false (mid e d) d s)
+    λ such. ap (λ (b : Bool). b && such e d) s))
+met-decoded UnknownKind r d h = refuses (refused-as UnknownKind r d h refl refl λ such. refl)
+met-decoded BadField r d h = refuses (refused-as BadField r d h refl refl λ such. refl)
 
 pub met : (r : Raw) (d : Device) → Met r d
 met r d = met-decoded (decode r) r d refl
 
 -- ---- a tick
 
--- Only TICK is a tick.
+-- Only TICK is a tick,
 event-tick : (e : Event) → isTick e ≡ true → e ≡ Tick
 event-tick (Command k c) h = absurd (false≢true h)
 event-tick (Write k v) h = absurd (false≢true h)
@@ -80,6 +77,7 @@ event-tick (Pulse sda) h = absurd (false≢true h)
 event-tick Reset h = absurd (false≢true h)
 event-tick (GeneralCall k b) h = absurd (false≢true h)
 
+-- is taken as it, and is no reset.
 pub taken-tick : (t : Raw) (d : Device) → tick t d ≡ true → Takes Tick t d
 taken-tick t d h =
     elim (met t d) [

@@ -71,6 +71,7 @@ turn-back m e d h = go (isReset e) (ownerLetsGo (d .arb .turn) e d) (sym (effect
 abbrev pub Owned : Device → Type 0
 Owned d = (m : Master) → d .arb .turn ≡ Owns m → Owner m d
 
+-- Each step leaves it so, and so it is in every run.
 parts-owned : (e : Event) (d : Device) → Owned d → Owned (parts e d)
 unfolding levels
 parts-owned e d i m h =
@@ -96,13 +97,14 @@ run-owned rs = from-owned rs powerUp λ m h. absurd (false≢true (ap owned h))
 
 -- ---- a new grant
 
--- Who did not own before r and does after it has a new grant.
+-- Who did not own before an event and does after it has a new grant.
 parts-fresh : (m : Master) (e : Event) (d : Device) → owns m d ≡ false → (parts e d) .arb .turn ≡ Owns m → Fresh m (parts e d)
 unfolding levels
 parts-fresh m e d o h =
     ⊎-elim (λ (f : Fresh m (parts e d)). f)
     (λ (s : Stays m e d). absurd (true≢false (sym (turn-owns m (d .arb .turn) (turn-back m e d (s .turn) .1)) ∙ o))) (origin m e d h)
 
+-- So of any event, and its owner has no hold and no loss to come.
 pub taken-fresh : (m : Master) (r : Raw) (d : Device) → grantTaken m r d ≡ true → (Fresh m (next d r)) × (Owner m (next d r))
 taken-fresh m r d h =
     let both = and-eq-true-iff (not (owns m d)) (owns m (next d r)) .0 h in
@@ -123,11 +125,12 @@ pub record Keeps (m : Master) (r : Raw) (d : Device) : Type 0 where
   pub unlost : expired m (levelled r d) ≡ false
   pub left : still (next d r) ≡ still (levelled r d)
 
--- m owns and r is no reset: m keeps the grant, or it is over by m's withdrawal or by a loss.
+-- Of an owner and an event that is no reset: m keeps the grant, or it is over, by a loss unless m withdraws.
 pub data Lot (m : Master) (r : Raw) (d : Device) : Type 0 where
   keeps : Keeps m r d → Lot m r d
   over : Over m (next d r) → (withdrawalOf m r d ≡ false → expired m (levelled r d) ≡ true) → Lot m r d
 
+-- It is one of these.
 pub lot : (m : Master) (r : Raw) (d : Device) → Owner m d → reset r d ≡ false → Lot m r d
 lot m r d o ok =
     elim (met r d) [

@@ -25,7 +25,7 @@ expires m d z = if-true _ _ (eq-eqb (reserveOf m d) 0 z)
 
 -- ---- the idle timer
 
--- Parts 3 to 7 leave the timer as it was.
+-- A loss leaves the timers as they were.
 lost-timer : (m k : Master) (d : Device) → idleTimerOn m (lost k d) ≡ idleTimerOn m d
 unfolding lost
 lost-timer Zero Zero d = refl
@@ -39,6 +39,7 @@ losses-timer m Nobody d = refl
 losses-timer m (Claims k) d = refl
 losses-timer m (Owns k) d = either (λ (n : Device). idleTimerOn m n ≡ idleTimerOn m d) (expired k d) (λ h. lost-timer m k d) (λ h. refl)
 
+-- What the timer is when part 3 looks it is after the step.
 timer-left : (m : Master) (r : Raw) (d : Device) → idleTimerOn m (next d r) ≡ idleTimerOn m (levelled r d)
 unfolding parts losses
 timer-left m r d =
@@ -54,6 +55,7 @@ timer-left m r d =
 
 -- ---- with the timer off
 
+-- From any device in which m owns with a reserve of 00h.
 held : (m : Master) (rs : List Raw) (d : Device) → Owner m d → reserveOf m d ≡ 0 → never reset d rs ≡ true → never (withdrawalOf m) d rs ≡ true
     → throughout (λ (x : Device). not (idleTimerOn m x)) d rs ≡ true → owns m (runFrom d rs) ≡ true
 unfolding runFrom

@@ -33,7 +33,7 @@ next-owns p d n r = n .turn ∙ ap (λ (b : Bool). heir b p) r
 pub next-waits : (p : Master) (d : Device) → Next p d → resting p d ≡ false → Waiting p d
 next-waits p d n r = record { turn = n .turn ∙ ap (λ (b : Bool). heir b p) r; request = n .request; hold = n .hold; port = r }
 
--- It waits on over an event that is no reset, no withdrawal and no STOP of its own,
+-- It waits on over an event that is no reset, no withdrawal and no STOP of its own.
 waits-on : (p : Master) (r : Raw) (d : Device) → Waiting p d → reset r d ≡ false → withdrawalOf p r d ≡ false → stopOf p r d ≡ false → Waiting p (next d r)
 waits-on p r d w ok on up =
     elim (met r d) [
@@ -45,12 +45,13 @@ waits-on p r d w ok on up =
           (port-left p e d no (w .turn) ∙ effect-side p e d no .opened (sym (x .same λ f y. isStopOf p f) ∙ up) (w .port))))
     ]
 
--- and its STOP makes it the owner.
+-- Its STOP puts its port to rest,
 stop-rests : (p : Master) (d : Device) → resting p (effect (Stop p) d) ≡ true
 unfolding effect
 stop-rests Zero d = refl
 stop-rests One d = refl
 
+-- and makes it the owner.
 stop-owns : (p : Master) (r : Raw) (d : Device) → Waiting p d → decode r ≡ Reads (Stop p) → owns p (next d r) ≡ true
 unfolding inSequence
 stop-owns p r d w h =
@@ -59,6 +60,7 @@ stop-owns p r d w h =
     (next-owns p (parts (Stop p) d) (waits p (Stop p) d refl (w .turn) (w .request) (w .hold) refl)
     (port-left p (Stop p) d refl (w .turn) ∙ stop-rests p d))
 
+-- So over any events, from any device in which it waits.
 until-stop : (p : Master) (rs : List Raw) (d : Device) → Waiting p d → never reset d rs ≡ true → never (withdrawalOf p) d rs ≡ true
     → never (stopOf p) d rs ≡ true
     → ((runFrom d rs) .arb .turn ≡ Claims p) × ((r : Raw) → decode r ≡ Reads (Stop p) → owns p (next (runFrom d rs) r) ≡ true)
