@@ -256,7 +256,7 @@ drives-counts g c MailHigh v b = refl
 
 -- An event that is no reset leaves the three counts, and a tick takes one from the hold and the reserve and counts the idle bus.
 pub effect-counts : (e : Event) (d : Device) → isReset e ≡ false → counts (effect e d) ≡ (if isTick e then counts (ticked d) else counts d)
-unfolding effect written paired wasRead lined ticked
+unfolding effect written paired wasRead lined
 effect-counts (Command k c) d h = refl
 effect-counts (Write k v) d h = ap (λ b. (b .0, b .1, d .arb .reserve)) (drives-counts (owns k d) ((side k d) .contr .busconnect) ((side k d) .pointer) v (d .bus))
 effect-counts (Read k) d h = refl

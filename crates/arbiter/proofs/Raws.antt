@@ -29,7 +29,7 @@ pub data Met (r : Raw) (d : Device) : Type 0 where
 
 -- An event that reads as e and is in sequence is taken as e.
 pub taken-as : (e : Event) (r : Raw) (d : Device) → decode r ≡ Reads e → inSequence e d ≡ true → Takes e r d
-unfolding step stepDecoded stepEvent taken refused
+unfolding step stepDecoded stepEvent taken
 taken-as e r d h s =
     record {
       after = ap (λ (x : Decoded). stepDecoded x d .device) h ∙ ap (λ (b : Bool). (if b then taken e d else refused 4 d) .device) s;
@@ -50,7 +50,7 @@ refused-as x r d h n l a =
 
 -- One or the other holds of every four bytes.
 met-decoded : (x : Decoded) (r : Raw) (d : Device) → decode r ≡ x → Met r d
-unfolding stepDecoded stepEvent refused taken
+unfolding stepDecoded stepEvent refused
 met-decoded (Reads e) r d h =
     split (inSequence e d) (λ s. takes e (taken-as e r d h s))
     (λ s. refuses
