@@ -170,7 +170,7 @@ uncut tick (Claims m) d h = refl
 uncut tick (Owns m) d h = absurd (true≢false h)
 
 -- the turn after part 5
-abbrev pub claimed : Device → Turn
+abbrev claimed : Device → Turn
 claimed d = claimAfter (d .arb .turn) d
 
 -- so that the device goes by the claim and the grant alone,

@@ -26,7 +26,7 @@ expired m d = runsOut (side m d) (d .arb .reserve) (d .bus)
 -- ---- part 1 once more
 
 -- Without a reset, the turn stays unless the owner lets go,
-pub turn-kept : (e : Event) (d : Device) (t : Turn) → isReset e ≡ false → d .arb .turn ≡ t → (effect e d) .arb .turn ≡ (if ownerLetsGo t e d then Nobody else t)
+turn-kept : (e : Event) (d : Device) (t : Turn) → isReset e ≡ false → d .arb .turn ≡ t → (effect e d) .arb .turn ≡ (if ownerLetsGo t e d then Nobody else t)
 turn-kept e d t ok h = effect-turn e d ∙ ap₂ (λ (r : Bool) (u : Turn). if r || ownerLetsGo u e d then Nobody else u) ok h
 
 -- and no hold begins.
