@@ -1,7 +1,7 @@
 -- Proofs by a test and by the master: a choice has what both of its branches have, and an event of one of the two masters is m's or not.
 -- Assumes nothing.
-use mathlib.Core.Path.{_≡_, refl, ap, _∙_}
-use mathlib.Core.Bool.{Bool, true, false, not, _&&_, false≢true}
+use mathlib.Core.Path.{_≡_, refl, sym, ap, _∙_}
+use mathlib.Core.Bool.{Bool, true, false, not, Bool·not-not, false≢true}
 use Rattle.arbiter.specs.Types.{Master, Zero, One, Turn, Nobody, Claims, Owns, Side, Device}
 use Rattle.arbiter.specs.Words.{if_then_else_, partner, sameMaster, of, side}
 use Rattle.arbiter.specs.State.{ownsTurn}
@@ -25,16 +25,13 @@ if-true x y h = ap (λ (b : Bool). if b then x else y) h
 pub if-false : {A : Type 0} {b : Bool} (x y : A) → b ≡ false → (if b then x else y) ≡ y
 if-false x y h = ap (λ (b : Bool). if b then x else y) h
 
-pub and-off : (b : Bool) → b && false ≡ false
-and-off true = refl
-and-off false = refl
-
+-- What is not true is false.
 pub not-true : (b : Bool) → not b ≡ true → b ≡ false
-not-true true h = absurd (false≢true h)
-not-true false h = refl
+not-true b h = sym (Bool·not-not b) ∙ ap not h
 
 -- ---- masters
 
+-- Each master is itself, not its partner, and nobody else.
 pub same-self : (m : Master) → sameMaster m m ≡ true
 same-self Zero = refl
 same-self One = refl

@@ -6,5 +6,16 @@ pub mod Connected
 pub mod Seen
 pub mod Settled
 pub mod Ended
+pub mod Runs
+pub mod Effects
+pub mod Order
+pub mod Owner
+pub mod Raws
+pub mod Tenure
+pub mod Reserve
+pub mod Waiting
+pub mod InTime
+pub mod Timer
+pub mod IdleCount
 pub mod Marks
 pub mod Witnesses
