@@ -3,13 +3,12 @@
 use mathlib.Core.Path.{_≡_, refl, sym, ap, _∙_, subst}
 use mathlib.Core.Bool.{true≢false, false≢true, and-eq-true-iff}
 use borrow.Author.Tests.{eqb-true}
-use Rattle.arbiter.specs.Types.{ℕ, Bool, true, false, _&&_, eqb, ltb, Master, Zero, One, Turn, Nobody, Claims, Owns, Port, Side, Bus, Switch, Apart, Initialising, Closed, Device, Clock, NoClock, ClockLow, ClockHigh, Event}
-use Rattle.arbiter.specs.Words.{if_then_else_, sameMaster, side}
+use Rattle.arbiter.specs.Types.{ℕ, Bool, true, false, _&&_, eqb, Master, Zero, One, Turn, Nobody, Claims, Owns, Port, Side, Bus, Device, Clock, Event}
+use Rattle.arbiter.specs.Words.{if_then_else_, side}
 use Rattle.arbiter.specs.Parts.{withTurn, withSide, withArb}
 use Rattle.arbiter.specs.State.{atRest}
-use Rattle.arbiter.specs.Registers.{disconnected}
-use Rattle.arbiter.specs.Order.{isTick, clockOf, lossesFrom, losses, cutTicks, cutFrom, cut, claimBy, claimAfter, claim, granted, grantFrom, grant, joined, clocked, keptJoined, connectFrom, connect}
-use Rattle.arbiter.proofs.Choice.{either}
+use Rattle.arbiter.specs.Order.{isTick, clockOf, lossesFrom, losses, cutFrom, cut, claimAfter, claim, granted, grantFrom, grant, connect}
+use Rattle.arbiter.proofs.Cases.{cut-cases, new-cases, claim-cases, grant-cases, connect-cases}
 use Rattle.arbiter.proofs.Effects.{kept}
 
 -- ---- what is left as it was
@@ -42,35 +41,12 @@ cut-still : (tick : Bool) (t : Turn) (d : Device) → still (cutFrom tick t d) �
 unfolding cutFrom
 cut-still tick Nobody d = refl
 cut-still tick (Claims m) d = refl
-cut-still tick (Owns m) d =
-    either (λ (n : Device). still n ≡ still d) (tick && eqb (d .bus .lowscl) cutTicks && (side m d) .contr .smbusdis)
-    (λ h. alike m (disconnected (side m d)) d refl) (λ h. refl)
+cut-still tick (Owns m) d = cut-cases (λ (n : Device). still n ≡ still d) tick m d (alike m _ d refl) refl
 
 -- ---- part 7 changes the switch, BUS_INIT, BUS_CONNECT and BUS_INIT_FAIL at most
 
-joined-still : (m : Master) (d : Device) → still (joined m d) ≡ still d
-unfolding joined
-joined-still m d = either (λ (n : Device). still n ≡ still d) ((side m d) .contr .businit) (λ h. refl) (λ h. refl)
-
-clocked-still : (c : Clock) (m : Master) (n : ℕ) (d : Device) → still (clocked c m n d) ≡ still d
-unfolding clocked
-clocked-still NoClock m n d = refl
-clocked-still ClockHigh m n d = alike m _ d refl
-clocked-still ClockLow m n d = either (λ (x : Device). still x ≡ still d) (ltb n 8) (λ h. refl) (λ h. alike m _ d refl)
-
-joining-still : (c : Clock) (m : Master) (w : Switch) (d : Device) → still (keptJoined c m w d) ≡ still d
-unfolding keptJoined
-joining-still c m Apart d = joined-still m d
-joining-still c m (Initialising k n) d =
-    either (λ (x : Device). still x ≡ still d) (sameMaster m k) (λ h. clocked-still c m n d) (λ h. joined-still m d)
-joining-still c m (Closed k) d = either (λ (x : Device). still x ≡ still d) (sameMaster m k) (λ h. refl) (λ h. joined-still m d)
-
-connect-still : (c : Clock) (t : Turn) (d : Device) → still (connectFrom c t d) ≡ still d
-unfolding connectFrom
-connect-still c Nobody d = refl
-connect-still c (Claims m) d = refl
-connect-still c (Owns m) d =
-    either (λ (x : Device). still x ≡ still d) ((side m d) .contr .busconnect) (λ h. joining-still c m (d .arb .switch) d) (λ h. refl)
+connect-still : (c : Clock) (d : Device) → still (connect c d) ≡ still d
+connect-still c d = connect-cases (λ (n : Device). still n ≡ still d) d (λ w fail. refl) (λ m on w fail h. alike m _ d refl) c
 
 -- ---- part 6
 
@@ -93,8 +69,7 @@ granted-sides One d = refl
 grant-sides : (t : Turn) (d : Device) → sides (grantFrom t d) ≡ sides d
 unfolding grantFrom
 grant-sides Nobody d = refl
-grant-sides (Claims m) d =
-    either (λ (n : Device). sides n ≡ sides d) (atRest ((side m d) .port) && eqb (d .bus .hold) 0) (λ h. granted-sides m d) (λ h. refl)
+grant-sides (Claims m) d = grant-cases (λ (n : Device). sides n ≡ sides d) m d (granted-sides m d) refl
 grant-sides (Owns m) d = refl
 
 -- Of the turn t it makes this.
@@ -116,12 +91,12 @@ after e d = connect (clockOf e) (grant (claim (cut (isTick e) d)))
 
 -- They leave both sides and the hold,
 pub after-sides : (e : Event) (d : Device) → sides (after e d) ≡ sides d
-unfolding connect grant claim cut
+unfolding grant claim cut
 after-sides e d =
     let c : Device = cut (isTick e) d in
     let f : Device = claim c in
     let g : Device = grant f in
-    still-sides (connect (clockOf e) g) g (connect-still (clockOf e) (g .arb .turn) g)
+    still-sides (connect (clockOf e) g) g (connect-still (clockOf e) g)
     ∙ grant-sides (f .arb .turn) f
     ∙ still-sides c d (cut-still (isTick e) (d .arb .turn) d)
 
@@ -135,13 +110,13 @@ unfolding grant grantFrom
 grant-owned m d h = ap (λ (t : Turn). grantFrom t d) h
 
 pub after-owned : (e : Event) (m : Master) (d : Device) → d .arb .turn ≡ Owns m → still (after e d) ≡ still d
-unfolding connect cut
+unfolding cut
 after-owned e m d h =
     let c : Device = cut (isTick e) d in
     let s : still c ≡ still d = cut-still (isTick e) (d .arb .turn) d in
     let o : c .arb .turn ≡ Owns m = ap (λ x. x .4) s ∙ h in
     ap (λ (x : Device). still (connect (clockOf e) x)) (ap grant (claim-owned m c o) ∙ grant-owned m c o)
-    ∙ connect-still (clockOf e) (c .arb .turn) c
+    ∙ connect-still (clockOf e) c
     ∙ s
 
 -- ---- parts 3 to 7 of a bus that nobody owns
@@ -175,10 +150,10 @@ claimed d = claimAfter (d .arb .turn) d
 
 -- so that the device goes by the claim and the grant alone,
 after-unowned : (e : Event) (d : Device) → owned (d .arb .turn) ≡ false → still (after e d) ≡ still (grantFrom (claimed d) (turned (claimed d) d))
-unfolding connect grant claim cut
+unfolding grant claim cut
 after-unowned e d h =
     let g : Device = grant (claim d) in
-    ap (λ (x : Device). still (connect (clockOf e) (grant (claim x)))) (uncut (isTick e) (d .arb .turn) d h) ∙ connect-still (clockOf e) (g .arb .turn) g
+    ap (λ (x : Device). still (connect (clockOf e) (grant (claim x)))) (uncut (isTick e) (d .arb .turn) d h) ∙ connect-still (clockOf e) g
 
 -- and so does the turn.
 pub after-turn : (e : Event) (d : Device) → owned (d .arb .turn) ≡ false → (after e d) .arb .turn ≡ awarded (claimed d) d
@@ -228,16 +203,9 @@ grant-fresh m (Claims k) d u h = go (atRest ((side k d) .port) && eqb (d .bus .h
 grant-fresh m (Owns k) d u h = absurd (true≢false u)
 
 -- A claim is no grant, and part 5 makes no owner.
-claim-by-unowned : (a b : Bool) (w : Master) → owned (claimBy a b w) ≡ false
-claim-by-unowned true true w = refl
-claim-by-unowned true false w = refl
-claim-by-unowned false true w = refl
-claim-by-unowned false false w = refl
-
 claimed-unowned : (t : Turn) (d : Device) → owned t ≡ false → owned (claimAfter t d) ≡ false
-claimed-unowned Nobody d h = claim-by-unowned (d .side0 .contr .lockreq) (d .side1 .contr .lockreq) _
-claimed-unowned (Claims m) d h =
-    either (λ (t : Turn). owned t ≡ false) ((side m d) .contr .lockreq) (λ q. refl) (λ q. claim-by-unowned (d .side0 .contr .lockreq) (d .side1 .contr .lockreq) _)
+claimed-unowned Nobody d h = new-cases (λ (t : Turn). owned t ≡ false) d refl (λ k. refl)
+claimed-unowned (Claims m) d h = claim-cases (λ (t : Turn). owned t ≡ false) m d refl (λ k. refl)
 claimed-unowned (Owns m) d h = absurd (true≢false h)
 
 -- So who owns after part 7 on a bus that nobody owned before part 4 has a new grant.

@@ -5,14 +5,16 @@ use mathlib.Core.Path.{_≡_, refl, sym, ap, _∙_, subst}
 use mathlib.Core.Bool.{true≢false, false≢true, and-eq-true-iff, and-false}
 use mathlib.Core.Logic.{⊎-elim}
 use native.Mathlib.Nat.{sub-zero}
-use Rattle.arbiter.specs.Types.{ℕ, _-_, Bool, true, false, not, _&&_, _||_, List, [], _∷_, eqb, Master, Nobody, Owns, Bus, Device, Raw, Event}
+use Rattle.arbiter.specs.Types.{ℕ, _-_, Bool, true, false, not, _&&_, _||_, List, eqb, Master, Nobody, Owns, Control, Side, Device, Raw, Event}
 use Rattle.arbiter.specs.Words.{if_then_else_, worth, side}
+use Rattle.arbiter.specs.Parts.{withContr, withRt}
 use Rattle.arbiter.specs.State.{owns, isIdle}
 use Rattle.arbiter.specs.Effects.{idleLimit, ticked, effect, powerUp}
-use Rattle.arbiter.specs.Order.{isReset, isTick, levels}
-use Rattle.arbiter.specs.Steps.{parts, runFrom, run}
+use Rattle.arbiter.specs.Order.{isReset, isTick, levels, runsOut}
+use Rattle.arbiter.specs.Steps.{parts, run}
 use Rattle.arbiter.specs.AuditWords.{next, reserveOf, letsGo, reset, tick, withdrawalOf, grantTaken, levelled}
 use Rattle.arbiter.proofs.Choice.{split, if-true, if-false, not-true, owns-turn, turn-owns}
+use Rattle.arbiter.proofs.Cases.{step-keeps, run-keeps}
 use Rattle.arbiter.proofs.Effects.{effect-side, ownerLetsGo, effect-turn, counts, effect-counts}
 use Rattle.arbiter.proofs.Order.{still, still-sides, side-kept, owned, Fresh}
 use Rattle.arbiter.proofs.Owner.{mid, expired, unheld, Over, Stays, stays, ends, fate, origin}
@@ -29,11 +31,14 @@ pub record Owner (m : Master) (d : Device) : Type 0 where
 -- What part 3 asks is read off what `still` names.
 expired-still : (m : Master) (n d : Device) → still n ≡ still d → expired m n ≡ expired m d
 expired-still m n d e =
-    ap (λ k. asks (k .1) (k .2) (n .arb .reserve) (n .bus)) (side-kept m n d (still-sides n d e))
-    ∙ ap (λ s. asks ((side m d) .contr .idletimer) ((side m d) .rt) (s .3) (s .2)) e
+    ap (λ k. runsOut (asked (k .1) (k .2)) (n .arb .reserve) (n .bus)) (side-kept m n d (still-sides n d e)) ∙ ap (λ s. runsOut (side m d) (s .3) (s .2)) e
   where
-    asks : Bool → ℕ → ℕ → Bus → Bool
-    asks timer rt reserve b = if eqb rt 0 then timer && eqb (b .idle) idleLimit else eqb reserve 0 && isIdle b
+    -- m's side with such an idle timer and such an RT
+    asked : Bool → ℕ → Side
+    asked timer rt =
+        let c : Control = (side m d) .contr in
+        withRt rt
+        (withContr (record { priority = c .priority; smbusdis = c .smbusdis; idletimer = timer; swrst = c .swrst; businit = c .businit; busconnect = c .busconnect; lockreq = c .lockreq }) (side m d))
 
 -- A new grant has not run out.
 fresh-owner : (m : Master) (d : Device) → d .arb .turn ≡ Owns m → Fresh m d → Owner m d
@@ -80,20 +85,11 @@ parts-owned e d i m h =
     (origin m e d h)
 
 pub next-owned : (r : Raw) (d : Device) → Owned d → Owned (next d r)
-next-owned r d i =
-    elim (met r d) [
-      | refuses f ↦ subst Owned (sym (f .after)) i
-      | takes e t ↦ subst Owned (sym (t .after)) (parts-owned e d i)
-    ]
-
-from-owned : (rs : List Raw) (d : Device) → Owned d → Owned (runFrom d rs)
-unfolding runFrom
-from-owned [] d i = i
-from-owned (r ∷ rs) d i = from-owned rs (next d r) (next-owned r d i)
+next-owned r d i = step-keeps Owned parts-owned d r i
 
 pub run-owned : (rs : List Raw) → Owned (run rs)
 unfolding run powerUp
-run-owned rs = from-owned rs powerUp λ m h. absurd (false≢true (ap owned h))
+run-owned rs = run-keeps Owned parts-owned powerUp rs λ m h. absurd (false≢true (ap owned h))
 
 -- ---- a new grant
 
