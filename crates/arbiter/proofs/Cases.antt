@@ -60,10 +60,12 @@ initEnded m on d = withSide m (withContr (withBusInit false (withBusConnect on (
 
 module _ (P : Device → Type 0) (d : Device) (plain : (w : Switch) (fail : Bool) → P (joinedBy w fail d))
     (ended : (m : Master) (on : Bool) (w : Switch) (fail : Bool) → ((side m d) .contr .busconnect ≡ false → on ≡ false) → P (joinedBy w fail (initEnded m on d))) where
+  -- grant and BUS_CONNECT have become both true of m
   joined-cases : (m : Master) → P (joined m d)
   unfolding joined
   joined-cases m = either P ((side m d) .contr .businit) (λ h. plain _ _) (λ h. plain _ _)
 
+  -- an initialisation meets a PULSE, or none
   clocked-cases : (c : Clock) (m : Master) (n : ℕ) → P (clocked c m n d)
   unfolding clocked
   clocked-cases NoClock m n = plain _ _
@@ -71,12 +73,14 @@ module _ (P : Device → Type 0) (d : Device) (plain : (w : Switch) (fail : Bool
   clocked-cases ClockLow m n =
       either P (ltb n 8) (λ h. plain _ _) (λ h. ended m false Apart true (λ x. refl))
 
+  -- grant and BUS_CONNECT are both true of m
   kept-cases : (c : Clock) (m : Master) (w : Switch) → P (keptJoined c m w d)
   unfolding keptJoined
   kept-cases c m Apart = joined-cases m
   kept-cases c m (Initialising k n) = either P (sameMaster m k) (λ h. clocked-cases c m n) (λ h. joined-cases m)
   kept-cases c m (Closed k) = either P (sameMaster m k) (λ h. plain _ _) (λ h. joined-cases m)
 
+  -- and by whose turn it is
   from-cases : (c : Clock) (t : Turn) → P (connectFrom c t d)
   unfolding connectFrom
   from-cases c Nobody = plain _ _
@@ -93,10 +97,12 @@ module _ (P : Device → Type 0) (d : Device) (plain : (w : Switch) (fail : Bool
 -- what holds of every event taken in sequence and of every refusal holds of the step
 module _ (Q : Stepped → Type 0) (d : Device) (r : Raw)
     (takes : (e : Event) → decode r ≡ Reads e → inSequence e d ≡ true → Q (taken e d)) (refuses : (n : ℕ) → Q (refused n d)) where
+  -- an event, in sequence or not
   event-cases : (e : Event) → decode r ≡ Reads e → Q (stepEvent e d)
   unfolding stepEvent
   event-cases e h = either Q (inSequence e d) (λ s. takes e h s) (λ s. refuses (outcomeNumber OutOfSequence))
 
+  -- four bytes that read as one, or do not
   decoded-cases : (x : Decoded) → decode r ≡ x → Q (stepDecoded x d)
   unfolding stepDecoded
   decoded-cases (Reads e) h = event-cases e h

@@ -5,7 +5,7 @@ use mathlib.Core.Bool.{Bool, true, false, not, _&&_, true≢false, false≢true,
 use borrow.Author.Tests.{not-true}
 use Rattle.arbiter.specs.Types.{ℕ, Master, Zero, One, Turn, Nobody, Claims, Owns, Register, Id, Contr, Status, Rt, IntStatus, IntMask, MailLow, MailHigh, Control, Side, Clock, Device, Raw, Event, Command, Write, Read, Stop, Pair, Lines, Tick, Pulse, Reset, GeneralCall, Stepped}
 use Rattle.arbiter.specs.Words.{partner, sameMaster, side, device}
-use Rattle.arbiter.specs.Parts.{withBusConnect, withBusInit, withContr, withSide}
+use Rattle.arbiter.specs.Parts.{withContr, withSide}
 use Rattle.arbiter.specs.State.{ownsTurn, owns}
 use Rattle.arbiter.specs.Registers.{disconnected, withdraws, controlOf, ownWritten, mailWritten, turnWritten}
 use Rattle.arbiter.specs.Events.{softReset}
@@ -176,7 +176,7 @@ cut-off : (m : Master) (on : Bool) (t : Turn) (d : Device) → Off m d → Off m
 unfolding cutFrom
 cut-off m on Nobody d f = f
 cut-off m on (Claims k) d f = f
-cut-off m on (Owns k) d f = cut-cases (Off m) on k d (λ h. put-off m k (disconnected (side k d)) d (λ x. refl) (f h)) f
+cut-off m on (Owns k) d f = cut-cases (Off m) on k d (λ h. put-off m k _ d (λ x. refl) (f h)) f
 
 -- a claim makes no owner and unmakes none
 claim-owner : (m : Master) (t : Turn) (d : Device) → ownsTurn m (claimAfter t d) ≡ ownsTurn m t
@@ -208,7 +208,7 @@ grant-off m (Owns k) d e f = f
 connect-off : (m : Master) (c : Clock) (d : Device) → Off m d → Off m (connect c d)
 connect-off m c d f =
     connect-cases (Off m) d (λ w fail. f)
-    (λ k on w fail g h. put-off m k (withContr (withBusInit false (withBusConnect on ((side k d) .contr))) (side k d)) d g (f h)) c
+    (λ k on w fail g h. put-off m k _ d g (f h)) c
 
 -- ---- a step
 

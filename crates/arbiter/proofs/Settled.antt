@@ -6,7 +6,7 @@ use Rattle.arbiter.specs.Types.{ℕ, List, eqb, Master, Zero, One, Turn,
 use Rattle.arbiter.specs.Words.{if_then_else_, sameMaster, side}
 use Rattle.arbiter.specs.Parts.{withBusConnect, withBusInit, withContr, withDrives, withIdle, withTurn, withSwitch, withInitFail, withSide, withBus, withArb}
 use Rattle.arbiter.specs.State.{ownsTurn, owns, atRest, sclHigh, sdaHigh, isIdle}
-use Rattle.arbiter.specs.Registers.{disconnected, released}
+use Rattle.arbiter.specs.Registers.{released}
 use Rattle.arbiter.specs.Events.{decode, inSequence}
 use Rattle.arbiter.specs.Effects.{idleLimit, freshSide, powerUp, effect}
 use Rattle.arbiter.specs.Order.{isReset, isTick, clockOf, busyAfter, settledBus, levels, runsOut, lost, lossesFrom, losses, cutFrom, cut, claimBy, winner, newClaim, claimAfter, claim, granted, grantFrom, grant, switched, joined, clocked, keptJoined, connectFrom, connect}
@@ -114,13 +114,13 @@ cut-bare : (on : Bool) (t : Turn) (d : Device) → bare (cutFrom on t d) ≡ bar
 unfolding cutFrom
 cut-bare on Nobody d = refl
 cut-bare on (Claims m) d = refl
-cut-bare on (Owns m) d = cut-cases (λ (x : Device). bare x ≡ bare d) on m d (side-bare m (disconnected (side m d)) d refl) refl
+cut-bare on (Owns m) d = cut-cases (λ (x : Device). bare x ≡ bare d) on m d (side-bare m _ d refl) refl
 
 -- part 7 touches nothing but those
 connect-bare : (c : Clock) (d : Device) → bare (connect c d) ≡ bare d
 connect-bare c d =
     connect-cases (λ (x : Device). bare x ≡ bare d) d (λ w fail. refl)
-    (λ m on w fail h. side-bare m (withContr (withBusInit false (withBusConnect on ((side m d) .contr))) (side m d)) d refl) c
+    (λ m on w fail h. side-bare m _ d refl) c
 
 -- ---- part 2 leaves a still bus
 
