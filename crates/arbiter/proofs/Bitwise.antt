@@ -8,7 +8,7 @@ use Rattle.arbiter.specs.Registers.{isAsserted, cleared}
 use Rattle.arbiter.specs.Bitwise.{someShows, AssertedBitByBit, ClearedBitByBit}
 use Rattle.arbiter.proofs.Every.{every, every-at}
 
-same : (a b : Bool) → Bool·beq a b ≡ true → a ≡ b
+pub same : (a b : Bool) → Bool·beq a b ≡ true → a ≡ b
 same true true e = refl
 same true false e = absurd (false≢true e)
 same false true e = absurd (false≢true e)

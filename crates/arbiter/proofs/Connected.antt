@@ -1,153 +1,179 @@
--- Whoever the switch serves, closed or initialising, owns the bus: part 7 leaves it so, whatever the device was before.
+-- The switch serves, closed or initialising, exactly the owner whose BUS_CONNECT is 1: part 7 leaves it so, whatever the device was before.
 -- Assumes nothing.
 use mathlib.Core.Path.{_≡_, refl, sym, ap, _∙_}
-use mathlib.Core.Bool.{Bool, true, false, false≢true}
-use mathlib.Core.List.{List, [], _∷_}
-use Rattle.arbiter.specs.Types.{ℕ, _+_, ltb, Master, Zero, One, Turn, Nobody, Claims, Owns, Switch, Apart, Initialising, Closed, Clock, NoClock, ClockLow, ClockHigh, Device, Raw, Event, Decoded, Reads, UnknownKind, BadField}
-use Rattle.arbiter.specs.Words.{if_then_else_, sameMaster, partner, side}
-use Rattle.arbiter.specs.Parts.{withSwitch, withInitFail, withArb}
+use mathlib.Core.Bool.{Bool, true, false, _&&_, false≢true, and-eq-true-iff}
+use mathlib.Core.List.{List}
+use Rattle.arbiter.specs.Types.{ℕ, _+_, ltb, Master, Zero, One, Turn, Nobody, Claims, Owns, Switch, Apart, Initialising, Closed, Clock, NoClock, ClockLow, ClockHigh, Device, Raw, Event}
+use Rattle.arbiter.specs.Words.{sameMaster, partner, side}
 use Rattle.arbiter.specs.State.{ownsTurn, owns, closedFor}
-use Rattle.arbiter.specs.Events.{decode, inSequence}
 use Rattle.arbiter.specs.Effects.{effect, powerUp}
-use Rattle.arbiter.specs.Order.{switched, joined, initFailed, clocked, keptJoined, connectFrom, connect, levels, losses, cut, claim, grant, isReset, isTick, clockOf}
-use Rattle.arbiter.specs.Steps.{parts, taken, refused, stepEvent, stepDecoded, step, runFrom, run}
+use Rattle.arbiter.specs.Order.{switched, joined, initialised, initFailed, clocked, keptJoined, connectFrom, connect, levels, losses, cut, claim, grant, isReset, isTick, clockOf}
+use Rattle.arbiter.specs.Steps.{parts, step, run}
 use Rattle.arbiter.specs.Audit.{OneConnected, ApartUnowned}
+use Rattle.arbiter.proofs.Choice.{either, same-self}
+use Rattle.arbiter.proofs.Cases.{step-keeps, run-keeps}
 
 -- ---- whom the switch serves
 
-abbrev serves : Master → Switch → Bool
+abbrev pub serves : Master → Switch → Bool
 serves m Apart = false
 serves m (Initialising k n) = sameMaster m k
 serves m (Closed k) = sameMaster m k
 
--- each master that the switch serves owns the bus
-abbrev Served : Device → Type 0
-Served d = (m : Master) → serves m (d .arb .switch) ≡ true → owns m d ≡ true
+-- m asks for the connection: its BUS_CONNECT is 1
+abbrev pub asksOn : Master → Device → Bool
+asksOn m d = (side m d) .contr .busconnect
 
--- a device whose owner is m and whose switch is open or m's
+-- the switch serves exactly the owner that asks for it
+abbrev pub Served : Device → Type 0
+Served d = (m : Master) → serves m (d .arb .switch) ≡ owns m d && asksOn m d
+
+-- the switch serves nobody but m
 abbrev onlyFor : Master → Switch → Bool
 onlyFor m Apart = true
 onlyFor m (Initialising k n) = sameMaster m k
 onlyFor m (Closed k) = sameMaster m k
 
-three : (j m k : Master) → sameMaster m k ≡ true → sameMaster j k ≡ true → sameMaster j m ≡ true
-three Zero Zero k e f = refl
-three One One k e f = refl
-three Zero One Zero e f = e
-three Zero One One e f = f
-three One Zero Zero e f = f
-three One Zero One e f = e
+-- who is the same as m is not the same as m's partner
+apart-from : (m k : Master) → sameMaster m k ≡ true → sameMaster (partner m) k ≡ false
+apart-from Zero Zero h = refl
+apart-from Zero One h = absurd (false≢true h)
+apart-from One Zero h = absurd (false≢true h)
+apart-from One One h = refl
 
-served : (m : Master) (t : Turn) (w : Switch) → t ≡ Owns m → onlyFor m w ≡ true → (j : Master) → serves j w ≡ true → ownsTurn j t ≡ true
-served m t Apart e h j s = absurd (false≢true s)
-served m t (Initialising k n) e h j s = ap (ownsTurn j) e ∙ three j m k h s
-served m t (Closed k) e h j s = ap (ownsTurn j) e ∙ three j m k h s
+-- where m owns, its partner does not
+pub partner-not : (m : Master) (t : Turn) → ownsTurn m t ≡ true → ownsTurn (partner m) t ≡ false
+partner-not m Nobody h = refl
+partner-not m (Claims k) h = refl
+partner-not m (Owns k) h = apart-from m k h
 
-self : (m : Master) → sameMaster m m ≡ true
-self Zero = refl
-self One = refl
+-- a switch that serves nobody but m does not serve the partner
+not-partner : (m : Master) (w : Switch) → onlyFor m w ≡ true → serves (partner m) w ≡ false
+not-partner m Apart h = refl
+not-partner m (Initialising k n) h = apart-from m k h
+not-partner m (Closed k) h = apart-from m k h
+
+-- a switch that serves nobody but m, and m exactly if m asks, serves exactly those who are m and ask
+serves-by : (j m : Master) (w : Switch) (on : Master → Bool) → onlyFor m w ≡ true → serves m w ≡ on m → serves j w ≡ sameMaster j m && on j
+serves-by Zero Zero w on h s = s
+serves-by Zero One w on h s = not-partner One w h
+serves-by One Zero w on h s = not-partner Zero w h
+serves-by One One w on h s = s
+
+-- the same, where m is the owner by the turn
+served : (m : Master) (t : Turn) (w : Switch) (on : Master → Bool) → t ≡ Owns m → onlyFor m w ≡ true → serves m w ≡ on m
+    → (j : Master) → serves j w ≡ ownsTurn j t && on j
+served m t w on e h s j = serves-by j m w on h s ∙ sym (ap (λ (t : Turn). ownsTurn j t && on j) e)
 
 -- ---- part 7
 
-apart-served : (d : Device) → Served (switched Apart d)
-apart-served d m s = absurd (false≢true s)
+-- the end of an initialisation leaves m's BUS_CONNECT if it closes the switch, and clears it if it fails
+initialised-asks : (m : Master) (d : Device) → asksOn m (initialised m d) ≡ asksOn m d
+initialised-asks Zero d = refl
+initialised-asks One d = refl
+
+failed-asks : (m : Master) (d : Device) → asksOn m (initFailed m d) ≡ false
+failed-asks Zero d = refl
+failed-asks One d = refl
 
 module _ (m : Master) (d : Device) (e : d .arb .turn ≡ Owns m) where
-  joined-served : Served (joined m d)
-  unfolding joined
-  joined-served = go ((side m d) .contr .businit)
-    where
-      go : (init : Bool) → Served (if init then withArb (withInitFail false (withSwitch (Initialising m 0) (d .arb))) d else switched (Closed m) d)
-      go true = served m (d .arb .turn) (Initialising m 0) e (self m)
-      go false = served m (d .arb .turn) (Closed m) e (self m)
+  -- an open switch is right for an owner that does not ask
+  apart-served : asksOn m d ≡ false → Served (switched Apart d)
+  apart-served a = served m (d .arb .turn) Apart (λ j. asksOn j d) e refl (sym a)
 
-  clocked-served : (c : Clock) (n : ℕ) → onlyFor m (d .arb .switch) ≡ true → Served (clocked c m n d)
-  unfolding clocked
-  clocked-served NoClock n h = served m (d .arb .turn) (d .arb .switch) e h
-  clocked-served ClockHigh n h = served m (d .arb .turn) (Closed m) e (self m)
-  clocked-served ClockLow n h = go (ltb n 8)
-    where
-      go : (more : Bool) → Served (if more then switched (Initialising m (n + 1)) d else initFailed m d)
-      go true = served m (d .arb .turn) (Initialising m (n + 1)) e (self m)
-      go false = served m (d .arb .turn) Apart e refl
+  module _ (a : asksOn m d ≡ true) where
+    -- one that is closed for it, or initialises for it, is right for an owner that asks
+    joined-served : Served (joined m d)
+    unfolding joined
+    joined-served =
+        either Served ((side m d) .contr .businit)
+        (λ h. served m (d .arb .turn) (Initialising m 0) (λ j. asksOn j d) e (same-self m) (same-self m ∙ sym a))
+        (λ h. served m (d .arb .turn) (Closed m) (λ j. asksOn j d) e (same-self m) (same-self m ∙ sym a))
 
-  kept-served : (c : Clock) (w : Switch) → d .arb .switch ≡ w → Served (keptJoined c m w d)
-  unfolding keptJoined
-  kept-served c Apart s = joined-served
-  kept-served c (Initialising k n) s = go (sameMaster m k) refl
-    where
-      go : (b : Bool) → sameMaster m k ≡ b → Served (if b then clocked c m n d else joined m d)
-      go true h = clocked-served c n (ap (onlyFor m) s ∙ h)
-      go false h = joined-served
-  kept-served c (Closed k) s = go (sameMaster m k) refl
-    where
-      go : (b : Bool) → sameMaster m k ≡ b → Served (if b then d else joined m d)
-      go true h = served m (d .arb .turn) (d .arb .switch) e (ap (onlyFor m) s ∙ h)
-      go false h = joined-served
+    -- and so is one that serves it already
+    kept : onlyFor m (d .arb .switch) ≡ true → serves m (d .arb .switch) ≡ true → Served d
+    kept h s = served m (d .arb .turn) (d .arb .switch) (λ j. asksOn j d) e h (s ∙ sym a)
 
+    -- PULSEs keep it so: a failure opens the switch and clears BUS_CONNECT
+    clocked-served : (c : Clock) (n : ℕ) → onlyFor m (d .arb .switch) ≡ true → serves m (d .arb .switch) ≡ true → Served (clocked c m n d)
+    unfolding clocked
+    clocked-served NoClock n h s = kept h s
+    clocked-served ClockHigh n h s =
+        served m (d .arb .turn) (Closed m) (λ j. asksOn j (initialised m d)) e (same-self m) (same-self m ∙ sym (initialised-asks m d ∙ a))
+    clocked-served ClockLow n h s =
+        either Served (ltb n 8)
+        (λ x. served m (d .arb .turn) (Initialising m (n + 1)) (λ j. asksOn j d) e (same-self m) (same-self m ∙ sym a))
+        (λ x. served m (d .arb .turn) Apart (λ j. asksOn j (initFailed m d)) e refl (sym (failed-asks m d)))
+
+    -- whomever the switch served before, it serves the owner that asks
+    kept-served : (c : Clock) (w : Switch) → d .arb .switch ≡ w → Served (keptJoined c m w d)
+    unfolding keptJoined
+    kept-served c Apart s = joined-served
+    kept-served c (Initialising k n) s =
+        either Served (sameMaster m k) (λ h. clocked-served c n (ap (onlyFor m) s ∙ h) (ap (serves m) s ∙ h)) (λ h. joined-served)
+    kept-served c (Closed k) s = either Served (sameMaster m k) (λ h. kept (ap (onlyFor m) s ∙ h) (ap (serves m) s ∙ h)) (λ h. joined-served)
+
+-- where nobody owns, an open switch is right
+unowned-served : (t : Turn) (d : Device) → d .arb .turn ≡ t → ((j : Master) → ownsTurn j t ≡ false) → Served (switched Apart d)
+unowned-served t d e none j = sym (ap (λ (t : Turn). ownsTurn j t && asksOn j d) e ∙ ap (λ (o : Bool). o && asksOn j d) (none j))
+
+-- by whose turn it is
 connect-from-served : (c : Clock) (t : Turn) (d : Device) → d .arb .turn ≡ t → Served (connectFrom c t d)
 unfolding connectFrom
-connect-from-served c Nobody d e = apart-served d
-connect-from-served c (Claims m) d e = apart-served d
-connect-from-served c (Owns m) d e = go ((side m d) .contr .busconnect)
-  where
-    go : (on : Bool) → Served (if on then keptJoined c m (d .arb .switch) d else switched Apart d)
-    go true = kept-served m d e c (d .arb .switch) refl
-    go false = apart-served d
+connect-from-served c Nobody d e = unowned-served Nobody d e (λ j. refl)
+connect-from-served c (Claims m) d e = unowned-served (Claims m) d e (λ j. refl)
+connect-from-served c (Owns m) d e =
+    either Served (asksOn m d) (λ a. kept-served m d e a c (d .arb .switch) refl) (λ a. apart-served m d e a)
 
+-- so part 7 leaves it so
 connect-served : (c : Clock) (d : Device) → Served (connect c d)
 unfolding connect
 connect-served c d = connect-from-served c (d .arb .turn) d refl
 
 -- ---- a step and a run
 
-step-event-served : (e : Event) (d : Device) → Served d → Served (stepEvent e d .device)
-unfolding stepEvent taken refused parts
-step-event-served e d h = go (inSequence e d)
-  where
-    go : (seq : Bool) → Served ((if seq then taken e d else refused 4 d) .device)
-    go true = connect-served (clockOf e) (grant (claim (cut (isTick e) (losses (levels (isReset e) (d .bus) (effect e d))))))
-    go false = h
+-- part 7 is the last
+parts-served : (e : Event) (d : Device) → Served d → Served (parts e d)
+unfolding parts
+parts-served e d h = connect-served (clockOf e) (grant (claim (cut (isTick e) (losses (levels (isReset e) (d .bus) (effect e d))))))
 
-step-decoded-served : (x : Decoded) (d : Device) → Served d → Served (stepDecoded x d .device)
-unfolding stepDecoded refused
-step-decoded-served (Reads e) d h = step-event-served e d h
-step-decoded-served UnknownKind d h = h
-step-decoded-served BadField d h = h
+pub step-served : (d : Device) (r : Raw) → Served d → Served (step d r .device)
+step-served = step-keeps Served parts-served
 
-run-served : (d : Device) (rs : List Raw) → Served d → Served (runFrom d rs)
-unfolding runFrom step
-run-served d [] h = h
-run-served d (r ∷ rs) h = run-served (step d r .device) rs (step-decoded-served (decode r) d h)
-
-all-served : (rs : List Raw) → Served (run rs)
+pub all-served : (rs : List Raw) → Served (run rs)
 unfolding run powerUp
-all-served rs = run-served powerUp rs (λ m s. absurd (false≢true s))
+all-served rs = run-keeps Served parts-served powerUp rs (λ m. refl)
 
 -- ---- the auditor's first question
 
+-- whoever the switch serves owns the bus
+pub serves-owner : (d : Device) → Served d → (m : Master) → serves m (d .arb .switch) ≡ true → owns m d ≡ true
+serves-owner d h m s = and-eq-true-iff (owns m d) (asksOn m d) .0 (sym (h m) ∙ s) .0
+
+-- a closed switch serves
 closed-served : (m : Master) (w : Switch) → closedFor m w ≡ true → serves m w ≡ true
 closed-served m Apart h = h
 closed-served m (Initialising k n) h = absurd (false≢true h)
 closed-served m (Closed k) h = h
 
+-- a switch is closed for one master at most
 closed-once : (m : Master) (w : Switch) → closedFor m w ≡ true → closedFor (partner m) w ≡ false
 closed-once m Apart h = refl
 closed-once m (Initialising k n) h = refl
-closed-once Zero (Closed Zero) h = refl
-closed-once Zero (Closed One) h = absurd (false≢true h)
-closed-once One (Closed Zero) h = absurd (false≢true h)
-closed-once One (Closed One) h = refl
+closed-once m (Closed k) h = apart-from m k h
 
 pub one-connected : OneConnected
 one-connected rs m h =
-    let w : Switch = (run rs) .arb .switch in
-    (all-served rs m (closed-served m w h), closed-once m w h)
+    let d : Device = run rs in
+    (serves-owner d (all-served rs) m (closed-served m (d .arb .switch) h), closed-once m (d .arb .switch) h)
 
-unserved : (w : Switch) → ((m : Master) → serves m w ≡ true → ⊥) → w ≡ Apart
+-- a switch that serves nobody is open
+pub unserved : (w : Switch) → ((m : Master) → serves m w ≡ false) → w ≡ Apart
 unserved Apart h = refl
-unserved (Initialising k n) h = absurd (h k (self k))
-unserved (Closed k) h = absurd (h k (self k))
+unserved (Initialising k n) h = absurd (false≢true (sym (h k) ∙ same-self k))
+unserved (Closed k) h = absurd (false≢true (sym (h k) ∙ same-self k))
 
 pub apart-unowned : ApartUnowned
-apart-unowned rs none = unserved ((run rs) .arb .switch) λ m s. false≢true (sym (none m) ∙ all-served rs m s)
+apart-unowned rs none =
+    let d : Device = run rs in
+    unserved (d .arb .switch) λ m. all-served rs m ∙ ap (λ (o : Bool). o && asksOn m d) (none m)

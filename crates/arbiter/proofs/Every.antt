@@ -1,7 +1,7 @@
--- A test that antt computes at every number below n, and the law that gives it at any one of them.
+-- A test that antt computes at every number below n, or at both truth values, and the law that gives it at any one of them.
 -- Assumes nothing.
 use mathlib.Core.Path.{_≡_, subst, sym}
-use mathlib.Core.Bool.{Bool, true, _&&_, and-eq-true-iff}
+use mathlib.Core.Bool.{Bool, true, false, _&&_, and-eq-true-iff}
 use mathlib.Core.Logic.{⊎-elim}
 use Prim.Native.Nat.{ℕ, zero, suc, _<_}
 use native.Mathlib.Nat.{eq-or-lt-of-le, le-of-suc-le-suc, not-suc-le-zero}
@@ -18,3 +18,13 @@ every-at f (suc n) t k h =
     (λ (e : k ≡ n). subst (λ (m : ℕ). f m ≡ true) (sym e) (both .0))
     (λ (l : k < n). every-at f n (both .1) k l)
     (eq-or-lt-of-le (le-of-suc-le-suc h))
+
+-- ---- the same at both truth values
+
+unfoldable pub both : (Bool → Bool) → Bool
+both f = f true && f false
+
+pub both-at : (f : Bool → Bool) → both f ≡ true → (b : Bool) → f b ≡ true
+unfolding both
+both-at f t true = and-eq-true-iff (f true) (f false) .0 t .0
+both-at f t false = and-eq-true-iff (f true) (f false) .0 t .1

@@ -1,10 +1,22 @@
--- The auditor's questions, as statements over every run: any list of raw four-byte events from power-up, refused ones included.
+-- The auditor's questions, as statements over every run: any list of raw four-byte events from power-up, refused ones included. Each is
+-- proved in proofs/, under the same name in small letters.
 -- Assumes nothing.
+use Prim.Native.Nat.{_<_}
 use mathlib.Core.Path.{_≡_}
-use Rattle.arbiter.specs.Types.{true, false, List, Master, Raw, Apart}
-use Rattle.arbiter.specs.Words.{partner}
-use Rattle.arbiter.specs.State.{owns, connected}
-use Rattle.arbiter.specs.Steps.{run}
+use Rattle.arbiter.specs.Types.{ℕ, _+_, _/_, _%_, Bool, true, false, not, _&&_, _||_, List, [], _∷_, _++_, eqb, ltb, Master, Claims, Contr, Status, Apart, NoClock, Device, Raw, Stop, Reads}
+use Rattle.arbiter.specs.Words.{bit, partner}
+use Rattle.arbiter.specs.State.{owns, connected, isInitialising, isIdle}
+use Rattle.arbiter.specs.Registers.{readsAt}
+use Rattle.arbiter.specs.Events.{decode}
+use Rattle.arbiter.specs.Effects.{idleLimit}
+use Rattle.arbiter.specs.Order.{levels, losses, cut, claim, grant, connect}
+use Rattle.arbiter.specs.Steps.{masterNumber, step, runFrom, run}
+use Rattle.arbiter.specs.AuditWords.{next, requests, resting, reserveOf, idleTimerOn, isAccepted, reset, tick, withdrawalOf, stopOf, grantTaken, grantEnded, ticksIn, never, throughout, levelled}
+
+-- ---- A run gone on is a run: what is said below of `later` after an event after a run is said of runs.
+
+abbrev pub RunsOn : Type 0
+RunsOn = (rs : List Raw) (r : Raw) (later : List Raw) → run (rs ++ r ∷ later) ≡ runFrom (next (run rs) r) later
 
 -- ---- Can both controllers ever be connected at once?
 
@@ -15,3 +27,109 @@ OneConnected = (rs : List Raw) (m : Master) → connected m (run rs) ≡ true �
 -- With nobody granted the switch is open, and no initialisation runs.
 abbrev pub ApartUnowned : Type 0
 ApartUnowned = (rs : List Raw) → ((m : Master) → owns m (run rs) ≡ false) → (run rs) .arb .switch ≡ Apart
+
+-- As the answers show it: bits 0 and 1 of the third byte are the owner, bits 2 and 3 the connected one, and a connected one is the owner.
+abbrev pub ownerBits : ℕ → ℕ
+ownerBits b = b % 4
+
+abbrev pub switchBits : ℕ → ℕ
+switchBits b = b / 4 % 4
+
+abbrev pub AnswersShow : Type 0
+AnswersShow =
+    (rs : List Raw) (r : Raw) (m : Master) → let b : ℕ = step (run rs) r .answer .owner in
+    (eqb (ownerBits b) (masterNumber m) ≡ owns m (next (run rs) r)) × (eqb (switchBits b) (masterNumber m) ≡ connected m (next (run rs) r))
+
+abbrev pub AnswersShowOne : Type 0
+AnswersShowOne =
+    (rs : List Raw) (r : Raw) → let b : ℕ = step (run rs) r .answer .owner in
+    eqb (switchBits b) 0 || eqb (switchBits b) (ownerBits b) && ltb (ownerBits b) 3 ≡ true
+
+-- As the registers show it: m is connected exactly if its CONTR shows LOCK_GRANT (bit 1) and BUS_CONNECT (bit 2) and no initialisation
+-- runs; LOCK_GRANT is the grant, and so is STATUS bit 0 of the partner's.
+abbrev pub RegistersShow : Type 0
+RegistersShow =
+    (rs : List Raw) (m : Master) → let d : Device = run rs in
+    (connected m d ≡ bit 1 (readsAt Contr m d) && bit 2 (readsAt Contr m d) && not (isInitialising (d .arb .switch)))
+    × (bit 1 (readsAt Contr m d) ≡ owns m d)
+    × (bit 0 (readsAt Status (partner m) d) ≡ owns m d)
+
+-- The two CONTR bytes never show LOCK_GRANT at once, and the two STATUS bytes never show it of both partners.
+abbrev pub RegistersShowOne : Type 0
+RegistersShowOne =
+    (rs : List Raw) (m : Master) → let d : Device = run rs in
+    (bit 1 (readsAt Contr m d) && bit 1 (readsAt Contr (partner m) d) ≡ false) × (bit 0 (readsAt Status m d) && bit 0 (readsAt Status (partner m) d) ≡ false)
+
+-- ---- Can a reserved transfer be cut short?
+
+-- r gives m the grant. While fewer ticks have been accepted since than the reserve that it was taken with, no reset has come and m has not
+-- withdrawn, m owns. (A reserve of 00h has no fewer: see below.)
+abbrev pub ReserveLasts : Type 0
+ReserveLasts =
+    (m : Master) (rs : List Raw) (r : Raw) (later : List Raw) → let d : Device = next (run rs) r in
+    grantTaken m r (run rs) ≡ true → ticksIn d later < reserveOf m d → never reset d later ≡ true → never (withdrawalOf m) d later ≡ true
+    → owns m (runFrom d later) ≡ true
+
+-- ---- When does the waiting one get its turn?
+
+-- p is next in d: it owns at once if its port is at rest. Else, until its withdrawal, its STOP or a reset, it stays the claimant, and its
+-- STOP makes it the owner.
+abbrev pub IsNext : Master → Device → Type 0
+IsNext p d =
+    (resting p d ≡ true → owns p d ≡ true)
+    × (resting p d ≡ false → (later : List Raw) → never reset d later ≡ true → never (withdrawalOf p) d later ≡ true → never (stopOf p) d later ≡ true
+    → ((runFrom d later) .arb .turn ≡ Claims p) × ((r : Raw) → decode r ≡ Reads (Stop p) → owns p (next (runFrom d later) r) ≡ true))
+
+-- r, no reset, ends m's grant, and the partner's request stands after it: the partner is next.
+abbrev pub PartnerNext : Type 0
+PartnerNext =
+    (m : Master) (rs : List Raw) (r : Raw) → let d : Device = next (run rs) r in
+    grantEnded m r (run rs) ≡ true → reset r (run rs) ≡ false → requests (partner m) d ≡ true → IsNext (partner m) d
+
+-- In sum: r gives m the grant, t is the tick at which its reserve runs out, the partner's request stands throughout and no reset comes.
+-- If after t the bus is idle and the partner's port at rest, the partner owns the bus.
+abbrev pub PartnerInTime : Type 0
+PartnerInTime =
+    (m : Master) (rs : List Raw) (r : Raw) (later : List Raw) (t : Raw) → let d : Device = next (run rs) r in
+    let end : Device = next (runFrom d later) t in
+    grantTaken m r (run rs) ≡ true → ticksIn d later + 1 ≡ reserveOf m d → tick t (runFrom d later) ≡ true → never reset d later ≡ true
+    → throughout (requests (partner m)) d (later ++ t ∷ []) ≡ true → isIdle (end .bus) ≡ true → resting (partner m) end ≡ true
+    → owns (partner m) end ≡ true
+
+-- ---- What does a reserve of 00h mean?
+
+-- With the idle timer off the grant never ends but by withdrawal or reset, however many ticks pass.
+abbrev pub HeldUntilLetGo : Type 0
+HeldUntilLetGo =
+    (m : Master) (rs : List Raw) (r : Raw) (later : List Raw) → let d : Device = next (run rs) r in
+    grantTaken m r (run rs) ≡ true → reserveOf m d ≡ 0 → never reset d later ≡ true → never (withdrawalOf m) d later ≡ true
+    → throughout (λ (x : Device). not (idleTimerOn m x)) d later ≡ true → owns m (runFrom d later) ≡ true
+
+-- With the timer on it ends exactly at the idle count of 101, as the timer and the count stand after parts 1 and 2 of the event's step.
+abbrev pub IdleTimerExact : Type 0
+IdleTimerExact =
+    (m : Master) (rs : List Raw) (r : Raw) → let d : Device = run rs in
+    owns m d ≡ true → reserveOf m d ≡ 0 → reset r d ≡ false → withdrawalOf m r d ≡ false
+    → owns m (next d r) ≡ not (idleTimerOn m (levelled r d) && eqb ((levelled r d) .bus .idle) idleLimit)
+
+-- So on a bus that is idle throughout, it lasts 100 ticks and ends at the tick after them.
+abbrev pub IdleTimerEnds : Type 0
+IdleTimerEnds =
+    (m : Master) (rs : List Raw) (r : Raw) (later : List Raw) → let d : Device = next (run rs) r in
+    grantTaken m r (run rs) ≡ true → reserveOf m d ≡ 0 → never reset d later ≡ true → never (withdrawalOf m) d later ≡ true
+    → throughout (λ (x : Device). idleTimerOn m x && isIdle (x .bus)) d later ≡ true → ticksIn d later < idleLimit
+    → (owns m (runFrom d later) ≡ true)
+    × ((t : Raw) → tick t (runFrom d later) ≡ true → ticksIn d later + 1 ≡ idleLimit → owns m (next (runFrom d later) t) ≡ false)
+
+-- ---- What a step leaves
+
+-- A refused event changes nothing, whatever the device.
+abbrev pub RefusedUnchanged : Type 0
+RefusedUnchanged = (d : Device) (r : Raw) → isAccepted r d ≡ false → next d r ≡ d
+
+-- Every step of a run leaves the device settled: parts 2 to 7 done again, with no event, change nothing.
+abbrev pub settle : Device → Device
+settle d = connect NoClock (grant (claim (cut false (losses (levels false (d .bus) d)))))
+
+abbrev pub AllSettled : Type 0
+AllSettled = (rs : List Raw) → settle (run rs) ≡ run rs

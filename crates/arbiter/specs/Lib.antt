@@ -9,7 +9,9 @@ pub mod Events
 pub mod Effects
 pub mod Order
 pub mod Steps
+pub mod AuditWords
 pub mod Audit
 pub mod Traces
 pub mod Listing
 pub mod Marks
+pub mod Witnesses

@@ -1,0 +1,127 @@
+-- What holds of parts 4 to 7, of every step and of every run, by the cases that there are.
+-- Assumes nothing.
+use mathlib.Core.Path.{_≡_, refl, sym, subst}
+use mathlib.Core.Bool.{Bool, true, false, _&&_}
+use Rattle.arbiter.specs.Types.{ℕ, List, [], _∷_, eqb, ltb, Master, Zero, One, Turn, Nobody, Claims, Owns, Switch, Apart, Initialising, Closed, Clock, NoClock, ClockLow, ClockHigh, Device, Raw, Event, Decoded, Reads, UnknownKind, BadField, OutOfSequence, Stepped}
+use Rattle.arbiter.specs.Words.{sameMaster, side}
+use Rattle.arbiter.specs.Parts.{withBusConnect, withBusInit, withContr, withSwitch, withInitFail, withSide, withArb}
+use Rattle.arbiter.specs.State.{atRest}
+use Rattle.arbiter.specs.Registers.{disconnected}
+use Rattle.arbiter.specs.Events.{decode, decodedNumber, inSequence, outcomeNumber}
+use Rattle.arbiter.specs.Order.{cutTicks, cutFrom, claimBy, newClaim, claimAfter, granted, grantFrom, joined, clocked, keptJoined, connectFrom, connect}
+use Rattle.arbiter.specs.AuditWords.{requests}
+use Rattle.arbiter.specs.Steps.{parts, taken, refused, stepEvent, stepDecoded, step, runFrom}
+use Rattle.arbiter.proofs.Choice.{either, split, if-true, if-false}
+
+-- ---- part 4: the owner's BUS_CONNECT is cleared, or nothing is
+
+pub cut-cases : (P : Device → Type 0) (on : Bool) (m : Master) (d : Device) → P (withSide m (disconnected (side m d)) d) → P d → P (cutFrom on (Owns m) d)
+unfolding cutFrom
+cut-cases P on m d cleared left = either P (on && eqb (d .bus .lowscl) cutTicks && (side m d) .contr .smbusdis) (λ h. cleared) (λ h. left)
+
+-- ---- part 5
+
+-- a claimant that still requests stays
+pub claimant-stays : (m : Master) (d : Device) → requests m d ≡ true → claimAfter (Claims m) d ≡ Claims m
+claimant-stays m d h = if-true (Claims m) _ h
+
+-- a new claim is nobody's or a claimant's
+new-by : (P : Turn → Type 0) → P Nobody → ((m : Master) → P (Claims m)) → (r0 r1 : Bool) (w : Master) → P (claimBy r0 r1 w)
+new-by P none some false false w = none
+new-by P none some true false w = some Zero
+new-by P none some false true w = some One
+new-by P none some true true w = some w
+
+pub new-cases : (P : Turn → Type 0) (d : Device) → P Nobody → ((m : Master) → P (Claims m)) → P (newClaim d)
+new-cases P d none some = new-by P none some (requests Zero d) (requests One d) _
+
+-- and so is what comes of a claim
+pub claim-cases : (P : Turn → Type 0) (m : Master) (d : Device) → P Nobody → ((m : Master) → P (Claims m)) → P (claimAfter (Claims m) d)
+claim-cases P m d none some =
+    split (requests m d)
+    (λ h. subst P (sym (claimant-stays m d h)) (some m))
+    (λ h. subst P (sym (if-false _ (newClaim d) h)) (new-cases P d none some))
+
+-- ---- part 6: the claimant is granted, or nothing is done
+
+pub grant-cases : (P : Device → Type 0) (m : Master) (d : Device) → P (granted m d) → P d → P (grantFrom (Claims m) d)
+unfolding grantFrom
+grant-cases P m d given left = either P (atRest ((side m d) .port) && eqb (d .bus .hold) 0) (λ h. given) (λ h. left)
+
+-- ---- part 7: it sets the switch and BUS_INIT_FAIL, and perhaps clears an owner's BUS_INIT, and with it perhaps its BUS_CONNECT
+
+-- the device with such a switch, and with such a flag
+abbrev pub joinedBy : Switch → Bool → Device → Device
+joinedBy w fail d = withArb (withInitFail fail (withSwitch w (d .arb))) d
+
+-- the device whose m has BUS_INIT cleared, and such a BUS_CONNECT
+abbrev pub initEnded : Master → Bool → Device → Device
+initEnded m on d = withSide m (withContr (withBusInit false (withBusConnect on ((side m d) .contr))) (side m d)) d
+
+module _ (P : Device → Type 0) (d : Device) (plain : (w : Switch) (fail : Bool) → P (joinedBy w fail d))
+    (ended : (m : Master) (on : Bool) (w : Switch) (fail : Bool) → ((side m d) .contr .busconnect ≡ false → on ≡ false) → P (joinedBy w fail (initEnded m on d))) where
+  -- grant and BUS_CONNECT have become both true of m
+  joined-cases : (m : Master) → P (joined m d)
+  unfolding joined
+  joined-cases m = either P ((side m d) .contr .businit) (λ h. plain _ _) (λ h. plain _ _)
+
+  -- an initialisation meets a PULSE, or none
+  clocked-cases : (c : Clock) (m : Master) (n : ℕ) → P (clocked c m n d)
+  unfolding clocked
+  clocked-cases NoClock m n = plain _ _
+  clocked-cases ClockHigh m n = ended m ((side m d) .contr .busconnect) (Closed m) (d .arb .initfail) (λ h. h)
+  clocked-cases ClockLow m n =
+      either P (ltb n 8) (λ h. plain _ _) (λ h. ended m false Apart true (λ x. refl))
+
+  -- grant and BUS_CONNECT are both true of m
+  kept-cases : (c : Clock) (m : Master) (w : Switch) → P (keptJoined c m w d)
+  unfolding keptJoined
+  kept-cases c m Apart = joined-cases m
+  kept-cases c m (Initialising k n) = either P (sameMaster m k) (λ h. clocked-cases c m n) (λ h. joined-cases m)
+  kept-cases c m (Closed k) = either P (sameMaster m k) (λ h. plain _ _) (λ h. joined-cases m)
+
+  -- and by whose turn it is
+  from-cases : (c : Clock) (t : Turn) → P (connectFrom c t d)
+  unfolding connectFrom
+  from-cases c Nobody = plain _ _
+  from-cases c (Claims m) = plain _ _
+  from-cases c (Owns m) =
+      either P ((side m d) .contr .busconnect) (λ h. kept-cases c m (d .arb .switch)) (λ h. plain _ _)
+
+  pub connect-cases : (c : Clock) → P (connect c d)
+  unfolding connect
+  connect-cases c = from-cases c (d .arb .turn)
+
+-- ---- a step: the seven parts of an accepted event, or a refusal
+
+-- what holds of every event taken in sequence and of every refusal holds of the step
+module _ (Q : Stepped → Type 0) (d : Device) (r : Raw)
+    (takes : (e : Event) → decode r ≡ Reads e → inSequence e d ≡ true → Q (taken e d)) (refuses : (n : ℕ) → Q (refused n d)) where
+  -- an event, in sequence or not
+  event-cases : (e : Event) → decode r ≡ Reads e → Q (stepEvent e d)
+  unfolding stepEvent
+  event-cases e h = either Q (inSequence e d) (λ s. takes e h s) (λ s. refuses (outcomeNumber OutOfSequence))
+
+  -- four bytes that read as one, or do not
+  decoded-cases : (x : Decoded) → decode r ≡ x → Q (stepDecoded x d)
+  unfolding stepDecoded
+  decoded-cases (Reads e) h = event-cases e h
+  decoded-cases UnknownKind h = refuses (decodedNumber UnknownKind)
+  decoded-cases BadField h = refuses (decodedNumber BadField)
+
+  pub step-cases : Q (step d r)
+  unfolding step
+  step-cases = decoded-cases (decode r) refl
+
+-- ---- a run
+
+-- what the seven parts keep, a step keeps, and a run
+module _ (P : Device → Type 0) (keeps : (e : Event) (d : Device) → P d → P (parts e d)) where
+  pub step-keeps : (d : Device) (r : Raw) → P d → P (step d r .device)
+  unfolding taken refused
+  step-keeps d r h = step-cases (λ (s : Stepped). P (s .device)) d r (λ e x s. keeps e d h) (λ n. h)
+
+  pub run-keeps : (d : Device) (rs : List Raw) → P d → P (runFrom d rs)
+  unfolding runFrom
+  run-keeps d [] h = h
+  run-keeps d (r ∷ rs) h = run-keeps (step d r .device) rs (step-keeps d r h)

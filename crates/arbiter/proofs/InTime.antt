@@ -1,0 +1,111 @@
+-- In sum, over every run: a partner whose request stands has the bus at the tick at which the owner's reserve runs out.
+-- Assumes nothing.
+use Prim.Native.Nat.{_<_}
+use mathlib.Core.Path.{_≡_, sym, ap, ap₂, _∙_, subst}
+use mathlib.Core.Bool.{true≢false}
+use native.Mathlib.Omega.{arith}
+use borrow.Author.Tests.{ne-eqb, eq-eqb}
+use Rattle.arbiter.specs.Types.{_+_, _-_, Bool, true, false, _&&_, List, [], _∷_, _++_, Master, Owns, Device, Raw}
+use Rattle.arbiter.specs.Words.{worth, partner}
+use Rattle.arbiter.specs.State.{owns, isIdle}
+use Rattle.arbiter.specs.Order.{isReset}
+use Rattle.arbiter.specs.Steps.{parts, runFrom, run}
+use Rattle.arbiter.specs.AuditWords.{next, requests, resting, reserveOf, letsGo, reset, tick, levelled, ticksIn, never, throughout}
+use Rattle.arbiter.specs.Audit.{PartnerInTime}
+use Rattle.arbiter.proofs.Choice.{split, if-false, turn-owns}
+use Rattle.arbiter.proofs.Runs.{never-comes, now, hence}
+use Rattle.arbiter.proofs.Owner.{expired, Next, over-next, waits, withdraws}
+use Rattle.arbiter.proofs.Raws.{refuses, takes, met, tick-no-reset}
+use Rattle.arbiter.proofs.Tenure.{Owner, Owned, next-owned, run-owned, keeps, over, lot, taken-fresh, rt-found, reserve-found}
+use Rattle.arbiter.proofs.Reserve.{rt-kept, reserve-kept}
+use Rattle.arbiter.proofs.Waiting.{Waiting, next-owns, next-waits}
+
+-- ---- in line
+
+-- p owns, or waits.
+data InLine (p : Master) (d : Device) : Type 0 where
+  mine : d .arb .turn ≡ Owns p → InLine p d
+  soon : Waiting p d → InLine p d
+
+-- Who is next is in line.
+next-in-line : (p : Master) (d : Device) → Next p d → InLine p d
+next-in-line p d n = split (resting p d) (λ r. mine (next-owns p d n r)) (λ r. soon (next-waits p d n r))
+
+-- It stays in line as long as its request stands and no reset comes: a loss and a withdrawal would take the request away.
+stays-in-line : (p : Master) (r : Raw) (d : Device) → Owned d → reset r d ≡ false → InLine p d → requests p (next d r) ≡ true → InLine p (next d r)
+stays-in-line p r d i ok (mine t) q =
+    elim (lot p r d (i p t) ok) [ keeps k ↦ mine (k .owner .turn) | over h c ↦ absurd (true≢false (sym q ∙ h .request)) ]
+stays-in-line p r d i ok (soon w) q =
+    elim (met r d) [
+      | refuses x ↦ subst (InLine p) (sym (x .after)) (soon w)
+      | takes e x ↦
+          (let no : isReset e ≡ false = sym (x .same λ f y. isReset f) ∙ ok in
+          split (letsGo p e d)
+          (λ g. absurd (true≢false (sym q ∙ ap (requests p) (x .after) ∙ withdraws p e d no (w .turn) g)))
+          (λ g. subst (InLine p) (sym (x .after)) (next-in-line p (parts e d) (waits p e d no (w .turn) (w .request) (w .hold) g))))
+    ]
+
+-- So over any events and a last one t.
+line : (p : Master) (rs : List Raw) (t : Raw) (d : Device) → Owned d → InLine p d → never reset d rs ≡ true → reset t (runFrom d rs) ≡ false
+    → throughout (requests p) d (rs ++ t ∷ []) ≡ true → InLine p (next (runFrom d rs) t)
+unfolding runFrom
+line p [] t d i l nr ok st = stays-in-line p t d i ok l (now (requests p) [] (next d t) (hence (requests p) t [] d st))
+line p (r ∷ rs) t d i l nr ok st =
+    let first = never-comes reset r rs d nr in
+    let on = hence (requests p) r (rs ++ t ∷ []) d st in
+    line p rs t (next d r) (next-owned r d i) (stays-in-line p r d i (first .0) l (now (requests p) (rs ++ t ∷ []) (next d r) on)) (first .1) ok on
+
+-- In line with its port at rest, it owns.
+line-owns : (p : Master) (d : Device) → InLine p d → resting p d ≡ true → owns p d ≡ true
+line-owns p d (mine t) r = turn-owns p (d .arb .turn) t
+line-owns p d (soon w) r = absurd (true≢false (sym r ∙ w .port))
+
+-- ---- the tick at which the reserve runs out
+
+-- On an idle bus the owner loses at the last tick of its reserve.
+loses : (m : Master) (t : Raw) (d : Device) → Owner m d → 0 < reserveOf m d → d .arb .reserve ≡ 1 → tick t d ≡ true
+    → isIdle ((levelled t d) .bus) ≡ true → expired m (levelled t d) ≡ true
+loses m t d o rt one h idle =
+    let l : Device = levelled t d in
+    let ok = tick-no-reset t d h in
+    let same : reserveOf m l ≡ reserveOf m d = rt-found m t d (turn-owns m (d .arb .turn) (o .turn)) ok in
+    let count : l .arb .reserve ≡ d .arb .reserve - 1 = reserve-found t d ok ∙ ap (λ (b : Bool). d .arb .reserve - worth 1 b) h in
+    if-false _ _ (ne-eqb (reserveOf m l) 0 (λ x. omega arith)) ∙ ap₂ (λ (a b : Bool). a && b) (eq-eqb (l .arb .reserve) 0 (omega arith)) idle
+
+-- From any device in which m owns with its reserve count just used up by t.
+by-the-tick : (m : Master) (rs : List Raw) (t : Raw) (d : Device) → Owned d → d .arb .turn ≡ Owns m → 0 < reserveOf m d
+    → ticksIn d rs + 1 ≡ d .arb .reserve → tick t (runFrom d rs) ≡ true → never reset d rs ≡ true
+    → throughout (requests (partner m)) d (rs ++ t ∷ []) ≡ true → isIdle ((next (runFrom d rs) t) .bus) ≡ true
+    → resting (partner m) (next (runFrom d rs) t) ≡ true → owns (partner m) (next (runFrom d rs) t) ≡ true
+unfolding runFrom ticksIn
+by-the-tick m [] t d i u rt l h nr st idle rest =
+    let p : Master = partner m in
+    elim (lot m t d (i m u) (tick-no-reset t d h)) [
+      | keeps k ↦
+          absurd (true≢false (sym (loses m t d (i m u) rt (omega arith) h (ap (λ s. isIdle (s .2)) (sym (k .left)) ∙ idle)) ∙ k .unlost))
+      | over o c ↦
+          turn-owns p ((next d t) .arb .turn)
+          (next-owns p (next d t) (over-next m (next d t) o (now (requests p) [] (next d t) (hence (requests p) t [] d st))) rest)
+    ]
+by-the-tick m (r ∷ rs) t d i u rt l h nr st idle rest =
+    let p : Master = partner m in
+    let n : Device = next d r in
+    let ok = never-comes reset r rs d nr in
+    let on = hence (requests p) r (rs ++ t ∷ []) d st in
+    elim (lot m r d (i m u) (ok .0)) [
+      | keeps k ↦
+          (let same : reserveOf m n ≡ reserveOf m d = rt-kept m r d (i m u) (ok .0) k in
+          let count : n .arb .reserve ≡ d .arb .reserve - worth 1 (tick r d) = reserve-kept m r d (i m u) (ok .0) k in
+          by-the-tick m rs t n (next-owned r d i) (k .owner .turn) (omega arith) (omega arith) h (ok .1) on idle rest)
+      | over o c ↦
+          (let x : Next p n = over-next m n o (now (requests p) (rs ++ t ∷ []) n on) in
+          line-owns p (next (runFrom n rs) t)
+          (line p rs t n (next-owned r d i) (next-in-line p n x) (ok .1) (tick-no-reset t (runFrom n rs) h) on) rest)
+    ]
+
+pub partner-in-time : PartnerInTime
+partner-in-time m rs r later t g l h nr st idle rest =
+    let d : Device = next (run rs) r in
+    let new = taken-fresh m r (run rs) g in
+    let count : d .arb .reserve ≡ reserveOf m d = new .0 .reserve in
+    by-the-tick m later t d (next-owned r (run rs) (run-owned rs)) (new .1 .turn) (omega arith) (omega arith) h nr st idle rest

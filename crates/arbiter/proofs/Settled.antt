@@ -1,0 +1,374 @@
+-- A refused event changes nothing, and every step of a run leaves the device settled: parts 2 to 7 done again change nothing.
+-- Assumes nothing.
+use mathlib.Core.Path.{_≡_, refl, sym, ap, ap₂, subst, _∙_}
+use mathlib.Core.Bool.{Bool, true, false, not, _&&_, _||_, false≢true, and-eq-true-iff, and-true, and-false}
+use Rattle.arbiter.specs.Types.{ℕ, List, eqb, Master, Zero, One, Turn, Nobody, Claims, Owns, Side, Bus, Switch, Apart, Initialising, Closed, Clock, NoClock, Device, Raw, Event, Decoded, Reads, Stepped}
+use Rattle.arbiter.specs.Words.{if_then_else_, sameMaster, side}
+use Rattle.arbiter.specs.Parts.{withBusConnect, withBusInit, withContr, withDrives, withIdle, withTurn, withSwitch, withInitFail, withSide, withBus, withArb}
+use Rattle.arbiter.specs.State.{ownsTurn, owns, atRest, sclHigh, sdaHigh, isIdle}
+use Rattle.arbiter.specs.Registers.{released}
+use Rattle.arbiter.specs.Events.{decode, inSequence}
+use Rattle.arbiter.specs.Effects.{idleLimit, freshSide, powerUp, effect}
+use Rattle.arbiter.specs.Order.{isReset, isTick, clockOf, busyAfter, settledBus, levels, runsOut, lost, lossesFrom, losses, cutFrom, cut, claimBy, winner, newClaim, claimAfter, claim, granted, grantFrom, grant, switched, joined, clocked, keptJoined, connectFrom, connect}
+use Rattle.arbiter.specs.Steps.{parts, refused, run}
+use Rattle.arbiter.specs.AuditWords.{requests, acceptedAs, isAccepted}
+use Rattle.arbiter.specs.Audit.{RefusedUnchanged, settle, AllSettled}
+use Rattle.arbiter.proofs.Choice.{either, split, if-true, if-false, turn-owns}
+use Rattle.arbiter.proofs.Cases.{cut-cases, claimant-stays, new-cases, claim-cases, connect-cases, step-cases, run-keeps}
+use Rattle.arbiter.proofs.Connected.{serves, asksOn, Served, unserved, all-served}
+
+-- ---- a refused event
+
+-- what reads as an event and is in sequence is accepted, so what is not accepted is refused
+in-sequence-accepted : (r : Raw) (e : Event) (d : Device) → decode r ≡ Reads e → inSequence e d ≡ true → isAccepted r d ≡ true
+in-sequence-accepted r e d h s = ap (λ (x : Decoded). acceptedAs (λ (e : Event) (x : Device). true) x d) h ∙ and-true (inSequence e d) ∙ s
+
+pub refused-unchanged : RefusedUnchanged
+unfolding refused
+refused-unchanged d r h =
+    step-cases (λ (s : Stepped). s .device ≡ d) d r (λ e x s. absurd (false≢true (sym h ∙ in-sequence-accepted r e d x s))) (λ n. refl)
+
+-- ---- what there is to settle, part by part
+
+-- part 2: a high line's low count is 0, and so is the idle count of a bus that is not idle
+abbrev Still : Bus → Type 0
+Still b = (sclHigh b ≡ true → b .lowscl ≡ 0) × (sdaHigh b ≡ true → b .lowsda ≡ 0) × (isIdle b ≡ false → b .idle ≡ 0)
+
+-- part 3: the owner loses
+abbrev loses : Turn → Device → Bool
+loses Nobody d = false
+loses (Claims m) d = false
+loses (Owns m) d = runsOut (side m d) (d .arb .reserve) (d .bus)
+
+-- part 6: the claimant is to be granted
+abbrev isDue : Turn → Device → Bool
+isDue Nobody d = false
+isDue (Claims m) d = atRest ((side m d) .port) && eqb (d .bus .hold) 0
+isDue (Owns m) d = false
+
+-- the bus is still, and its owner does not lose
+abbrev Kept : Device → Type 0
+Kept d = Still (d .bus) × (loses (d .arb .turn) d ≡ false)
+
+-- part 5: the claimant stays
+abbrev Claimed : Device → Type 0
+Claimed d = claimAfter (d .arb .turn) d ≡ d .arb .turn
+
+-- all of parts 2 to 6: nothing to level, to lose, to claim or to grant
+abbrev Ready : Device → Type 0
+Ready d = Kept d × Claimed d × (isDue (d .arb .turn) d ≡ false)
+
+-- ---- parts 4 and 7 change nothing that those ask
+
+-- the device less BUS_INIT, BUS_CONNECT, the switch and BUS_INIT_FAIL
+abbrev bareSide : Side → Side
+bareSide s = withContr (withBusInit false (withBusConnect false (s .contr))) s
+
+abbrev bare : Device → Device
+bare d = record { side0 = bareSide (d .side0); side1 = bareSide (d .side1); bus = d .bus; arb = withInitFail false (withSwitch Apart (d .arb)) }
+
+-- whether the owner loses is asked of RT, the idle timer, the reserve count and the bus
+loses-bare : (t : Turn) (d : Device) → loses t (bare d) ≡ loses t d
+loses-bare Nobody d = refl
+loses-bare (Claims m) d = refl
+loses-bare (Owns Zero) d = refl
+loses-bare (Owns One) d = refl
+
+-- who claims is asked of LOCK_REQ, the priorities and the last granted
+claim-bare : (t : Turn) (d : Device) → claimAfter t (bare d) ≡ claimAfter t d
+claim-bare Nobody d = refl
+claim-bare (Claims Zero) d = refl
+claim-bare (Claims One) d = refl
+claim-bare (Owns m) d = refl
+
+-- whether the claimant is to be granted is asked of its port and the hold
+due-bare : (t : Turn) (d : Device) → isDue t (bare d) ≡ isDue t d
+due-bare Nobody d = refl
+due-bare (Claims Zero) d = refl
+due-bare (Claims One) d = refl
+due-bare (Owns m) d = refl
+
+module _ (x y : Device) (p : bare x ≡ bare y) where
+  -- so a device that differs in those alone is as still, and its owner as safe
+  kept-by : Kept x → Kept y
+  kept-by (still, stays) = (
+    subst (λ (d : Device). Still (d .bus)) p still,
+    sym (loses-bare (y .arb .turn) y) ∙ ap (λ (d : Device). loses (d .arb .turn) d) (sym p) ∙ loses-bare (x .arb .turn) x ∙ stays,
+  )
+
+  -- and as ready
+  ready-by : Ready x → Ready y
+  ready-by (kept, claimed, waits) = (
+    kept-by kept,
+    sym (claim-bare (y .arb .turn) y) ∙ ap (λ (d : Device). claimAfter (d .arb .turn) d) (sym p) ∙ claim-bare (x .arb .turn) x ∙ claimed ∙ ap (λ (d : Device). d .arb .turn) p,
+    sym (due-bare (y .arb .turn) y) ∙ ap (λ (d : Device). isDue (d .arb .turn) d) (sym p) ∙ due-bare (x .arb .turn) x ∙ waits,
+  )
+
+-- one side put in place of another that is the same but for those
+side-bare : (m : Master) (s : Side) (d : Device) → bareSide s ≡ bareSide (side m d) → bare (withSide m s d) ≡ bare d
+side-bare Zero s d h = λ i. record { side0 = h i; side1 = bareSide (d .side1); bus = d .bus; arb = withInitFail false (withSwitch Apart (d .arb)) }
+side-bare One s d h = λ i. record { side0 = bareSide (d .side0); side1 = h i; bus = d .bus; arb = withInitFail false (withSwitch Apart (d .arb)) }
+
+-- part 4 clears BUS_CONNECT and nothing else
+cut-bare : (on : Bool) (t : Turn) (d : Device) → bare (cutFrom on t d) ≡ bare d
+unfolding cutFrom
+cut-bare on Nobody d = refl
+cut-bare on (Claims m) d = refl
+cut-bare on (Owns m) d = cut-cases (λ (x : Device). bare x ≡ bare d) on m d (side-bare m _ d refl) refl
+
+-- part 7 touches nothing but those
+connect-bare : (c : Clock) (d : Device) → bare (connect c d) ≡ bare d
+connect-bare c d =
+    connect-cases (λ (x : Device). bare x ≡ bare d) d (λ w fail. refl)
+    (λ m on w fail h. side-bare m _ d refl) c
+
+-- ---- part 2 leaves a still bus
+
+-- the levels are as before part 2, which zeroed the counts by them
+levels-still : (reset : Bool) (before : Bus) (d : Device) → Still ((levels reset before d) .bus)
+unfolding levels
+levels-still reset before d =
+    let b : Bus = d .bus in
+    (λ h. if-true 0 (b .lowscl) h, λ h. if-true 0 (b .lowsda) h, λ h. if-false (b .idle) 0 h)
+
+-- ---- part 3: a loss comes only on an idle bus, whose drives are released already
+
+-- an idle count of 101 is not 0, so the bus is idle
+counted-idle : (b : Bus) → Still b → eqb (b .idle) idleLimit ≡ true → isIdle b ≡ true
+counted-idle b still h = split (isIdle b) (λ e. e) (λ e. absurd (false≢true (sym (ap (λ (n : ℕ). eqb n idleLimit) (still .2 e)) ∙ h)))
+
+-- a reserve that runs out asks for an idle bus, and the idle timer for its count
+out-idle : (s : Side) (n : ℕ) (b : Bus) → Still b → runsOut s n b ≡ true → isIdle b ≡ true
+out-idle s n b still =
+    either (λ (x : Bool). x ≡ true → isIdle b ≡ true) (eqb (s .rt) 0)
+    (λ z h. counted-idle b still (and-eq-true-iff (s .contr .idletimer) (eqb (b .idle) idleLimit) .0 h .1))
+    (λ z h. and-eq-true-iff (eqb n 0) (isIdle b) .0 h .1)
+
+-- lines that are high are not driven low
+idle-released : (b : Bus) → isIdle b ≡ true → released b ≡ b
+idle-released b h =
+    let outer = and-eq-true-iff (not (b .busy) && sclHigh b) (sdaHigh b) .0 h in
+    let scl = and-eq-true-iff (b .outscl && b .drivescl) (eqb (b .hold) 0) .0 (and-eq-true-iff (not (b .busy)) (sclHigh b) .0 (outer .0) .1) .0 in
+    let drivescl = and-eq-true-iff (b .outscl) (b .drivescl) .0 scl .1 in
+    let drivesda = and-eq-true-iff (b .outsda) (b .drivesda) .0 (outer .1) .1 in
+    ap₂ (λ (x y : Bool). withDrives x y b) (sym drivescl) (sym drivesda)
+
+-- after part 3 nobody is left to lose, and the bus is as it was
+losses-kept : (t : Turn) (d : Device) → d .arb .turn ≡ t → Still (d .bus) → Kept (lossesFrom t d)
+unfolding lossesFrom lost
+losses-kept Nobody d e still = (still, ap (λ (t : Turn). loses t d) e)
+losses-kept (Claims m) d e still = (still, ap (λ (t : Turn). loses t d) e)
+losses-kept (Owns m) d e still =
+    either Kept (runsOut (side m d) (d .arb .reserve) (d .bus))
+    (λ h. (subst Still (sym (idle-released (d .bus) (out-idle (side m d) (d .arb .reserve) (d .bus) still h))) still, refl))
+    (λ h. (still, ap (λ (t : Turn). loses t d) e ∙ h))
+
+-- ---- part 5: who claims stays the claimant, and a new claimant has nothing to lose
+
+-- the winner, if both request
+abbrev winnerIn : Device → Master
+winnerIn d = winner (d .side0 .contr .priority) (d .side1 .contr .priority) (d .arb .last)
+
+module _ (d : Device) where
+  -- a new claimant requests; and where nobody claims, nobody requests
+  new-stays : claimAfter (newClaim d) d ≡ newClaim d
+  new-stays = go (requests Zero d) (requests One d) (winnerIn d) refl refl
+    where
+      go : (r0 r1 : Bool) (w : Master) → requests Zero d ≡ r0 → requests One d ≡ r1 → claimAfter (claimBy r0 r1 w) d ≡ claimBy r0 r1 w
+      go false false w e0 e1 = ap₂ (λ (r0 r1 : Bool). claimBy r0 r1 (winnerIn d)) e0 e1
+      go true false w e0 e1 = claimant-stays Zero d e0
+      go false true w e0 e1 = claimant-stays One d e1
+      go true true Zero e0 e1 = claimant-stays Zero d e0
+      go true true One e0 e1 = claimant-stays One d e1
+
+  -- part 5 done twice is part 5 done once
+  claim-stays : (t : Turn) → claimAfter (claimAfter t d) d ≡ claimAfter t d
+  claim-stays Nobody = new-stays
+  claim-stays (Claims m) =
+      either (λ (t : Turn). claimAfter t d ≡ t) (requests m d) (λ h. claimant-stays m d h) (λ h. new-stays)
+  claim-stays (Owns m) = refl
+
+  -- an owner stays the owner, and nobody else is made one
+  claim-keeps : (t : Turn) → loses t d ≡ false → loses (claimAfter t d) d ≡ false
+  claim-keeps Nobody h = new-cases (λ (t : Turn). loses t d ≡ false) d refl (λ k. refl)
+  claim-keeps (Claims m) h = claim-cases (λ (t : Turn). loses t d ≡ false) m d refl (λ k. refl)
+  claim-keeps (Owns m) h = h
+
+  -- both are asked of the turn that is given, and not of the device's own
+  loses-turn : (t u : Turn) → loses t (withArb (withTurn u (d .arb)) d) ≡ loses t d
+  loses-turn Nobody u = refl
+  loses-turn (Claims m) u = refl
+  loses-turn (Owns m) u = refl
+
+  claim-turn : (t u : Turn) → claimAfter t (withArb (withTurn u (d .arb)) d) ≡ claimAfter t d
+  claim-turn Nobody u = refl
+  claim-turn (Claims m) u = refl
+  claim-turn (Owns m) u = refl
+
+  -- so part 5 leaves a claimant that stays, and an owner as safe as before
+  claim-ready : Kept d → Kept (claim d) × Claimed (claim d)
+  unfolding claim
+  claim-ready (still, stays) =
+      let t : Turn = claimAfter (d .arb .turn) d in
+      ((still, loses-turn t t ∙ claim-keeps (d .arb .turn) stays), claim-turn t t ∙ claim-stays (d .arb .turn))
+
+-- ---- part 6: a fresh grant has its whole reserve before it, and an idle count of 0
+
+-- a zeroed idle count is right on any bus
+fresh-still : (b : Bus) → Still b → Still (withIdle 0 b)
+fresh-still b still = (still .0, still .1, λ h. refl)
+
+-- a reserve count of RT is 0 only for RT 00h, and an idle count of 0 is not 101
+fresh-keeps : (s : Side) (b : Bus) → runsOut s (s .rt) (withIdle 0 b) ≡ false
+fresh-keeps s b =
+    either (λ (x : Bool). x ≡ false) (eqb (s .rt) 0) (λ z. and-false (s .contr .idletimer)) (λ z. ap (λ (n : Bool). n && isIdle b) z)
+
+-- so a fresh owner does not lose at once, and an owner is the claimant, with no grant due
+granted-ready : (m : Master) (d : Device) → Still (d .bus) → Ready (granted m d)
+unfolding granted
+granted-ready Zero d still = ((fresh-still (d .bus) still, fresh-keeps (d .side0) (d .bus)), refl, refl)
+granted-ready One d still = ((fresh-still (d .bus) still, fresh-keeps (d .side1) (d .bus)), refl, refl)
+
+-- whoever is due is granted, so after part 6 nobody is
+grant-ready : (t : Turn) (d : Device) → d .arb .turn ≡ t → Kept d → Claimed d → Ready (grantFrom t d)
+unfolding grantFrom
+grant-ready Nobody d e kept claimed = (kept, claimed, ap (λ (t : Turn). isDue t d) e)
+grant-ready (Owns m) d e kept claimed = (kept, claimed, ap (λ (t : Turn). isDue t d) e)
+grant-ready (Claims m) d e kept claimed =
+    either Ready (isDue (Claims m) d)
+    (λ h. granted-ready m d (kept .0))
+    (λ h. (kept, claimed, ap (λ (t : Turn). isDue t d) e ∙ h))
+
+-- ---- a step leaves all of it, whatever the device was before
+
+-- part 2 levels, part 3 loses, 4 leaves both, 5 claims, 6 grants, and 7 leaves all
+parts-ready : (e : Event) (d : Device) → Ready (parts e d)
+unfolding parts losses cut grant
+parts-ready e d =
+    let levelled : Device = levels (isReset e) (d .bus) (effect e d) in
+    let three : Device = losses levelled in
+    let four : Device = cut (isTick e) three in
+    let five : Device = claim four in
+    let six : Device = grant five in
+    let seven : Device = connect (clockOf e) six in
+    let kept = losses-kept (levelled .arb .turn) levelled refl (levels-still (isReset e) (d .bus) (effect e d)) in
+    let claimed = claim-ready four (kept-by three four (sym (cut-bare (isTick e) (three .arb .turn) three)) kept) in
+    ready-by six seven (sym (connect-bare (clockOf e) six)) (grant-ready (five .arb .turn) five refl (claimed .0) (claimed .1))
+
+-- so it holds after every run, and at power-up
+all-ready : (rs : List Raw) → Ready (run rs)
+unfolding run powerUp freshSide
+all-ready rs = run-keeps Ready (λ e d h. parts-ready e d) powerUp rs (((λ h. refl, λ h. refl, λ h. refl), refl), refl, refl)
+
+-- ---- where all of it holds, parts 2 to 7 change nothing
+
+-- no line has moved, so there is neither START nor STOP
+busy-stays : (b : Bus) → busyAfter false b b ≡ b .busy
+busy-stays b = go (b .busy) (sclHigh b) (sdaHigh b)
+  where
+    go : (busy scl sda : Bool) → (busy || scl && scl && sda && not sda) && not (scl && scl && not sda && sda) ≡ busy
+    go true false sda = refl
+    go false false sda = refl
+    go true true true = refl
+    go true true false = refl
+    go false true true = refl
+    go false true false = refl
+
+-- counts that are 0 already are not zeroed
+zeroed : (t : Bool) (n : ℕ) → (t ≡ true → n ≡ 0) → (if t then 0 else n) ≡ n
+zeroed true n h = sym (h refl)
+zeroed false n h = refl
+
+zeroed-else : (t : Bool) (n : ℕ) → (t ≡ false → n ≡ 0) → (if t then n else 0) ≡ n
+zeroed-else true n h = refl
+zeroed-else false n h = sym (h refl)
+
+-- a still bus is levelled already
+bus-again : (b : Bus) → Still b → settledBus (b .busy) b ≡ b
+bus-again b still =
+    λ i. record {
+      outscl = b .outscl;
+      outsda = b .outsda;
+      intin = b .intin;
+      drivescl = b .drivescl;
+      drivesda = b .drivesda;
+      busy = b .busy;
+      hold = b .hold;
+      idle = zeroed-else (isIdle b) (b .idle) (still .2) i;
+      lowscl = zeroed (sclHigh b) (b .lowscl) (still .0) i;
+      lowsda = zeroed (sdaHigh b) (b .lowsda) (still .1) i;
+    }
+
+-- part 2
+levels-again : (d : Device) → Still (d .bus) → levels false (d .bus) d ≡ d
+unfolding levels
+levels-again d still =
+    ap (λ (b : Bus). withBus b d) (ap (λ (busy : Bool). settledBus busy (d .bus)) (busy-stays (d .bus)) ∙ bus-again (d .bus) still)
+
+-- part 3
+losses-again : (t : Turn) (d : Device) → loses t d ≡ false → lossesFrom t d ≡ d
+unfolding lossesFrom
+losses-again Nobody d h = refl
+losses-again (Claims m) d h = refl
+losses-again (Owns m) d h = if-false (lost m d) d h
+
+-- part 4, which needs a tick
+cut-again : (t : Turn) (d : Device) → cutFrom false t d ≡ d
+unfolding cutFrom
+cut-again Nobody d = refl
+cut-again (Claims m) d = refl
+cut-again (Owns m) d = refl
+
+-- part 5
+claim-again : (d : Device) → Claimed d → claim d ≡ d
+unfolding claim
+claim-again d h = ap (λ (t : Turn). withArb (withTurn t (d .arb)) d) h
+
+-- part 6
+grant-again : (t : Turn) (d : Device) → isDue t d ≡ false → grantFrom t d ≡ d
+unfolding grantFrom
+grant-again Nobody d h = refl
+grant-again (Claims m) d h = if-false (granted m d) d h
+grant-again (Owns m) d h = refl
+
+-- the switch is open where nobody owns and asks
+open-again : (d : Device) → Served d → ((j : Master) → owns j d && asksOn j d ≡ false) → switched Apart d ≡ d
+open-again d h none = ap (λ (w : Switch). switched w d) (sym (unserved (d .arb .switch) λ j. h j ∙ none j))
+
+-- where m does not ask, nobody is m and asks
+unasked : (j m : Master) (on : Master → Bool) → on m ≡ false → sameMaster j m && on j ≡ false
+unasked Zero Zero on h = h
+unasked Zero One on h = refl
+unasked One Zero on h = refl
+unasked One One on h = h
+
+-- with no clock, a switch that serves m goes on serving it
+kept-again : (m : Master) (w : Switch) (d : Device) → serves m w ≡ true → keptJoined NoClock m w d ≡ d
+unfolding keptJoined clocked
+kept-again m Apart d s = absurd (false≢true s)
+kept-again m (Initialising k n) d s = if-true d (joined m d) s
+kept-again m (Closed k) d s = if-true d (joined m d) s
+
+-- part 7: the switch serves the owner that asks already, and is open already if there is none
+connect-again : (t : Turn) (d : Device) → d .arb .turn ≡ t → Served d → connectFrom NoClock t d ≡ d
+unfolding connectFrom
+connect-again Nobody d e h = open-again d h λ j. ap (λ (t : Turn). ownsTurn j t && asksOn j d) e
+connect-again (Claims m) d e h = open-again d h λ j. ap (λ (t : Turn). ownsTurn j t && asksOn j d) e
+connect-again (Owns m) d e h =
+    either (λ (x : Device). x ≡ d) (asksOn m d)
+    (λ a. kept-again m (d .arb .switch) d (h m ∙ ap₂ _&&_ (turn-owns m (d .arb .turn) e) a))
+    (λ a. open-again d h λ j. ap (λ (t : Turn). ownsTurn j t && asksOn j d) e ∙ unasked j m (λ j. asksOn j d) a)
+
+-- parts 2 to 7, one after the other
+settles : (d : Device) → Ready d → Served d → settle d ≡ d
+unfolding losses cut grant connect
+settles d ((still, stays), claimed, waits) served =
+    ap (λ (x : Device). connect NoClock (grant (claim (cut false (losses x))))) (levels-again d still)
+    ∙ ap (λ (x : Device). connect NoClock (grant (claim (cut false x)))) (losses-again (d .arb .turn) d stays)
+    ∙ ap (λ (x : Device). connect NoClock (grant (claim x))) (cut-again (d .arb .turn) d)
+    ∙ ap (λ (x : Device). connect NoClock (grant x)) (claim-again d claimed)
+    ∙ ap (λ (x : Device). connect NoClock x) (grant-again (d .arb .turn) d waits)
+    ∙ connect-again (d .arb .turn) d refl served
+
+pub all-settled : AllSettled
+all-settled rs = settles (run rs) (all-ready rs) (all-served rs)

@@ -1,0 +1,117 @@
+-- Every row of specs/Witnesses.antt meets its premises: antt computes each. And they are the premises of the statement that the row is for:
+-- with the statement, they give what it concludes.
+-- Assumes nothing.
+use mathlib.Core.Path.{_≡_, refl, ap}
+use mathlib.Core.Bool.{Bool, true, false, not, _&&_, false≢true, and-eq-true-iff}
+use borrow.Author.Tests.{ltb-true, eqb-true, not-true}
+use Rattle.arbiter.specs.Types.{ℕ, _+_, List, [], _∷_, eqb, Master, Zero, One, Claims, Apart, Device, Raw, Event, Command, Write, Read, Stop, Pair, Lines, Tick, Pulse, Reset, GeneralCall, Decoded, Reads, UnknownKind, BadField}
+use Rattle.arbiter.specs.Words.{byteOf, partner, sameMaster}
+use Rattle.arbiter.specs.Registers.{contrByte, statusByte, registerByte, isAsserted, ownWritten, mailWritten, drivesWritten, turnWritten}
+use Rattle.arbiter.specs.Events.{decode, inSequence, acknowledged, outcome}
+use Rattle.arbiter.specs.Effects.{idleLimit, commanded, written, paired, wasRead, lined, ticked, freshSide, wasReset, powerUp, effect}
+use Rattle.arbiter.specs.Order.{levels, lost, lossesFrom, losses, cutFrom, cut, winner, claim, granted, grantFrom, grant, joined, clocked, keptJoined, connectFrom, connect}
+use Rattle.arbiter.specs.Steps.{parts, ownerByte, linesByte, byteRead, refused, taken, stepEvent, stepDecoded, step, runFrom, run}
+use Rattle.arbiter.specs.AuditWords.{next, reserveOf, idleTimerOn, isStopOf, acceptedAs, resting, reset, withdrawalOf, isAccepted, levelled, ticksIn, never, throughout}
+use Rattle.arbiter.specs.State.{owns}
+use Rattle.arbiter.specs.Audit.{OneConnected, ApartUnowned, ReserveLasts, PartnerNext, PartnerInTime, HeldUntilLetGo, IdleTimerExact, IdleTimerEnds, RefusedUnchanged}
+use Rattle.arbiter.specs.Witnesses.{oneConnected, apartUnowned, reserveLasts, nextAtRest, nextAtStop, partnerInTime, heldUntilLetGo, idleTimerExact, idleTimerEnds, refusedUnchanged, allMet, witnesses, WitnessesMeet}
+
+pub witnesses-meet : WitnessesMeet
+unfolding byteOf contrByte statusByte registerByte isAsserted ownWritten mailWritten drivesWritten turnWritten
+    decode inSequence acknowledged outcome commanded written paired wasRead lined ticked freshSide wasReset powerUp effect
+    levels lost lossesFrom losses cutFrom cut winner claim granted grantFrom grant joined clocked keptJoined connectFrom connect
+    parts ownerByte linesByte byteRead refused taken stepEvent stepDecoded step runFrom run
+    ticksIn never throughout witnesses
+witnesses-meet = refl
+
+-- ---- the tests of a row are the premises of its statement
+
+abbrev pub Holds : List Bool → Type 0
+Holds [] = Unit {0}
+Holds (b ∷ bs) = (b ≡ true) × Holds bs
+
+-- what is computed of a row says that each of its tests holds
+pub met-holds : (bs : List Bool) → allMet bs ≡ true → Holds bs
+met-holds [] h = tt
+met-holds (b ∷ bs) h =
+    let two = and-eq-true-iff b (allMet bs) .0 h in
+    (two .0, met-holds bs (two .1))
+
+-- and so, by the statement, what it concludes
+pub one-connected-met : OneConnected → (m : Master) (rs : List Raw) → Holds (oneConnected m rs) → owns m (run rs) ≡ true
+one-connected-met told m rs (c, _) = told rs m c .0
+
+pub apart-unowned-met : ApartUnowned → (rs : List Raw) → Holds (apartUnowned rs) → (run rs) .arb .switch ≡ Apart
+apart-unowned-met told rs (zero, (one, _)) = told rs none
+  where
+    none : (m : Master) → owns m (run rs) ≡ false
+    none Zero = not-true (owns Zero (run rs)) zero
+    none One = not-true (owns One (run rs)) one
+
+pub reserve-lasts-met : ReserveLasts → (m : Master) (rs : List Raw) (r : Raw) (later : List Raw) → Holds (reserveLasts m rs r later)
+    → owns m (runFrom (next (run rs) r) later) ≡ true
+reserve-lasts-met told m rs r later (taken, (ticks, (resets, (gone, _)))) =
+    let d : Device = next (run rs) r in
+    told m rs r later taken (ltb-true (ticksIn d later) (reserveOf m d) ticks) resets gone
+
+pub next-at-rest-met : PartnerNext → (m : Master) (rs : List Raw) (r : Raw) → Holds (nextAtRest m rs r) → owns (partner m) (next (run rs) r) ≡ true
+next-at-rest-met told m rs r (rest, (ended, (resets, (asks, _)))) = told m rs r ended (not-true (reset r (run rs)) resets) asks .0 rest
+
+-- four bytes that are accepted as p's STOP read as p's STOP
+same-stop : (p k : Master) → sameMaster p k ≡ true → Stop k ≡ Stop p
+same-stop Zero Zero h = refl
+same-stop Zero One h = absurd (false≢true h)
+same-stop One Zero h = absurd (false≢true h)
+same-stop One One h = refl
+
+event-stop : (p : Master) (e : Event) → isStopOf p e ≡ true → e ≡ Stop p
+event-stop p (Command k c) h = absurd (false≢true h)
+event-stop p (Write k v) h = absurd (false≢true h)
+event-stop p (Read k) h = absurd (false≢true h)
+event-stop p (Stop k) h = same-stop p k h
+event-stop p (Pair v0 v1) h = absurd (false≢true h)
+event-stop p (Lines scl sda intin) h = absurd (false≢true h)
+event-stop p Tick h = absurd (false≢true h)
+event-stop p (Pulse sda) h = absurd (false≢true h)
+event-stop p Reset h = absurd (false≢true h)
+event-stop p (GeneralCall k b) h = absurd (false≢true h)
+
+decoded-stop : (p : Master) (x : Decoded) (d : Device) → acceptedAs (λ (e : Event) (y : Device). isStopOf p e) x d ≡ true → x ≡ Reads (Stop p)
+decoded-stop p (Reads e) d h = ap Reads (event-stop p e (and-eq-true-iff (inSequence e d) (isStopOf p e) .0 h .1))
+decoded-stop p UnknownKind d h = absurd (false≢true h)
+decoded-stop p BadField d h = absurd (false≢true h)
+
+pub next-at-stop-met : PartnerNext → (m : Master) (rs : List Raw) (r : Raw) (later : List Raw) (t : Raw) → Holds (nextAtStop m rs r later t)
+    → let w : Device = runFrom (next (run rs) r) later in (w .arb .turn ≡ Claims (partner m)) × (owns (partner m) (next w t) ≡ true)
+next-at-stop-met told m rs r later t (busy, (resets, (gone, (stops, (stop, (ended, (reset-not, (asks, _)))))))) =
+    let p : Master = partner m in
+    let d : Device = next (run rs) r in
+    let is-next = told m rs r ended (not-true (reset r (run rs)) reset-not) asks .1 (not-true (resting p d) busy) later resets gone stops in
+    (is-next .0, is-next .1 t (decoded-stop p (decode t) (runFrom d later) stop))
+
+pub partner-in-time-met : PartnerInTime → (m : Master) (rs : List Raw) (r : Raw) (later : List Raw) (t : Raw) → Holds (partnerInTime m rs r later t)
+    → owns (partner m) (next (runFrom (next (run rs) r) later) t) ≡ true
+partner-in-time-met told m rs r later t (taken, (ticks, (now, (resets, (asks, (idle, (rest, _))))))) =
+    let d : Device = next (run rs) r in
+    told m rs r later t taken (eqb-true (ticksIn d later + 1) (reserveOf m d) ticks) now resets asks idle rest
+
+pub held-until-let-go-met : HeldUntilLetGo → (m : Master) (rs : List Raw) (r : Raw) (later : List Raw) → Holds (heldUntilLetGo m rs r later)
+    → owns m (runFrom (next (run rs) r) later) ≡ true
+held-until-let-go-met told m rs r later (taken, (none, (resets, (gone, (off, _))))) =
+    told m rs r later taken (eqb-true (reserveOf m (next (run rs) r)) 0 none) resets gone off
+
+pub idle-timer-exact-met : IdleTimerExact → (m : Master) (rs : List Raw) (r : Raw) → Holds (idleTimerExact m rs r)
+    → let d : Device = run rs in owns m (next d r) ≡ not (idleTimerOn m (levelled r d) && eqb ((levelled r d) .bus .idle) idleLimit)
+idle-timer-exact-met told m rs r (owner, (none, (reset-not, (gone-not, _)))) =
+    let d : Device = run rs in
+    told m rs r owner (eqb-true (reserveOf m d) 0 none) (not-true (reset r d) reset-not) (not-true (withdrawalOf m r d) gone-not)
+
+pub idle-timer-ends-met : IdleTimerEnds → (m : Master) (rs : List Raw) (r : Raw) (later : List Raw) (t : Raw) → Holds (idleTimerEnds m rs r later t)
+    → let w : Device = runFrom (next (run rs) r) later in (owns m w ≡ true) × (owns m (next w t) ≡ false)
+idle-timer-ends-met told m rs r later t (taken, (none, (resets, (gone, (idle, (ticks, (now, (last, _)))))))) =
+    let d : Device = next (run rs) r in
+    let ends = told m rs r later taken (eqb-true (reserveOf m d) 0 none) resets gone idle (ltb-true (ticksIn d later) idleLimit ticks) in
+    (ends .0, ends .1 t now (eqb-true (ticksIn d later + 1) idleLimit last))
+
+pub refused-unchanged-met : RefusedUnchanged → (n : ℕ) (d : Device) (r : Raw) → Holds (refusedUnchanged n d r) → next d r ≡ d
+refused-unchanged-met told n d r (refused-not, _) = told d r (not-true (isAccepted r d) refused-not)

@@ -1,0 +1,160 @@
+-- Runs that meet the premises of the auditor's statements (Audit), each for both masters: what is said there is said of runs that there are.
+-- proofs/Witnesses.antt proves the table whole.
+-- Assumes nothing.
+use mathlib.Core.Path.{_≡_}
+use Rattle.arbiter.specs.Types.{ℕ, _+_, Bool, true, not, _&&_, List, [], _∷_, _++_, eqb, ltb, Master, Zero, One, Device, Raw}
+use Rattle.arbiter.specs.Words.{partner, of}
+use Rattle.arbiter.specs.State.{owns, connected, isIdle}
+use Rattle.arbiter.specs.Effects.{idleLimit}
+use Rattle.arbiter.specs.Steps.{step, runFrom, run}
+use Rattle.arbiter.specs.AuditWords.{next, requests, resting, reserveOf, idleTimerOn, isAccepted, reset, tick, withdrawalOf, stopOf, grantTaken, grantEnded, ticksIn, never, throughout}
+use Rattle.arbiter.specs.Marks.{raw, command, write, stop, pair, lines, tick as aTick, pulse, sets, times}
+
+-- ---- the premises of each statement, in its order, as tests
+
+abbrev pub oneConnected : Master → List Raw → List Bool
+oneConnected m rs = connected m (run rs) ∷ []
+
+abbrev pub apartUnowned : List Raw → List Bool
+apartUnowned rs = not (owns Zero (run rs)) ∷ not (owns One (run rs)) ∷ []
+
+abbrev pub reserveLasts : Master → List Raw → Raw → List Raw → List Bool
+reserveLasts m rs r later =
+    let d : Device = next (run rs) r in
+    grantTaken m r (run rs) ∷ ltb (ticksIn d later) (reserveOf m d) ∷ never reset d later ∷ never (withdrawalOf m) d later ∷ []
+
+abbrev pub partnerNext : Master → List Raw → Raw → List Bool
+partnerNext m rs r = grantEnded m r (run rs) ∷ not (reset r (run rs)) ∷ requests (partner m) (next (run rs) r) ∷ []
+
+-- next, and at rest: it owns at once
+abbrev pub nextAtRest : Master → List Raw → Raw → List Bool
+nextAtRest m rs r = resting (partner m) (next (run rs) r) ∷ partnerNext m rs r
+
+-- next, and not at rest: it waits through `later`, and t is its STOP
+abbrev pub nextAtStop : Master → List Raw → Raw → List Raw → Raw → List Bool
+nextAtStop m rs r later t =
+    let d : Device = next (run rs) r in
+    let p : Master = partner m in
+    not (resting p d)
+    ∷ never reset d later ∷ never (withdrawalOf p) d later ∷ never (stopOf p) d later ∷ stopOf p t (runFrom d later)
+    ∷ partnerNext m rs r
+
+abbrev pub partnerInTime : Master → List Raw → Raw → List Raw → Raw → List Bool
+partnerInTime m rs r later t =
+    let d : Device = next (run rs) r in
+    let end : Device = next (runFrom d later) t in
+    grantTaken m r (run rs) ∷ eqb (ticksIn d later + 1) (reserveOf m d) ∷ tick t (runFrom d later) ∷ never reset d later
+    ∷ throughout (requests (partner m)) d (later ++ t ∷ []) ∷ isIdle (end .bus) ∷ resting (partner m) end ∷ []
+
+abbrev pub heldUntilLetGo : Master → List Raw → Raw → List Raw → List Bool
+heldUntilLetGo m rs r later =
+    let d : Device = next (run rs) r in
+    grantTaken m r (run rs) ∷ eqb (reserveOf m d) 0 ∷ never reset d later ∷ never (withdrawalOf m) d later
+    ∷ throughout (λ (x : Device). not (idleTimerOn m x)) d later ∷ []
+
+abbrev pub idleTimerExact : Master → List Raw → Raw → List Bool
+idleTimerExact m rs r =
+    let d : Device = run rs in
+    owns m d ∷ eqb (reserveOf m d) 0 ∷ not (reset r d) ∷ not (withdrawalOf m r d) ∷ []
+
+abbrev pub idleTimerEnds : Master → List Raw → Raw → List Raw → Raw → List Bool
+idleTimerEnds m rs r later t =
+    let d : Device = next (run rs) r in
+    grantTaken m r (run rs) ∷ eqb (reserveOf m d) 0 ∷ never reset d later ∷ never (withdrawalOf m) d later
+    ∷ throughout (λ (x : Device). idleTimerOn m x && isIdle (x .bus)) d later ∷ ltb (ticksIn d later) idleLimit
+    ∷ tick t (runFrom d later) ∷ eqb (ticksIn d later + 1) idleLimit ∷ []
+
+-- and refused with this number
+abbrev pub refusedUnchanged : ℕ → Device → Raw → List Bool
+refusedUnchanged number d r = not (isAccepted r d) ∷ eqb (step d r .answer .outcome) number ∷ []
+
+-- ---- the events of a master, and of the bus outside
+
+abbrev pub number : Master → ℕ
+number m = of m 0 1
+
+-- m sets its RT, or its CONTR, from COMMAND to STOP
+abbrev pub setsRt : Master → ℕ → List Raw
+setsRt m v = sets (number m) 3 v
+
+abbrev pub setsContr : Master → ℕ → List Raw
+setsContr m v = sets (number m) 1 v
+
+-- m writes its CONTR and keeps its port open
+abbrev pub writesContr : Master → ℕ → List Raw
+writesContr m v = command (number m) 1 ∷ write (number m) v ∷ []
+
+abbrev pub stopOn : Master → Raw
+stopOn m = stop (number m)
+
+-- a START, and the STOP after it
+abbrev pub busStart : Raw
+busStart = lines 1 0 1
+
+abbrev pub busStop : Raw
+busStop = lines 1 1 1
+
+-- ---- the rows
+
+abbrev pub bothMasters : (Master → List Bool) → List Bool
+bothMasters f = f Zero ++ f One
+
+-- master 0 owns and is connected
+abbrev pub inUse : Device
+inUse = run (setsContr Zero 0x05)
+
+unfoldable pub witnesses : List Bool
+witnesses =
+    -- connected at once, and by an initialisation
+    bothMasters (λ m. oneConnected m (setsContr m 0x05))
+    ++ bothMasters (λ m. oneConnected m (setsContr m 0x0D ++ pulse 1 ∷ []))
+    -- nobody owns: before any event, after the withdrawal of a connected owner, and after the loss of one that was initialising
+    ++ apartUnowned []
+    ++ bothMasters (λ m. apartUnowned (setsContr m 0x05 ++ writesContr m 0x04))
+    ++ bothMasters (λ m. apartUnowned (setsRt m 2 ++ setsContr m 0x0D ++ times 2 aTick))
+    -- RT 50, 49 ticks: the partner asks, the bus is busy for a while, and an RT of 1 is written in vain
+    ++ bothMasters
+    (λ m. reserveLasts m (setsRt m 50 ++ writesContr m 0x01) (stopOn m) (setsContr (partner m) 0x81 ++ busStart ∷ times 20 aTick ++ busStop ∷ setsRt m 1 ++ times 29 aTick))
+    -- RT 1, no tick but a refused STOP; RT 255, 254 ticks, timer on
+    ++ bothMasters (λ m. reserveLasts m (setsRt m 1 ++ writesContr m 0x01) (stopOn m) (setsContr (partner m) 0x81 ++ stopOn m ∷ []))
+    ++ bothMasters (λ m. reserveLasts m (setsRt m 255 ++ writesContr m 0x21) (stopOn m) (setsContr (partner m) 0x01 ++ times 254 aTick))
+    -- a loss, and a withdrawal, with the partner at rest
+    ++ bothMasters (λ m. nextAtRest m (setsRt m 5 ++ setsContr m 0x01 ++ setsContr (partner m) 0x01 ++ times 4 aTick) aTick)
+    ++ bothMasters (λ m. nextAtRest m (setsContr m 0x81 ++ setsContr (partner m) 0x01 ++ command (number m) 1 ∷ []) (write (number m) 0x00))
+    -- a withdrawal with the partner's port open: the one that let go asks again and stops before the partner's STOP
+    ++ bothMasters
+    (λ m. nextAtStop m (setsContr m 0x81 ++ writesContr (partner m) 0x01 ++ command (number m) 1 ∷ []) (write (number m) 0x00)
+    (write (number m) 0x81 ∷ stopOn m ∷ times 3 aTick) (stopOn (partner m)))
+    -- a PAIR in which the owner withdraws and its partner asks
+    ++ bothMasters
+    (λ m. nextAtStop m (setsContr m 0x01 ++ command 0 1 ∷ command 1 1 ∷ []) (pair (of m 0x00 0x01) (of m 0x01 0x00)) (aTick ∷ []) (stopOn (partner m)))
+    -- RT 5, the partner asks before the grant: on an idle bus, and on one that is busy for a while
+    ++ bothMasters
+    (λ m. partnerInTime m (setsRt m 5 ++ writesContr m 0x01 ++ setsContr (partner m) 0x01) (stopOn m) (times 4 aTick) aTick)
+    ++ bothMasters
+    (λ m. partnerInTime m (setsRt m 5 ++ writesContr m 0x01 ++ setsContr (partner m) 0x01) (stopOn m)
+    (aTick ∷ busStart ∷ aTick ∷ aTick ∷ busStop ∷ aTick ∷ []) aTick)
+    -- RT 00h, timer off, the partner waits for 300 ticks
+    ++ bothMasters (λ m. heldUntilLetGo m (writesContr m 0x01) (stopOn m) (setsContr (partner m) 0x81 ++ times 300 aTick))
+    -- RT 00h, timer on: ticks 100 and 101 on an idle bus; and the timer turned on when the count has long been 101
+    ++ bothMasters (λ m. idleTimerExact m (setsContr m 0x21 ++ times 99 aTick) aTick)
+    ++ bothMasters (λ m. idleTimerExact m (setsContr m 0x21 ++ times 100 aTick) aTick)
+    ++ bothMasters (λ m. idleTimerExact m (setsContr m 0x01 ++ times 120 aTick ++ command (number m) 1 ∷ []) (write (number m) 0x21))
+    ++ bothMasters (λ m. idleTimerEnds m (writesContr m 0x21) (stopOn m) (setsContr (partner m) 0x01 ++ times 100 aTick) aTick)
+    -- refused: an unknown kind; a master out of range, and an unused field not 0; a WRITE, a PAIR, a STOP and a PULSE out of sequence
+    ++ refusedUnchanged 2 inUse (raw 10 0 0 0)
+    ++ refusedUnchanged 3 inUse (command 2 1)
+    ++ refusedUnchanged 3 inUse (raw 6 0 0 1)
+    ++ refusedUnchanged 4 inUse (write 0 0x00)
+    ++ refusedUnchanged 4 (next inUse (command 0 1)) (pair 0x00 0x01)
+    ++ refusedUnchanged 4 inUse (stop 0)
+    ++ refusedUnchanged 4 inUse (pulse 1)
+
+-- ---- the one statement: every premise of every row is met
+
+abbrev pub allMet : List Bool → Bool
+allMet [] = true
+allMet (b ∷ bs) = b && allMet bs
+
+abbrev pub WitnessesMeet : Type 0
+WitnessesMeet = allMet witnesses ≡ true
