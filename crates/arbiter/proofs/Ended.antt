@@ -3,7 +3,7 @@
 use mathlib.Core.Path.{_≡_, refl, sym, ap, _∙_}
 use mathlib.Core.Bool.{Bool, true, false, not, _&&_, true≢false, false≢true, and-eq-true-iff, and-not-self}
 use borrow.Author.Tests.{not-true}
-use Rattle.arbiter.specs.Types.{ℕ, Master, Zero, One, Turn, Nobody, Claims, Owns, Register, Id, Contr, Status, Rt, IntStatus, IntMask, MailLow, MailHigh, Control, Side, Clock, Device, Raw, Event, Command, Write, Read, Stop, Pair, Lines, Tick, Pulse, Reset, GeneralCall, Stepped}
+use Rattle.arbiter.specs.Types.{ℕ, Master, Zero, One, Turn, Nobody, Claims, Owns, Register, Id, Contr, Status, Rt, IntStatus, IntMask, MailLow, MailHigh, Control, Side, Clock, Device, Event, Command, Write, Read, Stop, Pair, Lines, Tick, Pulse, Reset, GeneralCall, Stepped}
 use Rattle.arbiter.specs.Words.{partner, sameMaster, side, device}
 use Rattle.arbiter.specs.Parts.{withContr, withSide}
 use Rattle.arbiter.specs.State.{ownsTurn, owns}
@@ -12,7 +12,7 @@ use Rattle.arbiter.specs.Events.{softReset}
 use Rattle.arbiter.specs.Effects.{writeRisen, partnerSide, holdAsked, written, paired, wasRead, lined, ticked, freshSide, wasReset, effect}
 use Rattle.arbiter.specs.Order.{isReset, isTick, clockOf, levels, runsOut, lost, lossesFrom, losses, cutFrom, cut, claimAfter, claim, granted, grantFrom, grant, connect}
 use Rattle.arbiter.specs.Steps.{parts, taken, refused}
-use Rattle.arbiter.specs.AuditWords.{next, grantEnded}
+use Rattle.arbiter.specs.Audit.{EndsDisconnected}
 use Rattle.arbiter.proofs.Choice.{either, split, if-true, if-false}
 use Rattle.arbiter.proofs.Cases.{cut-cases, new-cases, claim-cases, grant-cases, connect-cases, step-cases}
 use Rattle.arbiter.proofs.Connected.{asksOn, partner-not}
@@ -224,7 +224,7 @@ parts-off m e d o =
     (claim-off m (cut (isTick e) three)
     (cut-off m (isTick e) (three .arb .turn) three (losses-off m (two .arb .turn) two refl (effect-off m e d o)))))
 
-pub ends-disconnected : (m : Master) (d : Device) (r : Raw) → grantEnded m r d ≡ true → asksOn m (next d r) ≡ false
+pub ends-disconnected : EndsDisconnected
 unfolding taken refused
 ends-disconnected m d r =
     step-cases (λ (s : Stepped). owns m d && not (owns m (s .device)) ≡ true → asksOn m (s .device) ≡ false) d r

@@ -8,6 +8,7 @@ use Rattle.arbiter.specs.Words.{if_then_else_, side}
 use Rattle.arbiter.specs.Parts.{withTurn, withSide, withArb}
 use Rattle.arbiter.specs.State.{atRest}
 use Rattle.arbiter.specs.Order.{isTick, clockOf, lossesFrom, losses, cutFrom, cut, claimAfter, claim, granted, grantFrom, grant, connect}
+use Rattle.arbiter.specs.AuditWords.{resting}
 use Rattle.arbiter.proofs.Cases.{cut-cases, new-cases, claim-cases, grant-cases, connect-cases}
 use Rattle.arbiter.proofs.Effects.{kept}
 
@@ -161,10 +162,11 @@ after-turn e d h = ap (λ x. x .4) (after-unowned e d h) ∙ grant-turn (claimed
 
 -- ---- a new grant
 
--- m's grant is new: the reserve count is m's RT, the idle count is 0, and no hold runs.
+-- m's grant is new: the reserve count is m's RT, the idle count is 0, m's port is at rest, and no hold runs.
 pub record Fresh (m : Master) (d : Device) : Type 0 where
   pub reserve : d .arb .reserve ≡ (side m d) .rt
   pub idle : d .bus .idle ≡ 0
+  pub rest : resting m d ≡ true
   pub hold : d .bus .hold ≡ 0
 
 -- It is read off what `still` names,
@@ -173,14 +175,19 @@ fresh-still m n d e h =
     record {
       reserve = ap (λ x. x .3) e ∙ h .reserve ∙ sym (ap (λ x. x .2) (side-kept m n d (still-sides n d e)));
       idle = ap (λ x. x .2 .idle) e ∙ h .idle;
+      rest = ap (λ x. atRest (x .3)) (side-kept m n d (still-sides n d e)) ∙ h .rest;
       hold = ap (λ x. x .2 .hold) e ∙ h .hold;
     }
 
 -- and part 6 makes it so:
-granted-fresh : (m : Master) (d : Device) → d .bus .hold ≡ 0 → Fresh m (granted m d)
+granted-fresh : (m : Master) (d : Device) → resting m d && eqb (d .bus .hold) 0 ≡ true → Fresh m (granted m d)
 unfolding granted
-granted-fresh Zero d h = record { reserve = refl; idle = refl; hold = h }
-granted-fresh One d h = record { reserve = refl; idle = refl; hold = h }
+granted-fresh Zero d h =
+    let both = and-eq-true-iff (resting Zero d) (eqb (d .bus .hold) 0) .0 h in
+    record { reserve = refl; idle = refl; rest = both .0; hold = eqb-true (d .bus .hold) 0 (both .1) }
+granted-fresh One d h =
+    let both = and-eq-true-iff (resting One d) (eqb (d .bus .hold) 0) .0 h in
+    record { reserve = refl; idle = refl; rest = both .0; hold = eqb-true (d .bus .hold) 0 (both .1) }
 
 -- a turn has one owner,
 pub owner-same : (k m : Master) → Owns k ≡ Owns m → k ≡ m
@@ -198,7 +205,7 @@ grant-fresh m (Claims k) d u h = go (atRest ((side k d) .port) && eqb (d .bus .h
     go : (b : Bool) → atRest ((side k d) .port) && eqb (d .bus .hold) 0 ≡ b → (g b) .arb .turn ≡ Owns m → Fresh m (g b)
     go true t o =
         subst (λ (j : Master). Fresh j (granted k (turned (Claims k) d))) (owner-same k m o)
-        (granted-fresh k (turned (Claims k) d) (eqb-true (d .bus .hold) 0 (and-eq-true-iff (atRest ((side k d) .port)) (eqb (d .bus .hold) 0) .0 t .1)))
+        (granted-fresh k (turned (Claims k) d) t)
     go false t o = absurd (false≢true (ap owned o))
 grant-fresh m (Owns k) d u h = absurd (true≢false u)
 

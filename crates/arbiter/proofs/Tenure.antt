@@ -12,6 +12,7 @@ use Rattle.arbiter.specs.State.{owns, isIdle}
 use Rattle.arbiter.specs.Effects.{idleLimit, ticked, effect, powerUp}
 use Rattle.arbiter.specs.Order.{isReset, isTick, levels, runsOut}
 use Rattle.arbiter.specs.Steps.{parts, run}
+use Rattle.arbiter.specs.Audit.{GrantedAtRest}
 use Rattle.arbiter.specs.AuditWords.{next, reserveOf, letsGo, reset, tick, withdrawalOf, grantTaken, levelled}
 use Rattle.arbiter.proofs.Choice.{split, if-true, if-false, not-true, owns-turn, turn-owns}
 use Rattle.arbiter.proofs.Cases.{step-keeps, run-keeps}
@@ -112,6 +113,9 @@ taken-fresh m r d h =
       | takes e x ↦ subst (Fresh m) (sym (x .after)) (parts-fresh m e d o (sym (ap (λ (n : Device). n .arb .turn) (x .after)) ∙ t))
     ]
     in (f, fresh-owner m (next d r) t f)
+
+pub granted-at-rest : GrantedAtRest
+granted-at-rest m d r h = let fresh = taken-fresh m r d h .0 in (fresh .rest, fresh .hold)
 
 -- ---- one event
 

@@ -3,8 +3,8 @@
 -- Assumes nothing.
 use Prim.Native.Nat.{_<_}
 use mathlib.Core.Path.{_≡_}
-use Rattle.arbiter.specs.Types.{ℕ, _+_, _/_, _%_, Bool, true, false, not, _&&_, _||_, List, [], _∷_, _++_, eqb, ltb, Master, Claims, Contr, Status, Apart, NoClock, Device, Raw, Stop, Reads}
-use Rattle.arbiter.specs.Words.{bit, partner}
+use Rattle.arbiter.specs.Types.{ℕ, _+_, _/_, _%_, true, false, not, _&&_, _||_, List, [], _∷_, _++_, eqb, ltb, Master, Claims, Contr, Status, Apart, NoClock, Device, Raw, Stop, Reads}
+use Rattle.arbiter.specs.Words.{bit, partner, side}
 use Rattle.arbiter.specs.State.{owns, connected, isInitialising, isIdle}
 use Rattle.arbiter.specs.Registers.{readsAt}
 use Rattle.arbiter.specs.Events.{decode}
@@ -120,6 +120,16 @@ IdleTimerEnds =
     → throughout (λ (x : Device). idleTimerOn m x && isIdle (x .bus)) d later ≡ true → ticksIn d later < idleLimit
     → (owns m (runFrom d later) ≡ true)
     × ((t : Raw) → tick t (runFrom d later) ≡ true → ticksIn d later + 1 ≡ idleLimit → owns m (next (runFrom d later) t) ≡ false)
+
+-- ---- How a grant begins and ends, whatever the device
+
+-- A grant is given only to a master whose port is at rest, after its STOP, and while no hold runs.
+abbrev pub GrantedAtRest : Type 0
+GrantedAtRest = (m : Master) (d : Device) (r : Raw) → grantTaken m r d ≡ true → (resting m (next d r) ≡ true) × ((next d r) .bus .hold ≡ 0)
+
+-- Whatever ends a grant, the holder's BUS_CONNECT is 0 after it.
+abbrev pub EndsDisconnected : Type 0
+EndsDisconnected = (m : Master) (d : Device) (r : Raw) → grantEnded m r d ≡ true → (side m (next d r)) .contr .busconnect ≡ false
 
 -- ---- What a step leaves
 

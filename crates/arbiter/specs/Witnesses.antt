@@ -1,5 +1,6 @@
 -- Runs that meet the premises of the auditor's statements (Audit), each for both masters: what is said there is said of runs that there are.
--- proofs/Witnesses.antt proves the table whole.
+-- proofs/Witnesses.antt proves the table whole. GrantedAtRest and EndsDisconnected ask for a grant taken and for a grant ended, which stand
+-- among the premises of ReserveLasts and PartnerNext.
 -- Assumes nothing.
 use mathlib.Core.Path.{_≡_}
 use Rattle.arbiter.specs.Types.{ℕ, _+_, Bool, true, not, _&&_, List, [], _∷_, _++_, eqb, ltb, Master, Zero, One, Device, Raw}
