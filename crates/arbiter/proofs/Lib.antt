@@ -19,3 +19,4 @@ pub mod Timer
 pub mod IdleCount
 pub mod Marks
 pub mod Witnesses
+pub mod Once

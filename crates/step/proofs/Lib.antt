@@ -1,2 +1,3 @@
 pub mod Quiet
 pub mod Laws
+pub mod Unique

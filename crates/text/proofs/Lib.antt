@@ -2,3 +2,4 @@ pub mod Stores
 pub mod Lines
 pub mod Listed
 pub mod Long
+pub mod Unique

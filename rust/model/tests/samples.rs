@@ -82,9 +82,12 @@ fn mail_goes_both_ways() {
     assert_eq!(bytes_read("mail"), [0x20, 0x34, 0x12, 0x10, 0xCD, 0xAB]);
 }
 
-/// STATUS bit 0 of each loser in turn, then LOCK_GRANT of the second winner.
+/// Both ask, both let go, both ask. STATUS bit 0 of each loser in turn, then LOCK_GRANT of the second winner.
 #[test]
 fn pair_has_each_win_once() {
+    let pairs = run("pair").into_iter().filter(|(event, _)| event[0] == 4);
+    let both_ask: Vec<bool> = pairs.map(|(event, _)| event[1] & event[2] & 1 == 1).collect();
+    assert_eq!(both_ask, [true, false, true]);
     assert_eq!(bytes_read("pair"), [0xC9, 0xC9, 0x83]);
 }
 
