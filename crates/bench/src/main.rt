@@ -9,7 +9,7 @@ use arbiter::Answer;
 use arbiter::Device;
 use arbiter::Raw;
 use arbiter::TraceRead;
-use lent::step_standing;
+use lent::step_lent;
 use libc::STDIN_FILENO;
 use libc::STDOUT_FILENO;
 use printing::print_listing;
@@ -94,9 +94,9 @@ fn drive(t: &[u8], n: usize) -> Device
     let mut standing = fresh();
     let mut i: usize = 0;
     while i < n {
-        let s = step_standing(standing, event_at(t, i));
-        print_answer(s.answer);
-        standing = s.device;
+        let r = event_at(t, i);
+        let a = step_lent(&mut standing, r);
+        print_answer(a);
         i += 1;
     }
     standing

@@ -1,7 +1,7 @@
 -- `lent::step_lent` meets its contract: a walk of its MIR, by hand. The borrow is opened, the record is copied out, `step_device` is called on it, the device that it returns is stored whole, and the borrow is closed at it.
 -- All that the proof knows of `step_device` is that it meets its contract. No field of the record is named here.
 -- Assumes nothing.
-use mathlib.Core.Path.{_≡_, refl, ap, _∙_}
+use mathlib.Core.Path.{_≡_, refl, ap}
 use Prim.Native.Nat.{ℕ}
 use mathlib.Core.List.{[], _∷_, List}
 use lib.Dec.{T as Holds}
