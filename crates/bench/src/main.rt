@@ -1,0 +1,136 @@
+// The bench: one standing device, lent to each event of the trace on standard input. It prints what the listing does.
+ghost use Prim.Native.Nat.{_+_, _*_, _≤_, _<_};
+ghost use mathlib.Core.Path.{_≡_};
+ghost use lib.ListN.{length};
+ghost use Rattle.arbiter.specs.Steps.{run};
+ghost use Rattle.arbiter.specs.Traces.{eventsIn};
+ghost use Rattle.traces.specs.Bodies.{rawAt};
+use arbiter::Answer;
+use arbiter::Device;
+use arbiter::Raw;
+use arbiter::TraceRead;
+use lent::step_lent;
+use libc::STDIN_FILENO;
+use libc::STDOUT_FILENO;
+use printing::print_listing;
+use step::fresh;
+use traces::read_trace;
+
+const NAME: [u8; 5] = [b'b', b'e', b'n', b'c', b'h'];
+
+// ---- the standing device
+
+// The four bytes of event i.
+fn event_at(t: &[u8], i: usize) -> Raw
+    requires { ⌜ 7 + 4 * i + 4 ≤ length (now t) ⌝ }
+    ensures { λ r. ⌜ r ≡ rawAt (now (t .entry)) (7 + 4 * i) ⌝ }
+{
+    let at = 7 + 4 * i;
+    Raw {
+        kind: t[at],
+        x: t[at + 1],
+        y: t[at + 2],
+        z: t[at + 3],
+    }
+}
+
+// ---- printing
+
+fn hex_digit(n: u8) -> u8
+    requires { ⌜ n < 16 ⌝ }
+{
+    if n < 10 { 0x30 + n } else { 0x37 + n }
+}
+
+fn high(v: u8) -> u8 {
+    hex_digit(v / 16 % 16)
+}
+
+fn low(v: u8) -> u8 {
+    hex_digit(v % 16)
+}
+
+fn print_head(address: u8, n: usize)
+    requires { ⌜ n ≤ 4096 ⌝ }
+{
+    let h = (n / 256) as u8;
+    let l = (n % 256) as u8;
+    let line = [
+        high(address),
+        low(address),
+        b' ',
+        high(h),
+        low(h),
+        high(l),
+        low(l),
+        b'\n',
+    ];
+    io::write_all(STDOUT_FILENO, &line);
+}
+
+fn print_answer(a: Answer) {
+    let line = [
+        high(a.outcome),
+        low(a.outcome),
+        high(a.read),
+        low(a.read),
+        high(a.owner),
+        low(a.owner),
+        high(a.lines),
+        low(a.lines),
+        b'\n',
+    ];
+    io::write_all(STDOUT_FILENO, &line);
+}
+
+// ---- the program
+
+// The n events of a trace, each answered by a line. The device stands here from power-up on: each step has it lent, and leaves the new
+// state in it.
+fn drive(t: &[u8], n: usize) -> Device
+    requires { ⌜ 7 + 4 * n ≤ length (now t) ⌝ }
+    ensures { λ r. ⌜ r ≡ run (eventsIn n (now (t .entry))) ⌝ }
+{
+    let mut standing = fresh();
+    let mut i: usize = 0;
+    while i < n {
+        let r = event_at(t, i);
+        let a = step_lent(&mut standing, r);
+        print_answer(a);
+        i += 1;
+    }
+    standing
+}
+
+fn print_accepted(t: &[u8], address: u8, n: usize)
+    requires { ⌜ (7 + 4 * n ≤ length (now t)) × (n ≤ 4096) ⌝ }
+{
+    print_head(address, n);
+    drive(t, n);
+}
+
+// A refused trace has no events to drive: its listing is its number.
+fn print_trace(t: &[u8]) {
+    let read = read_trace(t, 16384);
+    match read {
+        TraceRead::Refused(_) => {
+            print_listing(t);
+        }
+        TraceRead::Accepted(address, n) => print_accepted(t, address, n),
+    }
+}
+
+fn main() {
+    // A trace has at most 7 + 4 * 4096 bytes; one more tells a longer input.
+    let mut input = [0u8; 16392];
+    let n = io::read_full(STDIN_FILENO, &mut input);
+    // errno is 0 when a program starts, and reads and writes that succeed leave it so.
+    if os::errno() != 0 {
+        os::fail(&NAME);
+        return;
+    }
+    print_trace(&input[..n]);
+    if os::errno() != 0 {
+        os::fail(&NAME);
+    }
+}
