@@ -1,5 +1,5 @@
 // The bench: one standing device, lent to each event of the trace on standard input. It prints what the listing does.
-ghost use Prim.Native.Nat.{_+_, _*_, _≤_, _<_};
+ghost use Prim.Native.Nat.{_+_, _*_, _≤_};
 ghost use mathlib.Core.Path.{_≡_};
 ghost use lib.ListN.{length};
 ghost use Rattle.arbiter.specs.Steps.{run};
@@ -14,6 +14,8 @@ use libc::STDIN_FILENO;
 use libc::STDOUT_FILENO;
 use printing::print_listing;
 use step::fresh;
+use text::high_digit;
+use text::low_digit;
 use traces::read_trace;
 
 const NAME: [u8; 5] = [b'b', b'e', b'n', b'c', b'h'];
@@ -36,33 +38,19 @@ fn event_at(t: &[u8], i: usize) -> Raw
 
 // ---- printing
 
-fn hex_digit(n: u8) -> u8
-    requires { ⌜ n < 16 ⌝ }
-{
-    if n < 10 { 0x30 + n } else { 0x37 + n }
-}
-
-fn high(v: u8) -> u8 {
-    hex_digit(v / 16 % 16)
-}
-
-fn low(v: u8) -> u8 {
-    hex_digit(v % 16)
-}
-
 fn print_head(address: u8, n: usize)
     requires { ⌜ n ≤ 4096 ⌝ }
 {
     let h = (n / 256) as u8;
     let l = (n % 256) as u8;
     let line = [
-        high(address),
-        low(address),
+        high_digit(address),
+        low_digit(address),
         b' ',
-        high(h),
-        low(h),
-        high(l),
-        low(l),
+        high_digit(h),
+        low_digit(h),
+        high_digit(l),
+        low_digit(l),
         b'\n',
     ];
     io::write_all(STDOUT_FILENO, &line);
@@ -70,14 +58,14 @@ fn print_head(address: u8, n: usize)
 
 fn print_answer(a: Answer) {
     let line = [
-        high(a.outcome),
-        low(a.outcome),
-        high(a.read),
-        low(a.read),
-        high(a.owner),
-        low(a.owner),
-        high(a.lines),
-        low(a.lines),
+        high_digit(a.outcome),
+        low_digit(a.outcome),
+        high_digit(a.read),
+        low_digit(a.read),
+        high_digit(a.owner),
+        low_digit(a.owner),
+        high_digit(a.lines),
+        low_digit(a.lines),
         b'\n',
     ];
     io::write_all(STDOUT_FILENO, &line);

@@ -1,5 +1,5 @@
 // The listing of a trace, as text in a lent buffer: a line with the address and the count, then a line an answer; or R and the number.
-ghost use Prim.Native.Nat.{_+_, _*_, _≤_, _<_};
+ghost use Prim.Native.Nat.{_+_, _*_, _/_, _%_, _≤_, _<_};
 ghost use mathlib.Core.Path.{_≡_};
 ghost use mathlib.Core.List.{_++_, _∷_};
 ghost use lib.ListN.{length, drop};
@@ -21,13 +21,25 @@ fn hex_digit(n: u8) -> u8
     if n < 10 { 0x30 + n } else { 0x37 + n }
 }
 
-// A byte as two digits.
+// A byte's two digits.
+pub fn high_digit(v: u8) -> u8
+    ensures { λ r. ⌜ r ≡ hexDigit (v / 16 % 16) ⌝ }
+{
+    hex_digit(v / 16 % 16)
+}
+
+pub fn low_digit(v: u8) -> u8
+    ensures { λ r. ⌜ r ≡ hexDigit (v % 16) ⌝ }
+{
+    hex_digit(v % 16)
+}
+
 fn put_hex(text: &mut [u8], at: usize, v: u8)
     requires { ⌜ at + 2 ≤ length (now text) ⌝ }
     ensures { λ _. ⌜ now (text .exit) ≡ sets (now (text .entry)) at (hex2 v) ⌝ }
 {
-    text[at] = hex_digit(v / 16 % 16);
-    text[at + 1] = hex_digit(v % 16);
+    text[at] = high_digit(v);
+    text[at + 1] = low_digit(v);
 }
 
 // ---- lines

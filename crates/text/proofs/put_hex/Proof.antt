@@ -7,14 +7,14 @@ use borrow.Author.Needs.{needs}
 use Rattle.text.proofs.put_hex.Statement.{statement}
 use Rattle.text.proofs.put_hex.Tie as tie
 
-hex-digit-requires : tie.Need-hex-digit-requires
-hex-digit-requires c κs = search needs
+high-digit-requires : tie.Need-high-digit-requires
+high-digit-requires c κs = search needs
 
 slice-write-text : tie.Need-slice-write-text
 slice-write-text c = search needs
 
-hex-digit-requires-2 : tie.Need-hex-digit-requires-2
-hex-digit-requires-2 c κs = search needs
+low-digit-requires : tie.Need-low-digit-requires
+low-digit-requires c κs = search needs
 
 add-text : tie.Need-add-text
 add-text c = search needs
@@ -26,15 +26,15 @@ same-length : tie.Need-same-length
 same-length c = search needs
 
 returns : tie.Need-returns
-returns c = simp (c .hex-digit2 .ensures, c .before .hex-digit .ensures, add-one)
+returns c = simp (c .low-digit .ensures, c .before .high-digit .ensures, add-one)
 
 pub put-hex-spec : {M : Type 1} → statement M
 put-hex-spec =
     tie.close
     (tie.spec
-    hex-digit-requires
+    high-digit-requires
     slice-write-text
-    hex-digit-requires-2
+    low-digit-requires
     add-text
     slice-write-text-2
     same-length
