@@ -20,22 +20,6 @@ use traces::read_trace;
 
 const NAME: [u8; 5] = [b'b', b'e', b'n', b'c', b'h'];
 
-// ---- the standing device
-
-// The four bytes of event i.
-fn event_at(t: &[u8], i: usize) -> Raw
-    requires { ⌜ 7 + 4 * i + 4 ≤ length (now t) ⌝ }
-    ensures { λ r. ⌜ r ≡ rawAt (now (t .entry)) (7 + 4 * i) ⌝ }
-{
-    let at = 7 + 4 * i;
-    Raw {
-        kind: t[at],
-        x: t[at + 1],
-        y: t[at + 2],
-        z: t[at + 3],
-    }
-}
-
 // ---- printing
 
 fn print_head(address: u8, n: usize)
@@ -71,7 +55,21 @@ fn print_answer(a: Answer) {
     io::write_all(STDOUT_FILENO, &line);
 }
 
-// ---- the program
+// ---- the standing device
+
+// The four bytes of event i.
+fn event_at(t: &[u8], i: usize) -> Raw
+    requires { ⌜ 7 + 4 * i + 4 ≤ length (now t) ⌝ }
+    ensures { λ r. ⌜ r ≡ rawAt (now (t .entry)) (7 + 4 * i) ⌝ }
+{
+    let at = 7 + 4 * i;
+    Raw {
+        kind: t[at],
+        x: t[at + 1],
+        y: t[at + 2],
+        z: t[at + 3],
+    }
+}
 
 // The n events of a trace, each answered by a line. The device stands here from power-up on: each step has it lent, and leaves the new
 // state in it.
@@ -89,6 +87,8 @@ fn drive(t: &[u8], n: usize) -> Device
     }
     standing
 }
+
+// ---- the program
 
 fn print_accepted(t: &[u8], address: u8, n: usize)
     requires { ⌜ (7 + 4 * n ≤ length (now t)) × (n ≤ 4096) ⌝ }
