@@ -1,6 +1,7 @@
 // The lent device: the bench keeps one standing device, lends it to each step and finds the new state in it.
 ghost use mathlib.Core.Path.{_≡_};
 ghost use Rattle.arbiter.specs.Steps.{step};
+ghost use Rattle.lent.specs.Lent.{SteppedIn};
 use arbiter::Answer;
 use arbiter::Device;
 use arbiter::Raw;
@@ -9,7 +10,7 @@ use step::step_device;
 
 // One event on a lent device: the answer, and the device holds its new state. A refused event leaves it as it was.
 pub fn step_lent(d: &mut Device, r: Raw) -> Answer
-    ensures { λ a. ⌜ (now (d .exit) ≡ step (now (d .entry)) r .device) × (a ≡ step (now (d .entry)) r .answer) ⌝ }
+    ensures { λ a. ⌜ SteppedIn (now (d .entry)) r (now (d .exit)) a ⌝ }
 {
     let s = step_device(*d, r);
     *d = s.device;
