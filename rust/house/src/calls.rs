@@ -11,6 +11,13 @@ pub struct Call {
     pub contract: String,
 }
 
+impl Call {
+    /// True if the contract has a clause that begins with this word.
+    pub fn has(&self, word: &str) -> bool {
+        self.contract.lines().any(|line| line.split_whitespace().next() == Some(word))
+    }
+}
+
 pub fn calls_of(tree: &Tree) -> Vec<Call> {
     let mut calls = Vec::new();
     for path in tree.paths("crates/", ".rt") {

@@ -65,7 +65,7 @@ fn exception_faults(row: &Row, call: &Call) -> Option<String> {
     if row.grounds.is_empty() {
         return Some(format!("The exception `{}` has no grounds in {LIST}.", row.call));
     }
-    let promises = call.contract.contains("ensures");
+    let promises = call.has("ensures") && !call.has("requires");
     promises.then(|| {
         format!(
             "`{}` has a promise in {}, and {LIST} lists it as an exception.",
@@ -76,13 +76,13 @@ fn exception_faults(row: &Row, call: &Call) -> Option<String> {
 
 fn row_faults(tree: &Tree, row: &Row, call: &Call) -> Vec<String> {
     let mut found = Vec::new();
-    if call.contract.contains("requires") {
+    if call.has("requires") {
         found.push(format!(
             "`{}` of {} has a `requires`: a public call answers any input, or is listed as an exception with grounds.",
             call.name, call.file
         ));
     }
-    if !call.contract.contains("ensures") {
+    if !call.has("ensures") {
         found.push(format!(
             "`{}` of {} has no `ensures`, so it promises nothing.",
             call.name, call.file

@@ -68,14 +68,20 @@ fn quoted(cell: &str) -> Vec<String> {
     cell.split('`').skip(1).step_by(2).map(str::to_string).collect()
 }
 
-/// The names of the form `crate/edit`.
+/// The names of the form `crate/edit`, each once.
 fn edits_in(cell: &str) -> Vec<String> {
     let is_word = |word: &str| {
         !word.is_empty() && word.chars().all(|c| c.is_ascii_alphanumeric() || c == '_')
     };
-    let is_edit =
-        |name: &String| name.split_once('/').is_some_and(|(a, b)| is_word(a) && is_word(b));
-    quoted(cell).into_iter().filter(is_edit).collect()
+    let mut found = Vec::new();
+    for name in quoted(cell) {
+        if name.split_once('/').is_some_and(|(a, b)| is_word(a) && is_word(b))
+            && !found.contains(&name)
+        {
+            found.push(name);
+        }
+    }
+    found
 }
 
 /// The names and files in "`a` and `b`, `file`; `c`, `file`".

@@ -23,10 +23,14 @@ fn small() -> Tree {
     tree.put("crates/show/src/main.rt", "mod words;\n\nfn main() {\n}\n");
     tree.put("crates/show/src/words.rt", "pub fn say() {\n}\n");
     tree.put(GATE, "file: src/lib.rt\nold:     (on)\nnew:     false\n");
+    tree.put(
+        "crates/lamp/must-fail/the_opposite.edit",
+        "file: src/lib.rt\nold:     (on)\nnew:     !(on)\n",
+    );
     tree.put(TRIED, "file: src/lib.rt\nold:     (on)\nnew:     (true)\nold: (true)\nnew: true\n");
     let list = "## Calls that users reach\n\n\
                 | call | promises | definition | wrong answers |\n|---|---|---|---|\n\
-                | `lamp::glows` | that it glows | `lit`, `lamp/specs/Light.antt` | dark: `lamp/never_lit`; dark again: `lamp/never_lit` |\n\n\
+                | `lamp::glows` | that it glows | `lit`, `lamp/specs/Light.antt` | dark: `lamp/never_lit`; not that: `lamp/the_opposite` |\n\n\
                 ## Calls between crates\n\n\
                 | `lamp::is_lit` | that it is lit | `lit`, `lamp/specs/Light.antt` | dark: `lamp/never_lit`; light: `lamp/always_lit` |\n\n\
                 ## Exceptions\n\n\
@@ -136,8 +140,10 @@ fn an_exception_without_grounds_or_with_a_promise() {
 
 #[test]
 fn a_call_with_one_wrong_answer() {
-    let told = fault_after(LIST, "; dark again: `lamp/never_lit`", "");
+    let told = fault_after(LIST, "; not that: `lamp/the_opposite`", "");
     let expected = "`lamp::glows` has fewer than 2 wrong answers in docs/PROMISES.md, each an edit named as `crate/edit`: 1.";
+    assert_eq!(told, expected);
+    let told = fault_after(LIST, "not that: `lamp/the_opposite`", "dark again: `lamp/never_lit`");
     assert_eq!(told, expected);
 }
 
@@ -182,7 +188,7 @@ fn an_edit_in_tried_that_is_not_listed() {
 
 #[test]
 fn an_edit_that_the_gate_is_to_try_and_does_not() {
-    let told = fault_after(LIST, "dark again: `lamp/never_lit`", "light: `lamp/always_lit`");
+    let told = fault_after(LIST, "not that: `lamp/the_opposite`", "light: `lamp/always_lit`");
     assert_eq!(told, "The gate is to try the edit `lamp/always_lit`, and it stands in tried/, which the gate leaves out.");
 }
 
