@@ -1,0 +1,137 @@
+//! Holds `docs/PROMISES.md` to the code. [`faults`] tells in sentences where the two differ; a repository in order has none.
+
+mod calls;
+mod edits;
+mod list;
+mod tree;
+
+pub use tree::Tree;
+
+use calls::{calls_of, Call};
+use edits::{fault_of, tried};
+use list::{read_list, Row};
+
+/// Where the list stands.
+pub const LIST: &str = "docs/PROMISES.md";
+
+/// The wrong answers that each call wants.
+const WANTED: usize = 2;
+
+/// What is wrong with the list, or with what it speaks of, a sentence each.
+pub fn faults(tree: &Tree) -> Vec<String> {
+    let Some(text) = tree.text(LIST) else {
+        return vec![format!("There is no {LIST}.")];
+    };
+    let calls = calls_of(tree);
+    let list = read_list(text);
+    let mut found = Vec::new();
+    for call in &calls {
+        let rows = list.rows.iter().filter(|row| row.call == call.name).count();
+        if rows == 0 {
+            found.push(format!(
+                "`{}` of {} is a public call and has no row in {LIST}.",
+                call.name, call.file
+            ));
+        } else if rows > 1 {
+            found.push(format!("`{}` has {rows} rows in {LIST}.", call.name));
+        }
+    }
+    for row in &list.rows {
+        match calls.iter().find(|call| call.name == row.call) {
+            None => found
+                .push(format!("{LIST} lists `{}`, and no crate has such a public call.", row.call)),
+            Some(call) if row.is_exception => found.extend(exception_faults(row, call)),
+            Some(call) => found.extend(row_faults(tree, row, call)),
+        }
+    }
+    for name in &list.edits {
+        found.extend(fault_of(tree, name));
+    }
+    let tried = tried(tree);
+    for name in &list.gate_edits {
+        if tried.contains(name) {
+            found.push(format!("The gate is to try the edit `{name}`, and it stands in tried/, which the gate leaves out."));
+        }
+    }
+    for name in tried {
+        if !list.edits.contains(&name) {
+            found.push(format!("The edit `{name}` stands in tried/, and {LIST} does not name it."));
+        }
+    }
+    found
+}
+
+fn exception_faults(row: &Row, call: &Call) -> Option<String> {
+    if row.grounds.is_empty() {
+        return Some(format!("The exception `{}` has no grounds in {LIST}.", row.call));
+    }
+    let promises = call.has("ensures") && !call.has("requires");
+    promises.then(|| {
+        format!(
+            "`{}` has a promise in {}, and {LIST} lists it as an exception.",
+            row.call, call.file
+        )
+    })
+}
+
+fn row_faults(tree: &Tree, row: &Row, call: &Call) -> Vec<String> {
+    let mut found = Vec::new();
+    if call.has("requires") {
+        found.push(format!(
+            "`{}` of {} has a `requires`: a public call answers any input, or is listed as an exception with grounds.",
+            call.name, call.file
+        ));
+    }
+    if !call.has("ensures") {
+        found.push(format!(
+            "`{}` of {} has no `ensures`, so it promises nothing.",
+            call.name, call.file
+        ));
+        return found;
+    }
+    if row.promise.is_empty() {
+        found.push(format!("The row of `{}` in {LIST} does not say what it promises.", row.call));
+    }
+    if row.edits.len() < WANTED {
+        found.push(format!(
+            "`{}` has fewer than {WANTED} wrong answers in {LIST}, each an edit named as `crate/edit`: {}.",
+            row.call,
+            row.edits.len()
+        ));
+    }
+    if row.definitions.is_empty() && !row.cites_none {
+        found.push(format!(
+            "The row of `{}` in {LIST} names no definition, nor that there is none.",
+            row.call
+        ));
+    }
+    for (name, file) in &row.definitions {
+        if !is_defined(tree, name, file) {
+            found.push(format!("{LIST} says that `{name}`, which `{}` cites, is defined in crates/{file}; it is not.", row.call));
+        } else if !cites(&call.contract, name) {
+            found.push(format!(
+                "{LIST} says that the contract of `{}` cites `{name}`; it does not.",
+                row.call
+            ));
+        }
+    }
+    found
+}
+
+fn is_defined(tree: &Tree, name: &str, file: &str) -> bool {
+    let Some(text) = tree.text(&format!("crates/{file}")) else {
+        return false;
+    };
+    let head = format!("pub {name} :");
+    text.lines().any(|line| {
+        line.starts_with(&head)
+            || line.split_once(' ').is_some_and(|(_, rest)| rest.starts_with(&head))
+    })
+}
+
+/// True if each word of the name stands in the promise. A name such as `if_then_else_` has its words around what it is given.
+fn cites(contract: &str, name: &str) -> bool {
+    let promise = contract.split_once("ensures").map_or("", |(_, promise)| promise);
+    let words: Vec<&str> = promise.split(|c: char| !c.is_alphanumeric()).collect();
+    name.split('_').filter(|word| !word.is_empty()).all(|word| words.contains(&word))
+}

@@ -1,0 +1,62 @@
+//! The files of a repository that the checks read.
+
+use std::collections::BTreeMap;
+use std::fs;
+use std::path::Path;
+
+/// Texts by their path from the repository's root.
+#[derive(Clone, Default)]
+pub struct Tree {
+    files: BTreeMap<String, String>,
+}
+
+impl Tree {
+    /// The repository that this crate stands in.
+    pub fn of_this_repository() -> Tree {
+        let root = Path::new(env!("CARGO_MANIFEST_DIR")).join("../..");
+        let mut tree = Tree::default();
+        tree.add(&root, "crates");
+        tree.add(&root, "docs");
+        tree
+    }
+
+    /// The text of a file, if it is there.
+    pub fn text(&self, path: &str) -> Option<&str> {
+        self.files.get(path).map(String::as_str)
+    }
+
+    /// The paths that begin and end so, in order.
+    pub fn paths<'a>(&'a self, start: &'a str, end: &'a str) -> impl Iterator<Item = &'a str> {
+        self.files
+            .keys()
+            .map(String::as_str)
+            .filter(move |path| path.starts_with(start) && path.ends_with(end))
+    }
+
+    /// Puts a file there, or another text in its place.
+    pub fn put(&mut self, path: &str, text: &str) {
+        self.files.insert(path.to_string(), text.to_string());
+    }
+
+    /// Takes a file away.
+    pub fn remove(&mut self, path: &str) {
+        self.files.remove(path);
+    }
+
+    fn add(&mut self, root: &Path, path: &str) {
+        let folder = root.join(path);
+        let entries = fs::read_dir(&folder)
+            .unwrap_or_else(|e| panic!("cannot read {}: {e}", folder.display()));
+        for entry in entries {
+            let entry = entry.unwrap_or_else(|e| panic!("cannot read {}: {e}", folder.display()));
+            let name = format!("{path}/{}", entry.file_name().to_string_lossy());
+            if entry.path().is_dir() {
+                self.add(root, &name);
+            } else if [".rt", ".antt", ".edit", ".md"].iter().any(|end| name.ends_with(end)) {
+                let text = fs::read_to_string(entry.path())
+                    .unwrap_or_else(|e| panic!("cannot read {name}: {e}"));
+                self.files.insert(name, text);
+            }
+        }
+    }
+}
