@@ -89,6 +89,14 @@ fn row_faults(tree: &Tree, row: &Row, call: &Call) -> Vec<String> {
         ));
         return found;
     }
+    if !is_unique(tree, &call.name) {
+        found.push(format!(
+            "No `{}` in crates/{}/proofs/Unique.antt says that the promise of `{}` leaves room for one result.",
+            once_of(&call.name),
+            crate_of(&call.name),
+            call.name
+        ));
+    }
     if row.promise.is_empty() {
         found.push(format!("The row of `{}` in {LIST} does not say what it promises.", row.call));
     }
@@ -134,4 +142,21 @@ fn cites(contract: &str, name: &str) -> bool {
     let promise = contract.split_once("ensures").map_or("", |(_, promise)| promise);
     let words: Vec<&str> = promise.split(|c: char| !c.is_alphanumeric()).collect();
     name.split('_').filter(|word| !word.is_empty()).all(|word| words.contains(&word))
+}
+
+/// `straps` of `straps::address_of`.
+fn crate_of(call: &str) -> &str {
+    call.split("::").next().unwrap_or(call)
+}
+
+/// `address-of-once` of `straps::address_of`: the law that two results that meet the promise are equal.
+fn once_of(call: &str) -> String {
+    let function = call.rsplit("::").next().unwrap_or(call);
+    format!("{}-once", function.replace('_', "-"))
+}
+
+fn is_unique(tree: &Tree, call: &str) -> bool {
+    let law = format!("pub {} :", once_of(call));
+    let file = format!("crates/{}/proofs/Unique.antt", crate_of(call));
+    tree.text(&file).is_some_and(|text| text.lines().any(|line| line.starts_with(&law)))
 }

@@ -9,6 +9,7 @@ fn the_list_agrees_with_the_code() {
 }
 
 const SOURCE: &str = "crates/lamp/src/lib.rt";
+const UNIQUE: &str = "crates/lamp/proofs/Unique.antt";
 const TRIED: &str = "crates/lamp/tried/always_lit.edit";
 const GATE: &str = "crates/lamp/must-fail/never_lit.edit";
 
@@ -20,6 +21,7 @@ fn small() -> Tree {
                   fn rest(on: bool) -> bool\n    requires { ⌜ on ⌝ }\n{\n    on\n}\n";
     tree.put(SOURCE, source);
     tree.put("crates/lamp/specs/Light.antt", "abbrev pub lit : Bool → Bool\nlit on = on\n");
+    tree.put(UNIQUE, "pub is-lit-once : OneResult\n\npub glows-once : OneResult\n");
     tree.put("crates/show/src/main.rt", "mod words;\n\nfn main() {\n}\n");
     tree.put("crates/show/src/words.rt", "pub fn say() {\n}\n");
     tree.put(GATE, "file: src/lib.rt\nold:     (on)\nnew:     false\n");
@@ -212,4 +214,13 @@ fn a_definition_that_is_not_there_or_not_cited() {
         "that it is lit | see there",
     );
     assert_eq!(told, "The row of `lamp::is_lit` in docs/PROMISES.md names no definition, nor that there is none.");
+}
+
+#[test]
+fn a_call_with_no_law_of_uniqueness() {
+    let fault = fault_after(UNIQUE, "pub glows-once", "pub grows-once");
+    assert_eq!(
+        fault,
+        "No `glows-once` in crates/lamp/proofs/Unique.antt says that the promise of `lamp::glows` leaves room for one result."
+    );
 }
