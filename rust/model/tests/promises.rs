@@ -34,6 +34,23 @@ fn each_step(mut check: impl FnMut(&Device, [u8; 4], [u8; 4], &Device)) {
     }
 }
 
+/// Calls `check` for each of those steps that begins with an owner: the owner, and the ticks of its
+/// grant so far.
+fn each_owned_step(mut check: impl FnMut(usize, u64, &Device, [u8; 4], [u8; 4], &Device)) {
+    let mut ticks = 0;
+    each_step(|before, event, answer, after| {
+        let Some(m) = before.owner() else {
+            ticks = 0;
+            return;
+        };
+        ticks += u64::from(event == tick());
+        check(m, ticks, before, event, answer, after);
+        if owner(answer) != Some(m as u8) {
+            ticks = 0;
+        }
+    });
+}
+
 fn is_reset(event: [u8; 4]) -> bool {
     read_event(event).is_ok_and(|event| event.is_reset())
 }
@@ -53,18 +70,10 @@ fn connected_master_holds_the_grant() {
 /// its holder withdraws or a reset comes."
 #[test]
 fn a_reserve_lasts() {
-    let mut ticks_since = 0;
-    each_step(|before, event, answer, after| {
-        let Some(m) = before.owner() else {
-            ticks_since = 0;
-            return;
-        };
-        ticks_since += u64::from(event == tick());
+    each_owned_step(|m, ticks, before, event, answer, after| {
         if owner(answer) != Some(m as u8) {
-            let reserve = u64::from(before.masters[m].rt);
             let excused = is_reset(event) || withdraws(before, event, m);
-            assert!(excused || ticks_since >= reserve);
-            ticks_since = 0;
+            assert!(excused || ticks >= u64::from(before.masters[m].rt));
         }
         // A reserve cannot be changed by its holder.
         assert!(after.owner() != Some(m) || before.masters[m].rt == after.masters[m].rt);
@@ -75,15 +84,9 @@ fn a_reserve_lasts() {
 /// which such a reserve runs out, if the bus is idle and its port at rest."
 #[test]
 fn a_reserve_ends() {
-    let mut ticks_since = 0;
-    each_step(|before, event, answer, after| {
-        let Some(m) = before.owner() else {
-            ticks_since = 0;
-            return;
-        };
-        ticks_since += u64::from(event == tick());
+    each_owned_step(|m, ticks, before, event, answer, after| {
         let reserve = u64::from(before.masters[m].rt);
-        let ran_out = reserve > 0 && ticks_since >= reserve;
+        let ran_out = reserve > 0 && ticks >= reserve;
         if ran_out && after.is_idle() {
             assert_ne!(owner(answer), Some(m as u8));
             let partner = 1 - m;
@@ -91,9 +94,6 @@ fn a_reserve_ends() {
             if event == tick() && waits && after.masters[partner].port == Port::AtRest {
                 assert_eq!(owner(answer), Some(partner as u8));
             }
-        }
-        if owner(answer) != Some(m as u8) {
-            ticks_since = 0;
         }
     });
 }
