@@ -4,7 +4,6 @@
 use Prim.Native.Nat.{ℕ, _+_, _*_}
 use Rattle.arbiter.specs.Straps.{strappedNumber, strappedAddress, strappingNumber}
 use Rattle.arbiter.specs.declared.Report.{Report}
-use Rattle.arbiter.specs.declared.Pins.{Pins}
 use Rattle.arbiter.specs.declared.Strapped.{Strapped}
 use Rattle.arbiter.specs.declared.Strapping.{Strapping}
 use Rattle.arbiter.specs.declared.Strapping.the-variants.{Straps, Outside}

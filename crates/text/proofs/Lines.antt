@@ -1,17 +1,17 @@
 -- The lines of a listing: stored piece by piece, and their lengths.
 -- Assumes nothing.
 use mathlib.Core.Path.{_≡_, refl, sym, ap, _∙_}
-use mathlib.Core.Bool.{Bool, true, false}
+use mathlib.Core.Bool.{Bool}
 use mathlib.Core.List.{List, [], _∷_, _++_, append-assoc}
 use Prim.Native.Nat.{ℕ, zero, suc, _+_, _*_, _/_, _%_, _≤_, _<_}
 use native.Mathlib.Nat.{add-zero}
 use native.Mathlib.Numerals.{add-one}
 use native.Mathlib.Omega.{arith}
-use lib.ListN.{length, drop, getD, set, length-append}
+use lib.ListN.{length, drop, getD, set}
 use lib.Seq.{sets, drop-drop, getD-drop}
 use borrow.Author.Tests.{le-ltb, lt-ltb}
 use Rattle.arbiter.specs.Words.{if_then_else_}
-use Rattle.arbiter.specs.Listing.{newline, space, hex2, headLine}
+use Rattle.arbiter.specs.Listing.{newline, hex2, headLine}
 use Rattle.text.specs.Written.{lineIn, linesIn, refusalLine}
 use Rattle.text.proofs.Stores.{sets-on}
 

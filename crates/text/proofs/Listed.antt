@@ -7,7 +7,7 @@ use native.Mathlib.Omega.{arith}
 use lib.ListN.{length, drop}
 use Rattle.arbiter.specs.Effects.{powerUp}
 use Rattle.arbiter.specs.Steps.{step, answersFrom}
-use Rattle.arbiter.specs.Traces.{mostEvents, rawIn, rawsIn, eventsIn, answersIn, bytesOf, readTrace, refusalNumber, reportOf, bufferOf, report, bufferAfter}
+use Rattle.arbiter.specs.Traces.{mostEvents, rawIn, rawsIn, answersIn, bytesOf, readTrace, refusalNumber, reportOf, bufferOf, report, bufferAfter}
 use Rattle.arbiter.specs.Listing.{headLine, answerLine, answerLines, listingOf, listing}
 use Rattle.arbiter.specs.declared.Report.{Report}
 use Rattle.arbiter.specs.declared.Device.{Device}

@@ -1,7 +1,7 @@
 // The listing of a trace, as text in a lent buffer: a line with the address and the count, then a line an answer; or R and the number.
 ghost use Prim.Native.Nat.{_+_, _*_, _/_, _%_, _≤_, _<_};
 ghost use mathlib.Core.Path.{_≡_};
-ghost use mathlib.Core.List.{_++_, _∷_};
+ghost use mathlib.Core.List.{_++_};
 ghost use lib.ListN.{length, drop};
 ghost use lib.Seq.{sets};
 ghost use Rattle.arbiter.specs.Listing.{hexDigit, hex2, headLine, listing};

@@ -1,6 +1,6 @@
 -- `gunwaleish::gunwaleish_run_trace` meets its contract. A report has at most 4,096 events, so the sums fit.
 -- Assumes nothing.
-use mathlib.Core.Path.{_≡_, subst, sym, ap}
+use mathlib.Core.Path.{subst, sym, ap}
 use Prim.Native.Nat.{_≤_}
 use native.Mathlib.Omega.{arith}
 use Rattle.arbiter.specs.declared.Report.{Report}

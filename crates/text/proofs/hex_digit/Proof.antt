@@ -1,3 +1,5 @@
+-- `text::hex_digit` meets its contract.
+-- Assumes nothing.
 use borrow.Author.Tests.{le-ltb, lt-ltb}
 use borrow.Author.Needs.{needs}
 use Rattle.text.proofs.hex_digit.Statement.{statement}
