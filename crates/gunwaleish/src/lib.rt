@@ -14,7 +14,7 @@ use arbiter::Strapping;
 use straps::address_of;
 use straps::straps_of;
 use text::list_trace;
-use traces::run_trace;
+use traces::answer_trace;
 
 fn byte(x: u8) -> u64
     ensures { λ r. ⌜ (r ≡ x) × (r < 256) ⌝ }
@@ -27,7 +27,7 @@ fn byte(x: u8) -> u64
 pub extern "C" fn gunwaleish_run_trace(t: &[u8], out: &mut [u8]) -> u64
     ensures { λ r. ⌜ (r ≡ packedReport (report (now (t .entry)) (now (out .entry)))) × (now (out .exit) ≡ bufferAfter (now (t .entry)) (now (out .entry))) ⌝ }
 {
-    let r = run_trace(t, out);
+    let r = answer_trace(t, out);
     byte(r.number) + 256 * byte(r.address) + 65536 * (r.events as u64)
 }
 

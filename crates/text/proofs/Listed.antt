@@ -9,7 +9,8 @@ use Rattle.arbiter.specs.Effects.{powerUp}
 use Rattle.arbiter.specs.Steps.{step, answersFrom}
 use Rattle.arbiter.specs.Traces.{mostEvents, rawIn, rawsIn, answersIn, bytesOf, readTrace, refusalNumber, reportOf, bufferOf, report, bufferAfter}
 use Rattle.arbiter.specs.Listing.{headLine, answerLine, answerLines, listingOf, listing}
-use Rattle.arbiter.specs.declared.Report.{Report}
+use Rattle.traces.specs.declared.Head.{Head}
+use Rattle.traces.specs.Bodies.{headOf}
 use Rattle.arbiter.specs.declared.Device.{Device}
 use Rattle.arbiter.specs.declared.Answer.{Answer}
 use Rattle.arbiter.specs.declared.Refusal.{Refusal}
@@ -106,17 +107,17 @@ module _ (t room : List ℕ) (e : 16384 ≡ length room) where
       go (Accepted a n) z = absurd (z refl)
       go (Refused r) z = (refl, two-digits r)
 
-  -- ---- the same of any report r and buffer b that are the run's
+  -- ---- the same of any head r and buffer b that are the run's
 
-  module _ (r : Report) (same : r ≡ report t room) where
+  module _ (r : Head) (same : r ≡ headOf (report t room)) where
     pub told-accepted : (b : List ℕ) → b ≡ bufferAfter t room → r .number ≡ 0 → headLine (r .address) (r .events) ++ linesIn (r .events) b ≡ listing t
     told-accepted b filled z =
         ap (λ (x : List ℕ). headLine (r .address) (r .events) ++ linesIn (r .events) x) filled
-        ∙ ap (λ (x : Report). headLine (x .address) (x .events) ++ linesIn (x .events) (bufferAfter t room)) same
-        ∙ accepted-listing (sym (ap (λ (x : Report). x .number) same) ∙ z)
+        ∙ ap (λ (x : Head). headLine (x .address) (x .events) ++ linesIn (x .events) (bufferAfter t room)) same
+        ∙ accepted-listing (sym (ap (λ (x : Head). x .number) same) ∙ z)
 
     pub told-fits : (4 * r .events ≤ length room) × (r .events ≤ mostEvents)
-    told-fits = subst (λ (x : Report). (4 * x .events ≤ length room) × (x .events ≤ mostEvents)) (sym same) answers-fit
+    told-fits = subst (λ (x : Head). (4 * x .events ≤ length room) × (x .events ≤ mostEvents)) (sym same) answers-fit
 
     pub told-refused : (r .number ≡ 0 → ⊥) → (refusalLine (r .number) ≡ listing t) × (r .number < 100)
-    told-refused = subst (λ (x : Report). (x .number ≡ 0 → ⊥) → (refusalLine (x .number) ≡ listing t) × (x .number < 100)) (sym same) refused-listing
+    told-refused = subst (λ (x : Head). (x .number ≡ 0 → ⊥) → (refusalLine (x .number) ≡ listing t) × (x .number < 100)) (sym same) refused-listing

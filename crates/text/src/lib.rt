@@ -6,7 +6,7 @@ ghost use lib.ListN.{length, drop};
 ghost use lib.Seq.{sets};
 ghost use Rattle.arbiter.specs.Listing.{hexDigit, hex2, headLine, listing};
 ghost use Rattle.text.specs.Written.{fitted, textAfter, lineIn, linesIn, refusalLine};
-use traces::run_trace;
+use traces::answer_trace;
 
 const NEWLINE: u8 = 0x0A;
 
@@ -144,7 +144,7 @@ fn list_by(t: &[u8], answers: &mut [u8], text: &mut [u8]) -> usize
     requires { ⌜ 16384 ≡ length (now answers) ⌝ }
     ensures { λ r. ⌜ (r ≡ length (listing (now (t .entry)))) × (now (text .exit) ≡ textAfter (now (t .entry)) (now (text .entry))) ⌝ }
 {
-    let report = run_trace(t, answers);
+    let report = answer_trace(t, answers);
     if report.number == 0 {
         list_accepted(report.address, report.events, answers, text)
     } else {

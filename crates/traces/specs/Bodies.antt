@@ -13,6 +13,7 @@ use Rattle.arbiter.specs.declared.Device.{Device}
 use Rattle.arbiter.specs.declared.Raw.{Raw}
 use Rattle.arbiter.specs.declared.Answer.{Answer}
 use Rattle.arbiter.specs.declared.Report.{Report}
+use Rattle.traces.specs.declared.Head.{Head}
 
 unfoldable pub bodyRead : ℕ → ℕ → ℕ → ℕ → TraceRead
 bodyRead address len n room =
@@ -31,3 +32,7 @@ putAt l at a = set (set (set (set l at (a .outcome)) (at + 1) (a .read)) (at + 2
 
 abbrev pub reportWith : ℕ → ℕ → ℕ → Device → Report
 reportWith number address events d = record { number = number; address = address; events = events; device = d }
+
+-- a report without its device
+abbrev pub headOf : Report → Head
+headOf r = record { number = r .number; address = r .address; events = r .events }

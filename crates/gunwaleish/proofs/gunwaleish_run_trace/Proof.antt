@@ -1,17 +1,16 @@
 -- `gunwaleish::gunwaleish_run_trace` meets its contract. A report has at most 4,096 events, so the sums fit.
 -- Assumes nothing.
 use mathlib.Core.Path.{subst, sym, ap}
-use Prim.Native.Nat.{_≤_}
+use Prim.Native.Nat.{_+_, _*_, _≤_}
 use native.Mathlib.Omega.{arith}
-use Rattle.arbiter.specs.declared.Report.{Report}
+use Rattle.traces.specs.declared.Head.{Head}
 use Rattle.traces.proofs.Reading.{report-few}
-use Rattle.gunwaleish.specs.Packed.{packedReport}
 use borrow.Author.Needs.{needs}
 use Rattle.gunwaleish.proofs.gunwaleish_run_trace.Statement.{statement}
 use Rattle.gunwaleish.proofs.gunwaleish_run_trace.Tie as tie
 
-run-trace-requires : tie.Need-run-trace-requires
-run-trace-requires c κs = search needs
+answer-trace-requires : tie.Need-answer-trace-requires
+answer-trace-requires c κs = search needs
 
 byte-requires : tie.Need-byte-requires
 byte-requires c κs = search needs
@@ -27,12 +26,12 @@ add-result c = search needs
 
 mul-result-2 : tie.Need-mul-result-2
 mul-result-2 c =
-    let few = subst (λ (r : Report). r .events ≤ 4096) (sym (c .before .before .before .before .run-trace .ensures .0)) (report-few _ _) in
+    let few = subst (λ (r : Head). r .events ≤ 4096) (sym (c .before .before .before .before .answer-trace .ensures .0)) (report-few _ _) in
     omega (arith, few)
 
 add-result-2 : tie.Need-add-result-2
 add-result-2 c =
-    let few = subst (λ (r : Report). r .events ≤ 4096) (sym (c .before .before .before .before .run-trace .ensures .0)) (report-few _ _) in
+    let few = subst (λ (r : Head). r .events ≤ 4096) (sym (c .before .before .before .before .answer-trace .ensures .0)) (report-few _ _) in
     omega (arith, few)
 
 same-length : tie.Need-same-length
@@ -40,14 +39,14 @@ same-length c = search needs
 
 returns : tie.Need-returns
 returns c =
-    let ran = c .before .before .before .before .run-trace .ensures in
-    (simp (c .byte2 .ensures .0, c .before .byte .ensures .0) (ap packedReport (ran .0)), ran .1)
+    let ran = c .before .before .before .before .answer-trace .ensures in
+    (simp (c .byte2 .ensures .0, c .before .byte .ensures .0) (ap (λ (r : Head). r .number + 256 * r .address + 65536 * r .events) (ran .0)), ran .1)
 
 pub gunwaleish-run-trace-spec : {M : Type 1} → statement M
 gunwaleish-run-trace-spec =
     tie.close
     (tie.spec
-    run-trace-requires
+    answer-trace-requires
     byte-requires
     byte-requires-2
     mul-result
