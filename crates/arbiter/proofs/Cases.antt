@@ -1,6 +1,6 @@
 -- What holds of parts 4 to 7, of every step and of every run, by the cases that there are.
 -- Assumes nothing.
-use mathlib.Core.Path.{_≡_, refl, sym, subst}
+use mathlib.Core.Path.{_≡_, refl, sym, ap, subst, _∙_}
 use mathlib.Core.Bool.{Bool, true, false, _&&_}
 use Rattle.arbiter.specs.Types.{ℕ, List, [], _∷_, eqb, ltb, Master, Zero, One, Turn, Nobody, Claims, Owns, Switch, Apart, Initialising, Closed, Clock, NoClock, ClockLow, ClockHigh, Device, Raw, Event, Decoded, Reads, UnknownKind, BadField, OutOfSequence, Stepped}
 use Rattle.arbiter.specs.Words.{sameMaster, side}
@@ -9,7 +9,7 @@ use Rattle.arbiter.specs.State.{atRest}
 use Rattle.arbiter.specs.Registers.{disconnected}
 use Rattle.arbiter.specs.Events.{decode, decodedNumber, inSequence, outcomeNumber}
 use Rattle.arbiter.specs.Order.{cutTicks, cutFrom, claimBy, newClaim, claimAfter, granted, grantFrom, joined, clocked, keptJoined, connectFrom, connect}
-use Rattle.arbiter.specs.AuditWords.{requests}
+use Rattle.arbiter.specs.AuditWords.{requests, acceptedAs, accepted, levelledBy, levelled}
 use Rattle.arbiter.specs.Steps.{parts, taken, refused, stepEvent, stepDecoded, step, runFrom}
 use Rattle.arbiter.proofs.Choice.{either, split, if-true, if-false}
 
@@ -94,20 +94,29 @@ module _ (P : Device → Type 0) (d : Device) (plain : (w : Switch) (fail : Bool
 
 -- ---- a step: the seven parts of an accepted event, or a refusal
 
+-- nothing is said of a refused event, and part 3 would look for a loss in the device as it was
+abbrev pub Unsaid : Raw → Device → Type 0
+Unsaid r d = ((such : Event → Device → Bool) → accepted such r d ≡ false) × (levelled r d ≡ d)
+
+unsaid : (x : Decoded) (r : Raw) (d : Device) → decode r ≡ x → ((such : Event → Device → Bool) → acceptedAs such x d ≡ false) → levelledBy x d ≡ d → Unsaid r d
+unsaid x r d h a l = ((λ such. ap (λ (y : Decoded). acceptedAs such y d) h ∙ a such), ap (λ (y : Decoded). levelledBy y d) h ∙ l)
+
 -- what holds of every event taken in sequence and of every refusal holds of the step
 module _ (Q : Stepped → Type 0) (d : Device) (r : Raw)
-    (takes : (e : Event) → decode r ≡ Reads e → inSequence e d ≡ true → Q (taken e d)) (refuses : (n : ℕ) → Q (refused n d)) where
+    (takes : (e : Event) → decode r ≡ Reads e → inSequence e d ≡ true → Q (taken e d)) (refuses : (n : ℕ) → Unsaid r d → Q (refused n d)) where
   -- an event, in sequence or not
   event-cases : (e : Event) → decode r ≡ Reads e → Q (stepEvent e d)
   unfolding stepEvent
-  event-cases e h = either Q (inSequence e d) (λ s. takes e h s) (λ s. refuses (outcomeNumber OutOfSequence))
+  event-cases e h =
+      either Q (inSequence e d) (λ s. takes e h s)
+      (λ s. refuses (outcomeNumber OutOfSequence) (unsaid (Reads e) r d h (λ such. ap (λ (b : Bool). b && such e d) s) (if-false _ d s)))
 
   -- four bytes that read as one, or do not
   decoded-cases : (x : Decoded) → decode r ≡ x → Q (stepDecoded x d)
   unfolding stepDecoded
   decoded-cases (Reads e) h = event-cases e h
-  decoded-cases UnknownKind h = refuses (decodedNumber UnknownKind)
-  decoded-cases BadField h = refuses (decodedNumber BadField)
+  decoded-cases UnknownKind h = refuses (decodedNumber UnknownKind) (unsaid UnknownKind r d h (λ such. refl) refl)
+  decoded-cases BadField h = refuses (decodedNumber BadField) (unsaid BadField r d h (λ such. refl) refl)
 
   pub step-cases : Q (step d r)
   unfolding step
@@ -119,7 +128,7 @@ module _ (Q : Stepped → Type 0) (d : Device) (r : Raw)
 module _ (P : Device → Type 0) (keeps : (e : Event) (d : Device) → P d → P (parts e d)) where
   pub step-keeps : (d : Device) (r : Raw) → P d → P (step d r .device)
   unfolding taken refused
-  step-keeps d r h = step-cases (λ (s : Stepped). P (s .device)) d r (λ e x s. keeps e d h) (λ n. h)
+  step-keeps d r h = step-cases (λ (s : Stepped). P (s .device)) d r (λ e x s. keeps e d h) (λ n u. h)
 
   pub run-keeps : (d : Device) (rs : List Raw) → P d → P (runFrom d rs)
   unfolding runFrom

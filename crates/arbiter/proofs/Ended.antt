@@ -229,4 +229,4 @@ unfolding taken refused
 ends-disconnected m d r =
     step-cases (λ (s : Stepped). owns m d && not (owns m (s .device)) ≡ true → asksOn m (s .device) ≡ false) d r
     (λ e x q h. let ended = and-eq-true-iff (owns m d) (not (owns m (parts e d))) .0 h in parts-off m e d (ended .0) (not-true (owns m (parts e d)) (ended .1)))
-    (λ n h. absurd (false≢true (sym (and-not-self (owns m d)) ∙ h)))
+    (λ n u h. absurd (false≢true (sym (and-not-self (owns m d)) ∙ h)))

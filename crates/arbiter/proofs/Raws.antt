@@ -2,13 +2,14 @@
 -- Assumes nothing.
 use mathlib.Core.Path.{_≡_, refl, sym, ap, _∙_, subst}
 use mathlib.Core.Bool.{false≢true}
-use Rattle.arbiter.specs.Types.{Bool, true, false, _&&_, Device, Raw, Event, Command, Write, Read, Stop, Pair, Lines, Tick, Pulse, Reset, GeneralCall, Decoded, Reads, UnknownKind, BadField}
+use Rattle.arbiter.specs.Types.{Bool, true, false, _&&_, Device, Raw, Event, Command, Write, Read, Stop, Pair, Lines, Tick, Pulse, Reset, GeneralCall, Decoded, Reads, Stepped}
 use Rattle.arbiter.specs.Words.{if_then_else_}
 use Rattle.arbiter.specs.Events.{decode, inSequence}
 use Rattle.arbiter.specs.Order.{isReset, isTick}
 use Rattle.arbiter.specs.Steps.{parts, refused, taken, stepEvent, stepDecoded, step}
 use Rattle.arbiter.specs.AuditWords.{next, acceptedAs, accepted, reset, tick, levelledBy, levelled}
-use Rattle.arbiter.proofs.Choice.{split, if-true, if-false}
+use Rattle.arbiter.proofs.Choice.{if-true}
+use Rattle.arbiter.proofs.Cases.{step-cases}
 use Rattle.arbiter.proofs.Owner.{mid}
 
 -- r is refused in d: the device after it and the one in which part 3 would look for a loss are d, and nothing is said of it.
@@ -37,30 +38,12 @@ taken-as e r d h s =
       same = λ such. ap (λ (x : Decoded). acceptedAs such x d) h ∙ ap (λ (b : Bool). b && such e d) s;
     }
 
--- Bytes that read as no event, or as one out of sequence, are refused.
-refused-as : (x : Decoded) (r : Raw) (d : Device) → decode r ≡ x → stepDecoded x d .device ≡ d → levelledBy x d ≡ d
-    → ((such : Event → Device → Bool) → acceptedAs such x d ≡ false) → Refuses r d
-unfolding step
-refused-as x r d h n l a =
-    record {
-      after = ap (λ (y : Decoded). stepDecoded y d .device) h ∙ n;
-      middle = ap (λ (y : Decoded). levelledBy y d) h ∙ l;
-      none = λ such. ap (λ (y : Decoded). acceptedAs such y d) h ∙ a such;
-    }
-
 -- One or the other holds of every four bytes.
-met-decoded : (x : Decoded) (r : Raw) (d : Device) → decode r ≡ x → Met r d
-unfolding stepDecoded stepEvent refused
-met-decoded (Reads e) r d h =
-    split (inSequence e d) (λ s. takes e (taken-as e r d h s))
-    (λ s. refuses
-    (refused-as (Reads e) r d h (ap (λ (b : Bool). (if b then taken e d else refused 4 d) .device) s) (if-false (mid e d) d s)
-    λ such. ap (λ (b : Bool). b && such e d) s))
-met-decoded UnknownKind r d h = refuses (refused-as UnknownKind r d h refl refl λ such. refl)
-met-decoded BadField r d h = refuses (refused-as BadField r d h refl refl λ such. refl)
-
 pub met : (r : Raw) (d : Device) → Met r d
-met r d = met-decoded (decode r) r d refl
+unfolding refused
+met r d =
+    step-cases (λ (s : Stepped). step d r ≡ s → Met r d) d r (λ e h s _. takes e (taken-as e r d h s))
+    (λ n u same. refuses (record { after = ap (λ (s : Stepped). s .device) same; middle = u .1; none = u .0 })) refl
 
 -- ---- a tick
 

@@ -25,7 +25,7 @@ ShowsItself s = s .answer .owner ≡ ownerByte (s .device)
 
 step-shows : (d : Device) (r : Raw) → ShowsItself (step d r)
 unfolding taken refused
-step-shows d r = step-cases ShowsItself d r (λ e x s. refl) (λ n. refl)
+step-shows d r = step-cases ShowsItself d r (λ e x s. refl) (λ n u. refl)
 
 -- an owner's number fits two bits
 owner-below : (t : Turn) → ownerNumber t < 4

@@ -14,19 +14,18 @@ use Rattle.arbiter.specs.Steps.{parts, refused, run}
 use Rattle.arbiter.specs.AuditWords.{requests, acceptedAs, isAccepted}
 use Rattle.arbiter.specs.Audit.{RefusedUnchanged, settle, AllSettled}
 use Rattle.arbiter.proofs.Choice.{either, split, if-true, if-false, turn-owns}
-use Rattle.arbiter.proofs.Cases.{cut-cases, claimant-stays, new-cases, claim-cases, connect-cases, step-cases, run-keeps}
+use Rattle.arbiter.proofs.Cases.{cut-cases, claimant-stays, new-cases, claim-cases, connect-cases, run-keeps}
+use Rattle.arbiter.proofs.Raws.{refuses, takes, met}
 use Rattle.arbiter.proofs.Connected.{serves, asksOn, Served, unserved, all-served}
 
 -- ---- a refused event
 
--- what reads as an event and is in sequence is accepted, so what is not accepted is refused
-in-sequence-accepted : (r : Raw) (e : Event) (d : Device) → decode r ≡ Reads e → inSequence e d ≡ true → isAccepted r d ≡ true
-in-sequence-accepted r e d h s = ap (λ (x : Decoded). acceptedAs (λ (e : Event) (x : Device). true) x d) h ∙ and-true (inSequence e d) ∙ s
-
 pub refused-unchanged : RefusedUnchanged
-unfolding refused
 refused-unchanged d r h =
-    step-cases (λ (s : Stepped). s .device ≡ d) d r (λ e x s. absurd (false≢true (sym h ∙ in-sequence-accepted r e d x s))) (λ n. refl)
+    elim (met r d) [
+      | refuses x ↦ x .after
+      | takes e x ↦ absurd (false≢true (sym h ∙ x .same λ f y. true))
+    ]
 
 -- ---- what there is to settle, part by part
 

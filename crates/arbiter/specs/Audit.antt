@@ -28,7 +28,7 @@ OneConnected = (rs : List Raw) (m : Master) → connected m (run rs) ≡ true �
 abbrev pub ApartUnowned : Type 0
 ApartUnowned = (rs : List Raw) → ((m : Master) → owns m (run rs) ≡ false) → (run rs) .arb .switch ≡ Apart
 
--- As the answers show it: bits 0 and 1 of the third byte are the owner, bits 2 and 3 the connected one, and a connected one is the owner.
+-- As the answers show it: bits 0 and 1 of the third byte are the owner, bits 2 and 3 the connected one.
 abbrev pub ownerBits : ℕ → ℕ
 ownerBits b = b % 4
 
@@ -40,6 +40,7 @@ AnswersShow =
     (rs : List Raw) (r : Raw) (m : Master) → let b : ℕ = step (run rs) r .answer .owner in
     (eqb (ownerBits b) (masterNumber m) ≡ owns m (next (run rs) r)) × (eqb (switchBits b) (masterNumber m) ≡ connected m (next (run rs) r))
 
+-- No answer shows a connected one but the owner, and there is one owner or none.
 abbrev pub AnswersShowOne : Type 0
 AnswersShowOne =
     (rs : List Raw) (r : Raw) → let b : ℕ = step (run rs) r .answer .owner in
@@ -123,7 +124,7 @@ IdleTimerEnds =
 
 -- ---- How a grant begins and ends, whatever the device
 
--- A grant is given only to a master whose port is at rest, after its STOP, and while no hold runs.
+-- A grant is given only to a master whose port is at rest, and while no hold runs.
 abbrev pub GrantedAtRest : Type 0
 GrantedAtRest = (m : Master) (d : Device) (r : Raw) → grantTaken m r d ≡ true → (resting m (next d r) ≡ true) × ((next d r) .bus .hold ≡ 0)
 
