@@ -12,7 +12,7 @@ use Rattle.arbiter.specs.Effects.{idleLimit, freshSide, powerUp, effect}
 use Rattle.arbiter.specs.Order.{isReset, isTick, clockOf, busyAfter, settledBus, levels, runsOut, lost, lossesFrom, losses, cutFrom, cut, claimBy, winner, newClaim, claimAfter, claim, granted, grantFrom, grant, switched, joined, clocked, keptJoined, connectFrom, connect}
 use Rattle.arbiter.specs.Steps.{parts, refused, run}
 use Rattle.arbiter.specs.AuditWords.{requests, acceptedAs, isAccepted}
-use Rattle.arbiter.specs.Audit.{RefusedUnchanged, settle, AllSettled}
+use Rattle.arbiter.specs.Audit.{RefusedUnchanged, partsAgain, AllSettled}
 use Rattle.arbiter.proofs.Choice.{either, split, if-true, if-false, turn-owns}
 use Rattle.arbiter.proofs.Cases.{cut-cases, claimant-stays, new-cases, claim-cases, connect-cases, run-keeps}
 use Rattle.arbiter.proofs.Raws.{refuses, takes, met}
@@ -359,7 +359,7 @@ connect-again (Owns m) d e h =
     (λ a. open-again d h λ j. ap (λ (t : Turn). ownsTurn j t && asksOn j d) e ∙ unasked j m (λ j. asksOn j d) a)
 
 -- parts 2 to 7, one after the other
-settles : (d : Device) → Ready d → Served d → settle d ≡ d
+settles : (d : Device) → Ready d → Served d → partsAgain d ≡ d
 unfolding losses cut grant connect
 settles d ((still, stays), claimed, waits) served =
     ap (λ (x : Device). connect NoClock (grant (claim (cut false (losses x))))) (levels-again d still)

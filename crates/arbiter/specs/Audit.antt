@@ -138,9 +138,10 @@ EndsDisconnected = (m : Master) (d : Device) (r : Raw) → grantEnded m r d ≡ 
 abbrev pub RefusedUnchanged : Type 0
 RefusedUnchanged = (d : Device) (r : Raw) → isAccepted r d ≡ false → next d r ≡ d
 
--- Every step of a run leaves the device settled: parts 2 to 7 done again, with no event, change nothing.
-abbrev pub settle : Device → Device
-settle d = connect NoClock (grant (claim (cut false (losses (levels false (d .bus) d)))))
+-- parts 2 to 7 done again, with no event
+abbrev pub partsAgain : Device → Device
+partsAgain d = connect NoClock (grant (claim (cut false (losses (levels false (d .bus) d)))))
 
+-- Every step of a run leaves the device settled: that changes nothing.
 abbrev pub AllSettled : Type 0
-AllSettled = (rs : List Raw) → settle (run rs) ≡ run rs
+AllSettled = (rs : List Raw) → partsAgain (run rs) ≡ run rs
