@@ -54,6 +54,12 @@ tick = raw 6 0 0 0
 abbrev pub pulse : ℕ → Raw
 pulse sda = raw 7 sda 0 0
 
+abbrev pub reset : Raw
+reset = raw 8 0 0 0
+
+abbrev pub generalCall : ℕ → ℕ → Raw
+generalCall m b = raw 9 m b 0
+
 -- m sets register p to v, from COMMAND to STOP; both have CONTR open for writing; an event so often
 abbrev pub sets : ℕ → ℕ → ℕ → List Raw
 sets m p v = command m p ∷ write m v ∷ stop m ∷ []
