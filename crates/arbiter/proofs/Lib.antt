@@ -21,4 +21,5 @@ pub mod Timer
 pub mod IdleCount
 pub mod Marks
 pub mod Witnesses
+pub mod Answers
 pub mod Once

@@ -15,3 +15,4 @@ pub mod Traces
 pub mod Listing
 pub mod Marks
 pub mod Witnesses
+pub mod Answers
