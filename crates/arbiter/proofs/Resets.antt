@@ -2,13 +2,13 @@
 -- Assumes nothing.
 use mathlib.Core.Path.{_≡_, refl, sym, ap, _∙_}
 use mathlib.Core.Bool.{false≢true}
-use Rattle.arbiter.specs.Types.{ℕ, Bool, true, false, _||_, Master, Zero, One, Turn, Nobody, Device, Raw, Event, Command, Write, Read, Stop, Pair, Lines, Tick, Pulse, Reset, GeneralCall}
-use Rattle.arbiter.specs.Words.{if_then_else_, partner, side}
+use Rattle.arbiter.specs.Types.{ℕ, Bool, true, false, _||_, Master, Zero, One, Turn, Nobody, Device, Event, Command, Write, Read, Stop, Pair, Lines, Tick, Pulse, Reset, GeneralCall}
+use Rattle.arbiter.specs.Words.{if_then_else_, side}
 use Rattle.arbiter.specs.State.{ownsTurn, owns}
 use Rattle.arbiter.specs.Effects.{freshSide, holdAsked, wasReset, effect}
 use Rattle.arbiter.specs.Order.{isReset, levels, claimAfter}
 use Rattle.arbiter.specs.Steps.{parts}
-use Rattle.arbiter.specs.AuditWords.{next, requests, reset}
+use Rattle.arbiter.specs.AuditWords.{requests}
 use Rattle.arbiter.specs.Audit.{ResetEnds}
 use Rattle.arbiter.proofs.Choice.{if-true, if-false}
 use Rattle.arbiter.proofs.Effects.{ownerLetsGo, effect-turn}

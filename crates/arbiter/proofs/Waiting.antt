@@ -77,8 +77,9 @@ follows-next : (m : Master) (r : Raw) (d : Device) → Owner m d → grantEnded 
     → Next (partner m) (next d r)
 follows-next m r d o g ok q =
     let n : Device = next d r in
+    let ended : owns m n ≡ false = not-true (owns m n) (and-eq-true-iff (owns m d) (not (owns m n)) .0 g .1) in
     elim (lot m r d o ok) [
-      | keeps k ↦ absurd (true≢false (sym (turn-owns m (n .arb .turn) (k .owner .turn)) ∙ not-true (owns m n) (and-eq-true-iff (owns m d) (not (owns m n)) .0 g .1)))
+      | keeps k ↦ absurd (true≢false (sym (turn-owns m (n .arb .turn) (k .owner .turn)) ∙ ended))
       | over h c ↦ over-next m n h q
     ]
 

@@ -75,7 +75,8 @@ ReserveLasts =
     grantTaken m r (run rs) ≡ true → ticksIn d later < reserveOf m d → never reset d later ≡ true → never (withdrawalOf m) d later ≡ true
     → owns m (runFrom d later) ≡ true
 
--- And no longer than that on an idle bus: t is the tick that makes as many as the reserve. If the bus is idle after t, m does not own.
+-- And no longer than that on an idle bus: still without reset and withdrawal, t is the tick that makes as many as the reserve. If the bus is
+-- idle after t, m does not own.
 abbrev pub ReserveEnds : Type 0
 ReserveEnds =
     (m : Master) (rs : List Raw) (r : Raw) (later : List Raw) (t : Raw) → let d : Device = next (run rs) r in
@@ -119,7 +120,7 @@ PartnerInTime =
     → never reset d later ≡ true → never (withdrawalOf m) d later ≡ true
     → requests (partner m) end ≡ true → isIdle (end .bus) ≡ true → resting (partner m) end ≡ true → owns (partner m) end ≡ true
 
--- Where the partner's request stands all the while from the grant on, m may withdraw as well: the partner owns after t just so.
+-- Where the partner's request stands all the while from the grant on, m may withdraw as well, and the partner owns after t just so.
 abbrev pub PartnerInTimeThroughout : Type 0
 PartnerInTimeThroughout =
     (m : Master) (rs : List Raw) (r : Raw) (later : List Raw) (t : Raw) → let d : Device = next (run rs) r in
