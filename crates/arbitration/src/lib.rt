@@ -9,8 +9,10 @@ ghost use Rattle.arbiter.specs.Order.{runsOut, loser, losses, cut, column, winn
 ghost use Prim.Native.Nat.{_≤_};
 use arbiter::Arbitration;
 use arbiter::Bus;
+use arbiter::CUT_TICKS;
 use arbiter::Control;
 use arbiter::Device;
+use arbiter::IDLE_LIMIT;
 use arbiter::Last;
 use arbiter::Master;
 use arbiter::Side;
@@ -42,7 +44,7 @@ pub fn runs_out(s: Side, reserve: u8, b: Bus) -> bool
     ensures { λ r. ⌜ r ≡ runsOut s reserve b ⌝ }
 {
     if s.rt == 0 {
-        s.contr.idletimer & (b.idle == 101)
+        s.contr.idletimer & (b.idle == IDLE_LIMIT)
     } else {
         (reserve == 0) & is_idle(b)
     }
@@ -133,7 +135,7 @@ fn cut_if(on: bool, s: Side) -> Side
 pub fn cut_at(tick: bool, d: Device) -> Device
     ensures { λ r. ⌜ r ≡ cut tick d ⌝ }
 {
-    let now = tick & (d.bus.lowscl == 35);
+    let now = tick & (d.bus.lowscl == CUT_TICKS);
     let cut0 = owns_turn(Master::Zero, turn_of(d.arb)) & (now & has_smbus_dis(d.side0.contr));
     let cut1 = owns_turn(Master::One, turn_of(d.arb)) & (now & has_smbus_dis(d.side1.contr));
     device_with(cut_if(cut0, d.side0), cut_if(cut1, d.side1), d.bus, d.arb)

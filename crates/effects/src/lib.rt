@@ -9,6 +9,7 @@ use arbiter::Bus;
 use arbiter::Control;
 use arbiter::Device;
 use arbiter::Event;
+use arbiter::HOLD_TICKS;
 use arbiter::Master;
 use bits::worth_of;
 use bus::fresh_bus;
@@ -320,7 +321,7 @@ fn on_general_call(m: Master, b: u8, d: Device) -> Effect
     ensures { λ r. ⌜ r ≡ effectOf (GeneralCall m b) d ⌝ }
 {
     if b == 0x06 {
-        let hold = worth_of(35, swrst_of(m, d));
+        let hold = worth_of(HOLD_TICKS, swrst_of(m, d));
         did_so(reset_device(hold, d), 0, 0)
     } else {
         did_so(d, 1, 0)

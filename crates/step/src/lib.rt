@@ -11,6 +11,7 @@ ghost use Rattle.arbiter.specs.Steps.{masterNumber, ownerNumber, switchNumber, 
 ghost use Rattle.step.specs.Settled.{settle, isApart, isSilent, waits, linked, keeps, isQuiet, finished, moved, steppedWith};
 use arbiter::Answer;
 use arbiter::Bus;
+use arbiter::CUT_TICKS;
 use arbiter::Clock;
 use arbiter::Decoded;
 use arbiter::Device;
@@ -96,7 +97,7 @@ fn owner_keeps(m: Master, tick: bool, s: Side, reserve: u8, b: Bus, w: Switch) -
     ensures { λ r. ⌜ r ≡ keeps m tick s reserve b w ⌝ }
 {
     !runs_out(s, reserve, b)
-        & !(tick & (b.lowscl == 35) & s.contr.smbusdis)
+        & !(tick & (b.lowscl == CUT_TICKS) & s.contr.smbusdis)
         & is_linked(m, s.contr.busconnect, w)
 }
 
