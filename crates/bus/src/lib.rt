@@ -8,6 +8,8 @@ ghost use Rattle.arbiter.specs.Registers.{released};
 ghost use Rattle.arbiter.specs.Effects.{outside, tickedBus, freshBus};
 ghost use Rattle.arbiter.specs.Order.{busyAfter, settledBus};
 use arbiter::Bus;
+use arbiter::HUNG_LIMIT;
+use arbiter::IDLE_LIMIT;
 use bits::counted_u8;
 use bits::counted_u16;
 use bits::less_one;
@@ -35,7 +37,7 @@ pub fn is_idle(b: Bus) -> bool
 pub fn bus_hung(b: Bus) -> bool
     ensures { λ r. ⌜ r ≡ busHung b ⌝ }
 {
-    (b.lowscl == 500) | (b.lowsda == 500)
+    (b.lowscl == HUNG_LIMIT) | (b.lowsda == HUNG_LIMIT)
 }
 
 // New outside levels.
@@ -71,9 +73,9 @@ pub fn ticked_bus(b: Bus) -> Bus
         drivesda: b.drivesda,
         busy: b.busy,
         hold: less_one(b.hold),
-        idle: counted_u8(101, idle, b.idle),
-        lowscl: counted_u16(500, !scl, b.lowscl),
-        lowsda: counted_u16(500, !sda, b.lowsda),
+        idle: counted_u8(IDLE_LIMIT, idle, b.idle),
+        lowscl: counted_u16(HUNG_LIMIT, !scl, b.lowscl),
+        lowsda: counted_u16(HUNG_LIMIT, !sda, b.lowsda),
     }
 }
 

@@ -9,19 +9,23 @@ use arbiter::Bus;
 use arbiter::Control;
 use arbiter::Device;
 use arbiter::Event;
+use arbiter::HOLD_TICKS;
 use arbiter::Master;
+use arbiter::Outcome;
 use bits::worth_of;
 use bus::fresh_bus;
 use bus::outside_of;
 use bus::ticked_bus;
-use parts::device_with;
-use parts::is_at_rest;
-use parts::owns_turn;
-use parts::pointer_of;
-use parts::port_of;
-use parts::switch_of;
-use parts::turn_of;
-use parts::with_turn;
+use events::acknowledged_number;
+use events::outcome_number;
+use fields::device_with;
+use fields::is_at_rest;
+use fields::owns_turn;
+use fields::pointer_of;
+use fields::port_of;
+use fields::switch_of;
+use fields::turn_of;
+use fields::with_turn;
 use registers::drives_written;
 use registers::mail_written;
 use registers::register_byte;
@@ -61,7 +65,7 @@ pub fn did_so(d: Device, number: u8, byte: u8) -> Effect
 fn on_command(m: Master, c: u8, d: Device) -> Effect
     ensures { λ r. ⌜ r ≡ effectOf (Command m c) d ⌝ }
 {
-    let number = worth_of(1, !(c / 8 % 16 == 0));
+    let number = acknowledged_number(c / 8 % 16 == 0);
     match m {
         Master::Zero => did_so(
             device_with(commanded_side(c, d.side0), d.side1, d.bus, d.arb),
@@ -119,9 +123,9 @@ fn on_write_0(v: u8, d: Device) -> Effect
 {
     if is_for_writing(port_of(d.side0)) {
         let ok = writable_at(pointer_of(d.side0));
-        did_so(written_by_0(v, d), worth_of(1, !ok), 0)
+        did_so(written_by_0(v, d), acknowledged_number(ok), 0)
     } else {
-        did_so(d, 4, 0)
+        did_so(d, outcome_number(Outcome::OutOfSequence), 0)
     }
 }
 
@@ -130,9 +134,9 @@ fn on_write_1(v: u8, d: Device) -> Effect
 {
     if is_for_writing(port_of(d.side1)) {
         let ok = writable_at(pointer_of(d.side1));
-        did_so(written_by_1(v, d), worth_of(1, !ok), 0)
+        did_so(written_by_1(v, d), acknowledged_number(ok), 0)
     } else {
-        did_so(d, 4, 0)
+        did_so(d, outcome_number(Outcome::OutOfSequence), 0)
     }
 }
 
@@ -174,9 +178,9 @@ fn on_pair(v0: u8, v1: u8, d: Device) -> Effect
 {
     if is_for_writing(port_of(d.side0)) & is_for_writing(port_of(d.side1)) {
         let ok = writable_at(pointer_of(d.side0)) & writable_at(pointer_of(d.side1));
-        did_so(paired_by(v0, v1, d), worth_of(1, !ok), 0)
+        did_so(paired_by(v0, v1, d), acknowledged_number(ok), 0)
     } else {
-        did_so(d, 4, 0)
+        did_so(d, outcome_number(Outcome::OutOfSequence), 0)
     }
 }
 
@@ -195,7 +199,7 @@ fn on_read(m: Master, d: Device) -> Effect
                 d.bus,
                 d.arb,
             ),
-            0,
+            outcome_number(Outcome::Done),
             register_byte(owns0, owns1, d.side0, d.side1, d.bus, d.arb.initfail),
         ),
         Master::One => did_so(
@@ -205,7 +209,7 @@ fn on_read(m: Master, d: Device) -> Effect
                 d.bus,
                 d.arb,
             ),
-            0,
+            outcome_number(Outcome::Done),
             register_byte(owns1, owns0, d.side1, d.side0, d.bus, d.arb.initfail),
         ),
     }
@@ -217,11 +221,11 @@ fn stop_by_0(d: Device) -> Effect
     ensures { λ r. ⌜ r ≡ effectOf (Stop Zero) d ⌝ }
 {
     if is_at_rest(port_of(d.side0)) {
-        did_so(d, 4, 0)
+        did_so(d, outcome_number(Outcome::OutOfSequence), 0)
     } else {
         did_so(
             device_with(stopped_side(d.side0), d.side1, d.bus, d.arb),
-            0,
+            outcome_number(Outcome::Done),
             0,
         )
     }
@@ -231,11 +235,11 @@ fn stop_by_1(d: Device) -> Effect
     ensures { λ r. ⌜ r ≡ effectOf (Stop One) d ⌝ }
 {
     if is_at_rest(port_of(d.side1)) {
-        did_so(d, 4, 0)
+        did_so(d, outcome_number(Outcome::OutOfSequence), 0)
     } else {
         did_so(
             device_with(d.side0, stopped_side(d.side1), d.bus, d.arb),
-            0,
+            outcome_number(Outcome::Done),
             0,
         )
     }
@@ -263,7 +267,7 @@ fn on_lines(scl: bool, sda: bool, intin: bool, d: Device) -> Effect
             outside_of(scl, sda, intin, d.bus),
             d.arb,
         ),
-        0,
+        outcome_number(Outcome::Done),
         0,
     )
 }
@@ -273,7 +277,7 @@ fn on_tick(d: Device) -> Effect
 {
     did_so(
         device_with(d.side0, d.side1, ticked_bus(d.bus), ticked_arb(d.arb)),
-        0,
+        outcome_number(Outcome::Done),
         0,
     )
 }
@@ -282,9 +286,9 @@ fn on_pulse(sda: bool, d: Device) -> Effect
     ensures { λ r. ⌜ r ≡ effectOf (Pulse sda) d ⌝ }
 {
     if initialises(switch_of(d.arb)) {
-        did_so(d, 0, 0)
+        did_so(d, outcome_number(Outcome::Done), 0)
     } else {
-        did_so(d, 4, 0)
+        did_so(d, outcome_number(Outcome::OutOfSequence), 0)
     }
 }
 
@@ -313,17 +317,17 @@ fn swrst_of(m: Master, d: Device) -> bool
 fn on_reset(d: Device) -> Effect
     ensures { λ r. ⌜ r ≡ effectOf Reset d ⌝ }
 {
-    did_so(reset_device(0, d), 0, 0)
+    did_so(reset_device(0, d), outcome_number(Outcome::Done), 0)
 }
 
 fn on_general_call(m: Master, b: u8, d: Device) -> Effect
     ensures { λ r. ⌜ r ≡ effectOf (GeneralCall m b) d ⌝ }
 {
     if b == 0x06 {
-        let hold = worth_of(35, swrst_of(m, d));
-        did_so(reset_device(hold, d), 0, 0)
+        let hold = worth_of(HOLD_TICKS, swrst_of(m, d));
+        did_so(reset_device(hold, d), outcome_number(Outcome::Done), 0)
     } else {
-        did_so(d, 1, 0)
+        did_so(d, outcome_number(Outcome::NotAcknowledged), 0)
     }
 }
 

@@ -19,10 +19,10 @@ use bits::worth_of;
 use bus::bus_hung;
 use bus::scl_high;
 use bus::sda_high;
-use parts::pick_turn;
-use parts::pointer_of;
-use parts::port_of;
-use parts::side_with;
+use fields::pick_turn;
+use fields::pointer_of;
+use fields::port_of;
+use fields::side_with;
 
 fn register_number(r: Register) -> u8
     ensures { λ n. ⌜ n ≡ registerNumber r ⌝ }

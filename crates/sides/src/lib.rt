@@ -18,14 +18,14 @@ use arbiter::Switch;
 use arbiter::Turn;
 use bits::less_one;
 use bits::pick_bool;
-use parts::arb_with;
-use parts::last_of;
-use parts::pick_register;
-use parts::pointer_of;
-use parts::port_of;
-use parts::side_with;
-use parts::switch_of;
-use parts::turn_of;
+use fields::arb_with;
+use fields::last_of;
+use fields::pick_register;
+use fields::pointer_of;
+use fields::port_of;
+use fields::side_with;
+use fields::switch_of;
+use fields::turn_of;
 use registers::raised_in;
 
 // ---- what a port, a register and a switch show
