@@ -20,7 +20,6 @@ use bits::worth_of;
 use bus::idle_kept;
 use fields::arb_with;
 use fields::device_with;
-use fields::is_at_rest;
 use fields::last_of;
 use fields::pick_turn;
 use fields::pointer_of;
@@ -30,6 +29,7 @@ use fields::side_with;
 use fields::switch_of;
 use fields::turn_of;
 use fields::with_turn;
+use ports::is_at_rest;
 use registers::raised_in;
 
 // ---- 5. claim

@@ -1,11 +1,11 @@
-// The downstream bus: what it shows, one tick of its counts, its levels after an event, its drives, and a fresh one.
+// The downstream bus: what it shows, one tick of its counts, its levels after an event, and its drives.
 ghost use mathlib.Core.Path.{_≡_};
 ghost use mathlib.Core.Bool.{false};
 ghost use Rattle.arbiter.specs.Words.{if_then_else_};
 ghost use Rattle.arbiter.specs.Parts.{withIdle};
 ghost use Rattle.arbiter.specs.State.{sclHigh, sdaHigh, isIdle, busHung};
 ghost use Rattle.arbiter.specs.Registers.{released};
-ghost use Rattle.arbiter.specs.Effects.{outside, tickedBus, freshBus};
+ghost use Rattle.arbiter.specs.Effects.{outside, tickedBus};
 ghost use Rattle.arbiter.specs.Order.{busyAfter, settledBus};
 use arbiter::Bus;
 use arbiter::HUNG_LIMIT;
@@ -143,23 +143,5 @@ pub fn idle_kept(kept: bool, b: Bus) -> Bus
         idle: pick_u8(kept, b.idle, 0),
         lowscl: b.lowscl,
         lowsda: b.lowsda,
-    }
-}
-
-// After a reset: the outside levels alone are kept, and SCL is held for so many ticks.
-pub fn fresh_bus(hold: u8, b: Bus) -> Bus
-    ensures { λ r. ⌜ r ≡ freshBus hold b ⌝ }
-{
-    Bus {
-        outscl: b.outscl,
-        outsda: b.outsda,
-        intin: b.intin,
-        drivescl: true,
-        drivesda: true,
-        busy: false,
-        hold,
-        idle: 0,
-        lowscl: 0,
-        lowsda: 0,
     }
 }

@@ -11,7 +11,7 @@ use Rattle.arbiter.specs.declared.Switch.{Switch}
 use Rattle.arbiter.specs.declared.Switch.the-variants.{Apart, Initialising, Closed}
 use Rattle.arbiter.specs.declared.Clock.the-variants.{NoClock}
 use Rattle.arbiter.specs.declared.Device.{Device}
-use Rattle.connection.specs.Quiet.{isApart, linked, noLink}
+use Rattle.connection.specs.Quiet.{isApart, linked, switchStays}
 
 if-true : {A : Type 0} (b : Bool) (x y : A) → b ≡ true → (if b then x else y) ≡ x
 if-true true x y e = refl
@@ -36,12 +36,12 @@ linked-same m false (Initialising k n) d e q = absurd (false≢true q)
 linked-same m true (Closed k) d e q = if-true (sameMaster m k) d (joined m d) q
 linked-same m false (Closed k) d e q = absurd (false≢true q)
 
-connect-quiet : (t : Turn) (d : Device) → noLink t d ≡ true → connectFrom NoClock t d ≡ d
+connect-quiet : (t : Turn) (d : Device) → switchStays t d ≡ true → connectFrom NoClock t d ≡ d
 unfolding connectFrom
 connect-quiet Nobody d q = switched-same Apart d (apart (d .arb .switch) q)
 connect-quiet (Claims m) d q = switched-same Apart d (apart (d .arb .switch) q)
 connect-quiet (Owns m) d q = linked-same m ((side m d) .contr .busconnect) (d .arb .switch) d refl q
 
-pub no-link : (d : Device) → noLink (d .arb .turn) d ≡ true → connect NoClock d ≡ d
+pub switch-stays : (d : Device) → switchStays (d .arb .turn) d ≡ true → connect NoClock d ≡ d
 unfolding connect
-no-link d q = connect-quiet (d .arb .turn) d q
+switch-stays d q = connect-quiet (d .arb .turn) d q

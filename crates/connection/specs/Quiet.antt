@@ -20,7 +20,7 @@ linked m busconnect Apart = not busconnect
 linked m busconnect (Initialising k n) = busconnect && sameMaster m k
 linked m busconnect (Closed k) = busconnect && sameMaster m k
 
-abbrev pub noLink : Turn → Device → Bool
-noLink Nobody d = isApart (d .arb .switch)
-noLink (Claims m) d = isApart (d .arb .switch)
-noLink (Owns m) d = linked m ((side m d) .contr .busconnect) (d .arb .switch)
+abbrev pub switchStays : Turn → Device → Bool
+switchStays Nobody d = isApart (d .arb .switch)
+switchStays (Claims m) d = isApart (d .arb .switch)
+switchStays (Owns m) d = linked m ((side m d) .contr .busconnect) (d .arb .switch)

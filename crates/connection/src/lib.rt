@@ -1,8 +1,9 @@
 // Part 7 of a step: the switch, and the initialisation before it closes; and when it has nothing to do.
 ghost use mathlib.Core.Path.{_≡_};
 ghost use Rattle.arbiter.specs.Parts.{withContr};
+ghost use Rattle.arbiter.specs.State.{isInitialising};
 ghost use Rattle.arbiter.specs.Order.{connect};
-ghost use Rattle.connection.specs.Quiet.{isApart, linked, noLink};
+ghost use Rattle.connection.specs.Quiet.{isApart, linked, switchStays};
 ghost use Rattle.connection.specs.Links.{still, joining, clocking, linking, linkOf, contrEnded, arbLinked};
 use arbiter::Arbitration;
 use arbiter::Clock;
@@ -22,6 +23,17 @@ use fields::same_master;
 use fields::side_with;
 use fields::switch_of;
 use fields::turn_of;
+
+// An initialisation runs.
+pub fn initialises(w: Switch) -> bool
+    ensures { λ r. ⌜ r ≡ isInitialising w ⌝ }
+{
+    match w {
+        Switch::Apart => false,
+        Switch::Initialising(_, _) => true,
+        Switch::Closed(_) => false,
+    }
+}
 
 // What becomes of the switch: an initialisation starts, ends, or ends in failure.
 pub struct Link {
@@ -210,8 +222,8 @@ fn is_linked(m: Master, busconnect: bool, w: Switch) -> bool
 }
 
 // Part 7 has nothing to do, if the event is no clock: the switch is as the turn and BUS_CONNECT have it.
-pub fn no_link(t: Turn, d: Device) -> bool
-    ensures { λ r. ⌜ r ≡ noLink t d ⌝ }
+pub fn switch_stays(t: Turn, d: Device) -> bool
+    ensures { λ r. ⌜ r ≡ switchStays t d ⌝ }
 {
     match t {
         Turn::Nobody => is_apart(switch_of(d.arb)),

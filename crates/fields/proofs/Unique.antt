@@ -12,7 +12,6 @@ use Rattle.fields.proofs.device_with.Reads as device-with
 use Rattle.fields.proofs.with_turn.Reads as with-turn
 use Rattle.fields.proofs.pick_turn.Reads as pick-turn
 use Rattle.fields.proofs.pick_register.Reads as pick-register
-use Rattle.fields.proofs.is_at_rest.Reads as is-at-rest
 use Rattle.fields.proofs.same_master.Reads as same-master
 use Rattle.fields.proofs.owns_turn.Reads as owns-turn
 
@@ -48,9 +47,6 @@ pick-turn-once κ a x y s t p q = once p q
 
 pub pick-register-once : OneResult pick-register.Post
 pick-register-once κ a x y s t p q = once p q
-
-pub is-at-rest-once : OneResult is-at-rest.Post
-is-at-rest-once κ a x y s t p q = once p q
 
 pub same-master-once : OneResult same-master.Post
 same-master-once κ a x y s t p q = once p q

@@ -4,7 +4,7 @@
 // the compiler then packs neighbouring fields into one word and takes them apart again at every step.
 ghost use mathlib.Core.Path.{_≡_};
 ghost use Rattle.arbiter.specs.Words.{if_then_else_, sameMaster};
-ghost use Rattle.arbiter.specs.State.{atRest, ownsTurn};
+ghost use Rattle.arbiter.specs.State.{ownsTurn};
 ghost use Rattle.arbiter.specs.Parts.{withTurn};
 ghost use Rattle.fields.specs.Whole.{sideWith, arbWith, deviceWith};
 use arbiter::Arbitration;
@@ -129,16 +129,6 @@ pub fn pick_register(test: bool, x: Register, y: Register) -> Register
 }
 
 // ---- what they show
-
-pub fn is_at_rest(p: Port) -> bool
-    ensures { λ r. ⌜ r ≡ atRest p ⌝ }
-{
-    match p {
-        Port::Rest => true,
-        Port::Open => false,
-        Port::Writing => false,
-    }
-}
 
 fn is_zero(m: Master) -> bool
     ensures { λ r. ⌜ r ≡ sameMaster Master.Zero m ⌝ }

@@ -9,8 +9,8 @@ use Rattle.arbiter.specs.declared.Clock.the-variants.{NoClock, ClockLow, ClockH
 use Rattle.arbiter.specs.declared.Device.{Device}
 use Rattle.arbitration.specs.Quiet.{noLoss, noCut, noClaim, noGrant}
 use Rattle.arbitration.proofs.Quiet.{no-loss, no-cut, no-claim, no-grant}
-use Rattle.connection.specs.Quiet.{noLink}
-use Rattle.connection.proofs.Quiet.{no-link}
+use Rattle.connection.specs.Quiet.{switchStays}
+use Rattle.connection.proofs.Quiet.{switch-stays}
 use Rattle.step.specs.Carried.{partsThreeToSeven, isSilent, isQuiet}
 
 module _ (tick : Bool) (d : Device) where
@@ -28,11 +28,11 @@ module _ (tick : Bool) (d : Device) where
   unfolding isQuiet
   quiet-same q =
       let t : Turn = d .arb .turn in
-      let p = and-eq-true-iff (noLink t d && noGrant t d && noClaim t d && noCut tick t d) (noLoss t d) .0 q in
-      let r = and-eq-true-iff (noLink t d && noGrant t d && noClaim t d) (noCut tick t d) .0 (p .0) in
-      let s = and-eq-true-iff (noLink t d && noGrant t d) (noClaim t d) .0 (r .0) in
-      let u = and-eq-true-iff (noLink t d) (noGrant t d) .0 (s .0) in
-      through-same (no-loss d (p .1)) (no-cut tick d (r .1)) (no-claim d (s .1)) (no-grant d (u .1)) (no-link d (u .0))
+      let p = and-eq-true-iff (switchStays t d && noGrant t d && noClaim t d && noCut tick t d) (noLoss t d) .0 q in
+      let r = and-eq-true-iff (switchStays t d && noGrant t d && noClaim t d) (noCut tick t d) .0 (p .0) in
+      let s = and-eq-true-iff (switchStays t d && noGrant t d) (noClaim t d) .0 (r .0) in
+      let u = and-eq-true-iff (switchStays t d) (noGrant t d) .0 (s .0) in
+      through-same (no-loss d (p .1)) (no-cut tick d (r .1)) (no-claim d (s .1)) (no-grant d (u .1)) (switch-stays d (u .0))
 
 -- ---- the test of the code, which also asks that the event be no clock
 

@@ -18,7 +18,7 @@ use Rattle.arbiter.specs.declared.Decoded.{Decoded}
 use Rattle.arbiter.specs.declared.Decoded.the-variants.{Reads, UnknownKind, BadField}
 use Rattle.arbiter.specs.declared.Outcome.the-variants.{OutOfSequence}
 use Rattle.arbitration.specs.Quiet.{noLoss, noCut, noClaim, noGrant}
-use Rattle.connection.specs.Quiet.{noLink}
+use Rattle.connection.specs.Quiet.{switchStays}
 use Rattle.effects.specs.declared.Effect.{Effect}
 use Rattle.effects.specs.Effect.{did}
 
@@ -35,7 +35,7 @@ isSilent ClockLow = false
 isSilent ClockHigh = false
 
 abbrev pub quietFrom : Turn → Bool → Device → Bool
-quietFrom t tick d = noLink t d && noGrant t d && noClaim t d && noCut tick t d && noLoss t d
+quietFrom t tick d = switchStays t d && noGrant t d && noClaim t d && noCut tick t d && noLoss t d
 
 unfoldable pub isQuiet : Bool → Device → Bool
 isQuiet tick d = quietFrom (d .arb .turn) tick d

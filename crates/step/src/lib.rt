@@ -35,11 +35,10 @@ use bus::scl_high;
 use bus::sda_high;
 use bus::settled_bus;
 use connection::connect_of;
-use connection::no_link;
+use connection::switch_stays;
 use effects::Effect;
 use effects::did_so;
 use effects::effect_of;
-use effects::fresh_device;
 use events::clock_of;
 use events::decode_raw;
 use events::decoded_number;
@@ -49,6 +48,7 @@ use fields::device_with;
 use fields::switch_of;
 use fields::turn_of;
 use registers::is_asserted_by;
+use resets::fresh_device;
 
 // ---- parts 2 to 7
 
@@ -72,7 +72,7 @@ fn is_silent(c: Clock) -> bool
 fn is_quiet(tick: bool, d: Device) -> bool
     ensures { λ r. ⌜ r ≡ isQuiet tick d ⌝ }
 {
-    no_link(turn_of(d.arb), d)
+    switch_stays(turn_of(d.arb), d)
         & no_grant(turn_of(d.arb), d)
         & no_claim(turn_of(d.arb), d)
         & no_cut(tick, turn_of(d.arb), d)

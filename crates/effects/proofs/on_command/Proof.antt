@@ -1,3 +1,5 @@
+-- `effects::on_command` meets its contract.
+-- Assumes nothing.
 use Rattle.arbiter.specs.Effects.{effect, lined, ticked, wasRead}
 use Rattle.arbiter.specs.Events.{acknowledged, inSequence, outcome}
 use Rattle.arbiter.specs.Steps.{byteRead}
@@ -35,11 +37,25 @@ did-so-requires-2 c κs = search needs
 
 returns : tie.Need-returns
 unfolding effectOf wasRead lined ticked effect byteRead inSequence acknowledged outcome
-returns c = simp (← c .did-so .ensures, ← c .before .device-with .ensures, ← c .before .before .commanded-side .ensures, c .before .before .before .enum-told .given .1, ← c .before .before .before .before .before .acknowledged-number .ensures)
+returns c =
+    simp (
+      ← c .did-so .ensures,
+      ← c .before .device-with .ensures,
+      ← c .before .before .commanded-side .ensures,
+      c .before .before .before .enum-told .given .1,
+      ← c .before .before .before .before .before .acknowledged-number .ensures,
+    )
 
 returns-2 : tie.Need-returns-2
 unfolding effectOf wasRead lined ticked effect byteRead inSequence acknowledged outcome
-returns-2 c = simp (← c .did-so2 .ensures, ← c .before .device-with2 .ensures, ← c .before .before .commanded-side2 .ensures, c .before .before .before .enum-told2 .given .1, ← c .before .before .before .before .before .acknowledged-number .ensures)
+returns-2 c =
+    simp (
+      ← c .did-so2 .ensures,
+      ← c .before .device-with2 .ensures,
+      ← c .before .before .commanded-side2 .ensures,
+      c .before .before .before .enum-told2 .given .1,
+      ← c .before .before .before .before .before .acknowledged-number .ensures,
+    )
 
 pub on-command-spec : {M : Type 1} → statement M
 on-command-spec =

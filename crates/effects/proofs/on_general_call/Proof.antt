@@ -1,3 +1,5 @@
+-- `effects::on_general_call` meets its contract.
+-- Assumes nothing.
 use borrow.Author.Tests.{eq-eqb, ne-eqb}
 use Rattle.arbiter.specs.Effects.{effect, lined, ticked, wasRead}
 use Rattle.arbiter.specs.Events.{acknowledged, inSequence, outcome}
@@ -7,14 +9,8 @@ use borrow.Author.Needs.{needs}
 use Rattle.effects.proofs.on_general_call.Statement.{statement}
 use Rattle.effects.proofs.on_general_call.Tie as tie
 
-swrst-of-requires : tie.Need-swrst-of-requires
-swrst-of-requires c κs = search needs
-
-worth-of-requires : tie.Need-worth-of-requires
-worth-of-requires c κs = search needs
-
-reset-device-requires : tie.Need-reset-device-requires
-reset-device-requires c κs = search needs
+soft-reset-requires : tie.Need-soft-reset-requires
+soft-reset-requires c κs = search needs
 
 outcome-number-requires : tie.Need-outcome-number-requires
 outcome-number-requires c κs = search needs
@@ -30,7 +26,7 @@ did-so-requires-2 c κs = search needs
 
 returns : tie.Need-returns
 unfolding effectOf wasRead lined ticked effect byteRead inSequence acknowledged outcome
-returns c = simp (c .did-so .ensures, c .before .outcome-number .ensures, ← c .before .before .reset-device .ensures, ← c .before .before .before .worth-of .ensures .0, ← c .before .before .before .before .swrst-of .ensures, eq-eqb _ _ (c .before .before .before .before .before .if1 .taken))
+returns c = simp (c .did-so .ensures, c .before .outcome-number .ensures, ← c .before .before .soft-reset .ensures, eq-eqb _ _ (c .before .before .before .if1 .taken))
 
 returns-2 : tie.Need-returns-2
 unfolding effectOf wasRead lined ticked effect byteRead inSequence acknowledged outcome
@@ -40,9 +36,7 @@ pub on-general-call-spec : {M : Type 1} → statement M
 on-general-call-spec =
     tie.close
     (tie.spec
-    swrst-of-requires
-    worth-of-requires
-    reset-device-requires
+    soft-reset-requires
     outcome-number-requires
     did-so-requires
     outcome-number-requires-2

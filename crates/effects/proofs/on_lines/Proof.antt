@@ -1,3 +1,5 @@
+-- `effects::on_lines` meets its contract.
+-- Assumes nothing.
 use Rattle.arbiter.specs.Effects.{effect, lined, ticked, wasRead}
 use Rattle.arbiter.specs.Events.{acknowledged, inSequence, outcome}
 use Rattle.arbiter.specs.Steps.{byteRead}
@@ -26,7 +28,15 @@ did-so-requires c κs = search needs
 
 returns : tie.Need-returns
 unfolding effectOf wasRead lined ticked effect byteRead inSequence acknowledged outcome
-returns c = simp (c .did-so .ensures, c .before .outcome-number .ensures, c .before .before .device-with .ensures, c .before .before .before .outside-of .ensures, c .before .before .before .before .fallen-side2 .ensures, c .before .before .before .before .before .fallen-side .ensures)
+returns c =
+    simp (
+      c .did-so .ensures,
+      c .before .outcome-number .ensures,
+      c .before .before .device-with .ensures,
+      c .before .before .before .outside-of .ensures,
+      c .before .before .before .before .fallen-side2 .ensures,
+      c .before .before .before .before .before .fallen-side .ensures,
+    )
 
 pub on-lines-spec : {M : Type 1} → statement M
 on-lines-spec =

@@ -1,3 +1,5 @@
+-- `effects::on_pair` meets its contract.
+-- Assumes nothing.
 use Rattle.arbiter.specs.Effects.{effect, lined, ticked, wasRead}
 use Rattle.arbiter.specs.Events.{acknowledged, inSequence, outcome}
 use Rattle.arbiter.specs.Steps.{byteRead}
@@ -47,11 +49,34 @@ did-so-requires-2 c κs = search needs
 
 returns : tie.Need-returns
 unfolding effectOf wasRead lined ticked effect byteRead inSequence acknowledged outcome
-returns c = simp (← c .did-so .ensures, ← c .before .acknowledged-number .ensures, ← c .before .before .paired-by .ensures, ← c .before .before .before .writable-at2 .ensures, ← c .before .before .before .before .pointer-of2 .ensures, ← c .before .before .before .before .before .writable-at .ensures, ← c .before .before .before .before .before .before .pointer-of .ensures, c .before .before .before .before .before .before .before .if1 .taken, ← c .before .before .before .before .before .before .before .before .is-for-writing2 .ensures, ← c .before .before .before .before .before .before .before .before .before .port-of2 .ensures, ← c .before .before .before .before .before .before .before .before .before .before .is-for-writing .ensures, ← c .before .before .before .before .before .before .before .before .before .before .before .port-of .ensures)
+returns c =
+    simp (
+      ← c .did-so .ensures,
+      ← c .before .acknowledged-number .ensures,
+      ← c .before .before .paired-by .ensures,
+      ← c .before .before .before .writable-at2 .ensures,
+      ← c .before .before .before .before .pointer-of2 .ensures,
+      ← c .before .before .before .before .before .writable-at .ensures,
+      ← c .before .before .before .before .before .before .pointer-of .ensures,
+      c .before .before .before .before .before .before .before .if1 .taken,
+      ← c .before .before .before .before .before .before .before .before .is-for-writing2 .ensures,
+      ← c .before .before .before .before .before .before .before .before .before .port-of2 .ensures,
+      ← c .before .before .before .before .before .before .before .before .before .before .is-for-writing .ensures,
+      ← c .before .before .before .before .before .before .before .before .before .before .before .port-of .ensures,
+    )
 
 returns-2 : tie.Need-returns-2
 unfolding effectOf wasRead lined ticked effect byteRead inSequence acknowledged outcome
-returns-2 c = simp (c .did-so2 .ensures, c .before .outcome-number .ensures, c .before .before .if1 .left, ← c .before .before .before .is-for-writing2 .ensures, ← c .before .before .before .before .port-of2 .ensures, ← c .before .before .before .before .before .is-for-writing .ensures, ← c .before .before .before .before .before .before .port-of .ensures)
+returns-2 c =
+    simp (
+      c .did-so2 .ensures,
+      c .before .outcome-number .ensures,
+      c .before .before .if1 .left,
+      ← c .before .before .before .is-for-writing2 .ensures,
+      ← c .before .before .before .before .port-of2 .ensures,
+      ← c .before .before .before .before .before .is-for-writing .ensures,
+      ← c .before .before .before .before .before .before .port-of .ensures,
+    )
 
 pub on-pair-spec : {M : Type 1} → statement M
 on-pair-spec =

@@ -1,3 +1,5 @@
+-- `effects::on_pulse` meets its contract.
+-- Assumes nothing.
 use Rattle.arbiter.specs.Effects.{effect, lined, ticked, wasRead}
 use Rattle.arbiter.specs.Events.{acknowledged, inSequence, outcome}
 use Rattle.arbiter.specs.Steps.{byteRead}
@@ -26,11 +28,25 @@ did-so-requires-2 c κs = search needs
 
 returns : tie.Need-returns
 unfolding effectOf wasRead lined ticked effect byteRead inSequence acknowledged outcome
-returns c = simp (c .did-so .ensures, c .before .outcome-number .ensures, c .before .before .if1 .taken, ← c .before .before .before .initialises .ensures, ← c .before .before .before .before .switch-of .ensures)
+returns c =
+    simp (
+      c .did-so .ensures,
+      c .before .outcome-number .ensures,
+      c .before .before .if1 .taken,
+      ← c .before .before .before .initialises .ensures,
+      ← c .before .before .before .before .switch-of .ensures,
+    )
 
 returns-2 : tie.Need-returns-2
 unfolding effectOf wasRead lined ticked effect byteRead inSequence acknowledged outcome
-returns-2 c = simp (c .did-so2 .ensures, c .before .outcome-number2 .ensures, c .before .before .if1 .left, ← c .before .before .before .initialises .ensures, ← c .before .before .before .before .switch-of .ensures)
+returns-2 c =
+    simp (
+      c .did-so2 .ensures,
+      c .before .outcome-number2 .ensures,
+      c .before .before .if1 .left,
+      ← c .before .before .before .initialises .ensures,
+      ← c .before .before .before .before .switch-of .ensures,
+    )
 
 pub on-pulse-spec : {M : Type 1} → statement M
 on-pulse-spec =

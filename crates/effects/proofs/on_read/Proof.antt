@@ -72,6 +72,8 @@ did-so-requires-2 c κs = search needs
 
 returns : tie.Need-returns
 returns c =
+    let chosen = c .before .before .before .before .before .before .before in
+    let start = chosen .before .before .before .before .before .before in
     simp (
       c .did-so .ensures,
       c .before .register-byte .ensures,
@@ -85,10 +87,12 @@ returns c =
       c .before .before .before .before .before .before .before .before .before .before .before .owns-turn .ensures,
       c .before .before .before .before .before .before .before .before .before .before .before .before .turn-of .ensures,
     )
-    (read-law Zero (c .before .before .before .before .before .before .before .before .before .before .before .before .before .args .d) ∙ ap (λ (m : Master). effectOf (Read m) (c .before .before .before .before .before .before .before .before .before .before .before .before .before .args .d)) (sym (c .before .before .before .before .before .before .before .enum-told .given .1)))
+    (read-law Zero (start .args .d) ∙ ap (λ (m : Master). effectOf (Read m) (start .args .d)) (sym (chosen .enum-told .given .1)))
 
 returns-2 : tie.Need-returns-2
 returns-2 c =
+    let chosen = c .before .before .before .before .before .before .before in
+    let start = chosen .before .before .before .before .before .before in
     simp (
       c .did-so2 .ensures,
       c .before .register-byte2 .ensures,
@@ -102,7 +106,7 @@ returns-2 c =
       c .before .before .before .before .before .before .before .before .before .before .before .owns-turn .ensures,
       c .before .before .before .before .before .before .before .before .before .before .before .before .turn-of .ensures,
     )
-    (read-law One (c .before .before .before .before .before .before .before .before .before .before .before .before .before .args .d) ∙ ap (λ (m : Master). effectOf (Read m) (c .before .before .before .before .before .before .before .before .before .before .before .before .before .args .d)) (sym (c .before .before .before .before .before .before .before .enum-told2 .given .1)))
+    (read-law One (start .args .d) ∙ ap (λ (m : Master). effectOf (Read m) (start .args .d)) (sym (chosen .enum-told2 .given .1)))
 
 pub on-read-spec : {M : Type 1} → statement M
 on-read-spec =

@@ -1,3 +1,5 @@
+-- `effects::on_reset` meets its contract.
+-- Assumes nothing.
 use Rattle.arbiter.specs.Effects.{effect, lined, ticked, wasRead}
 use Rattle.arbiter.specs.Events.{acknowledged, inSequence, outcome}
 use Rattle.arbiter.specs.Steps.{byteRead}

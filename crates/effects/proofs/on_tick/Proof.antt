@@ -1,3 +1,5 @@
+-- `effects::on_tick` meets its contract.
+-- Assumes nothing.
 use Rattle.arbiter.specs.Effects.{effect, lined, ticked, wasRead}
 use Rattle.arbiter.specs.Events.{acknowledged, inSequence, outcome}
 use Rattle.arbiter.specs.Steps.{byteRead}
@@ -23,7 +25,14 @@ did-so-requires c κs = search needs
 
 returns : tie.Need-returns
 unfolding effectOf wasRead lined ticked effect byteRead inSequence acknowledged outcome
-returns c = simp (c .did-so .ensures, c .before .outcome-number .ensures, c .before .before .device-with .ensures, c .before .before .before .ticked-arb .ensures, c .before .before .before .before .ticked-bus .ensures)
+returns c =
+    simp (
+      c .did-so .ensures,
+      c .before .outcome-number .ensures,
+      c .before .before .device-with .ensures,
+      c .before .before .before .ticked-arb .ensures,
+      c .before .before .before .before .ticked-bus .ensures,
+    )
 
 pub on-tick-spec : {M : Type 1} → statement M
 on-tick-spec =

@@ -1,3 +1,5 @@
+-- `effects::on_write_1` meets its contract.
+-- Assumes nothing.
 use Rattle.arbiter.specs.Effects.{effect, lined, ticked, wasRead}
 use Rattle.arbiter.specs.Events.{acknowledged, inSequence, outcome}
 use Rattle.arbiter.specs.Steps.{byteRead}
@@ -35,11 +37,28 @@ did-so-requires-2 c κs = search needs
 
 returns : tie.Need-returns
 unfolding effectOf wasRead lined ticked effect byteRead inSequence acknowledged outcome
-returns c = simp (← c .did-so .ensures, ← c .before .acknowledged-number .ensures, ← c .before .before .written-by-1 .ensures, ← c .before .before .before .writable-at .ensures, ← c .before .before .before .before .pointer-of .ensures, c .before .before .before .before .before .if1 .taken, ← c .before .before .before .before .before .before .is-for-writing .ensures, ← c .before .before .before .before .before .before .before .port-of .ensures)
+returns c =
+    simp (
+      ← c .did-so .ensures,
+      ← c .before .acknowledged-number .ensures,
+      ← c .before .before .written-by-1 .ensures,
+      ← c .before .before .before .writable-at .ensures,
+      ← c .before .before .before .before .pointer-of .ensures,
+      c .before .before .before .before .before .if1 .taken,
+      ← c .before .before .before .before .before .before .is-for-writing .ensures,
+      ← c .before .before .before .before .before .before .before .port-of .ensures,
+    )
 
 returns-2 : tie.Need-returns-2
 unfolding effectOf wasRead lined ticked effect byteRead inSequence acknowledged outcome
-returns-2 c = simp (c .did-so2 .ensures, c .before .outcome-number .ensures, c .before .before .if1 .left, ← c .before .before .before .is-for-writing .ensures, ← c .before .before .before .before .port-of .ensures)
+returns-2 c =
+    simp (
+      c .did-so2 .ensures,
+      c .before .outcome-number .ensures,
+      c .before .before .if1 .left,
+      ← c .before .before .before .is-for-writing .ensures,
+      ← c .before .before .before .before .port-of .ensures,
+    )
 
 pub on-write-1-spec : {M : Type 1} → statement M
 on-write-1-spec =

@@ -1,3 +1,5 @@
+-- `step::is_quiet` meets its contract.
+-- Assumes nothing.
 use Rattle.step.specs.Carried.{isQuiet}
 use borrow.Author.Needs.{needs}
 use Rattle.step.proofs.is_quiet.Statement.{statement}
@@ -6,8 +8,8 @@ use Rattle.step.proofs.is_quiet.Tie as tie
 turn-of-requires : tie.Need-turn-of-requires
 turn-of-requires c κs = search needs
 
-no-link-requires : tie.Need-no-link-requires
-no-link-requires c κs = search needs
+switch-stays-requires : tie.Need-switch-stays-requires
+switch-stays-requires c κs = search needs
 
 turn-of-requires-2 : tie.Need-turn-of-requires-2
 turn-of-requires-2 c κs = search needs
@@ -35,14 +37,26 @@ no-loss-requires c κs = search needs
 
 returns : tie.Need-returns
 unfolding isQuiet
-returns c = simp (c .no-loss .ensures, c .before .turn-of5 .ensures, c .before .before .no-cut .ensures, c .before .before .before .turn-of4 .ensures, c .before .before .before .before .no-claim .ensures, c .before .before .before .before .before .turn-of3 .ensures, c .before .before .before .before .before .before .no-grant .ensures, c .before .before .before .before .before .before .before .turn-of2 .ensures, c .before .before .before .before .before .before .before .before .no-link .ensures, c .before .before .before .before .before .before .before .before .before .turn-of .ensures)
+returns c =
+    simp (
+      c .no-loss .ensures,
+      c .before .turn-of5 .ensures,
+      c .before .before .no-cut .ensures,
+      c .before .before .before .turn-of4 .ensures,
+      c .before .before .before .before .no-claim .ensures,
+      c .before .before .before .before .before .turn-of3 .ensures,
+      c .before .before .before .before .before .before .no-grant .ensures,
+      c .before .before .before .before .before .before .before .turn-of2 .ensures,
+      c .before .before .before .before .before .before .before .before .switch-stays .ensures,
+      c .before .before .before .before .before .before .before .before .before .turn-of .ensures,
+    )
 
 pub is-quiet-spec : {M : Type 1} → statement M
 is-quiet-spec =
     tie.close
     (tie.spec
     turn-of-requires
-    no-link-requires
+    switch-stays-requires
     turn-of-requires-2
     no-grant-requires
     turn-of-requires-3

@@ -22,7 +22,14 @@ connect-of-requires c κs = search needs
 
 returns : tie.Need-returns
 unfolding partsThreeToSeven
-returns c = simp (c .connect-of .ensures, c .before .grant-of .ensures, c .before .before .claim-of .ensures, c .before .before .before .cut-at .ensures, c .before .before .before .before .losses-of .ensures)
+returns c =
+    simp (
+      c .connect-of .ensures,
+      c .before .grant-of .ensures,
+      c .before .before .claim-of .ensures,
+      c .before .before .before .cut-at .ensures,
+      c .before .before .before .before .losses-of .ensures,
+    )
 
 pub parts-3-to-7-in-full-spec : {M : Type 1} → statement M
 parts-3-to-7-in-full-spec =

@@ -27,7 +27,17 @@ arb-with-requires : tie.Need-arb-with-requires
 arb-with-requires c κs = search needs
 
 returns : tie.Need-returns
-returns c = simp (c .arb-with .ensures, c .before .pick-turn .ensures, c .before .before .turn-of .ensures, c .before .before .before .pick-u8 .ensures, c .before .before .before .before .switch-of .ensures, c .before .before .before .before .before .pick-last .ensures, c .before .before .before .before .before .before .last-of .ensures) (granted-arb (c .before .before .before .before .before .before .before .args .on) (c .before .before .before .before .before .before .before .args .m) (c .before .before .before .before .before .before .before .args .rt) (c .before .before .before .before .before .before .before .args .a))
+returns c =
+    simp (
+      c .arb-with .ensures,
+      c .before .pick-turn .ensures,
+      c .before .before .turn-of .ensures,
+      c .before .before .before .pick-u8 .ensures,
+      c .before .before .before .before .switch-of .ensures,
+      c .before .before .before .before .before .pick-last .ensures,
+      c .before .before .before .before .before .before .last-of .ensures,
+    )
+    (granted-arb (c .before .before .before .before .before .before .before .args .on) (c .before .before .before .before .before .before .before .args .m) (c .before .before .before .before .before .before .before .args .rt) (c .before .before .before .before .before .before .before .args .a))
 
 pub granted-if-spec : {M : Type 1} → statement M
 granted-if-spec =

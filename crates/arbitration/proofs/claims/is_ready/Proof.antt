@@ -1,3 +1,5 @@
+-- `arbitration::claims::is_ready` meets its contract.
+-- Assumes nothing.
 use borrow.Author.Needs.{needs}
 use Rattle.arbitration.proofs.claims.is_ready.Statement.{statement}
 use Rattle.arbitration.proofs.claims.is_ready.Tie as tie

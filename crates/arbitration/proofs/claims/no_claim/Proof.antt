@@ -1,3 +1,5 @@
+-- `arbitration::claims::no_claim` meets its contract.
+-- Assumes nothing.
 use borrow.Author.Needs.{needs}
 use Rattle.arbitration.proofs.claims.no_claim.Statement.{statement}
 use Rattle.arbitration.proofs.claims.no_claim.Tie as tie

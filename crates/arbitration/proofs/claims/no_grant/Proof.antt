@@ -1,3 +1,5 @@
+-- `arbitration::claims::no_grant` meets its contract.
+-- Assumes nothing.
 use borrow.Author.Needs.{needs}
 use Rattle.arbitration.proofs.claims.no_grant.Statement.{statement}
 use Rattle.arbitration.proofs.claims.no_grant.Tie as tie

@@ -32,11 +32,23 @@ index-2-w c = search needs
 
 returns : tie.Need-returns
 unfolding winner
-returns c = simp (eq-eqb _ _ (c .if1 .taken), ← c .before .before .column-of .ensures .0, ← c .before .before .before .worth-of2 .ensures .0, ← c .before .before .before .before .worth-of .ensures .0)
+returns c =
+    simp (
+      eq-eqb _ _ (c .if1 .taken),
+      ← c .before .before .column-of .ensures .0,
+      ← c .before .before .before .worth-of2 .ensures .0,
+      ← c .before .before .before .before .worth-of .ensures .0,
+    )
 
 returns-2 : tie.Need-returns-2
 unfolding winner
-returns-2 c = simp (ne-eqb _ _ (c .if1 .left), ← c .before .before .column-of .ensures .0, ← c .before .before .before .worth-of2 .ensures .0, ← c .before .before .before .before .worth-of .ensures .0)
+returns-2 c =
+    simp (
+      ne-eqb _ _ (c .if1 .left),
+      ← c .before .before .column-of .ensures .0,
+      ← c .before .before .before .worth-of2 .ensures .0,
+      ← c .before .before .before .before .worth-of .ensures .0,
+    )
 
 pub winner-of-spec : {M : Type 1} → statement M
 winner-of-spec =

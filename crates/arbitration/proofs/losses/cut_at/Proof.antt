@@ -35,7 +35,19 @@ device-with-requires c κs = search needs
 
 returns : tie.Need-returns
 unfolding cut
-returns c = simp (c .device-with .ensures, c .before .cut-if2 .ensures, c .before .before .cut-if .ensures, c .before .before .before .is-cut2 .ensures, c .before .before .before .before .owns-turn2 .ensures, c .before .before .before .before .before .turn-of2 .ensures, c .before .before .before .before .before .before .is-cut .ensures, c .before .before .before .before .before .before .before .owns-turn .ensures, c .before .before .before .before .before .before .before .before .turn-of .ensures) (cut-law _ _)
+returns c =
+    simp (
+      c .device-with .ensures,
+      c .before .cut-if2 .ensures,
+      c .before .before .cut-if .ensures,
+      c .before .before .before .is-cut2 .ensures,
+      c .before .before .before .before .owns-turn2 .ensures,
+      c .before .before .before .before .before .turn-of2 .ensures,
+      c .before .before .before .before .before .before .is-cut .ensures,
+      c .before .before .before .before .before .before .before .owns-turn .ensures,
+      c .before .before .before .before .before .before .before .before .turn-of .ensures,
+    )
+    (cut-law _ _)
 
 pub cut-at-spec : {M : Type 1} → statement M
 cut-at-spec =

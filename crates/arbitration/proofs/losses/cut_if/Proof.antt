@@ -18,7 +18,14 @@ side-with-requires : tie.Need-side-with-requires
 side-with-requires c κs = search needs
 
 returns : tie.Need-returns
-returns c = simp (c .side-with .ensures, c .before .port-of .ensures, c .before .before .cut-contr .ensures, c .before .before .before .pointer-of .ensures) (cut-side (c .before .before .before .before .args .on) (c .before .before .before .before .args .s))
+returns c =
+    simp (
+      c .side-with .ensures,
+      c .before .port-of .ensures,
+      c .before .before .cut-contr .ensures,
+      c .before .before .before .pointer-of .ensures,
+    )
+    (cut-side (c .before .before .before .before .args .on) (c .before .before .before .before .args .s))
 
 pub cut-if-spec : {M : Type 1} → statement M
 cut-if-spec =

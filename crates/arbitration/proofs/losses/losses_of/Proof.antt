@@ -47,7 +47,23 @@ device-with-requires c κs = search needs
 
 returns : tie.Need-returns
 unfolding losses
-returns c = simp (c .device-with .ensures, c .before .with-turn .ensures, c .before .before .released-if .ensures, c .before .before .before .lost-if2 .ensures, c .before .before .before .before .lost-if .ensures, c .before .before .before .before .before .pick-turn .ensures, c .before .before .before .before .before .before .turn-of3 .ensures, c .before .before .before .before .before .before .before .runs-out2 .ensures, c .before .before .before .before .before .before .before .before .owns-turn2 .ensures, c .before .before .before .before .before .before .before .before .before .turn-of2 .ensures, c .before .before .before .before .before .before .before .before .before .before .runs-out .ensures, c .before .before .before .before .before .before .before .before .before .before .before .owns-turn .ensures, c .before .before .before .before .before .before .before .before .before .before .before .before .turn-of .ensures) (losses-law _)
+returns c =
+    simp (
+      c .device-with .ensures,
+      c .before .with-turn .ensures,
+      c .before .before .released-if .ensures,
+      c .before .before .before .lost-if2 .ensures,
+      c .before .before .before .before .lost-if .ensures,
+      c .before .before .before .before .before .pick-turn .ensures,
+      c .before .before .before .before .before .before .turn-of3 .ensures,
+      c .before .before .before .before .before .before .before .runs-out2 .ensures,
+      c .before .before .before .before .before .before .before .before .owns-turn2 .ensures,
+      c .before .before .before .before .before .before .before .before .before .turn-of2 .ensures,
+      c .before .before .before .before .before .before .before .before .before .before .runs-out .ensures,
+      c .before .before .before .before .before .before .before .before .before .before .before .owns-turn .ensures,
+      c .before .before .before .before .before .before .before .before .before .before .before .before .turn-of .ensures,
+    )
+    (losses-law _)
 
 pub losses-of-spec : {M : Type 1} → statement M
 losses-of-spec =

@@ -21,7 +21,15 @@ side-with-requires : tie.Need-side-with-requires
 side-with-requires c κs = search needs
 
 returns : tie.Need-returns
-returns c = simp (c .side-with .ensures, c .before .port-of .ensures, c .before .before .raised-in .ensures, c .before .before .before .lost-contr .ensures, c .before .before .before .before .pointer-of .ensures) (lost-side (c .before .before .before .before .before .args .on) (c .before .before .before .before .before .args .s))
+returns c =
+    simp (
+      c .side-with .ensures,
+      c .before .port-of .ensures,
+      c .before .before .raised-in .ensures,
+      c .before .before .before .lost-contr .ensures,
+      c .before .before .before .before .pointer-of .ensures,
+    )
+    (lost-side (c .before .before .before .before .before .args .on) (c .before .before .before .before .before .args .s))
 
 pub lost-if-spec : {M : Type 1} → statement M
 lost-if-spec =

@@ -1,3 +1,5 @@
+-- `arbitration::losses::no_cut` meets its contract.
+-- Assumes nothing.
 use borrow.Author.Needs.{needs}
 use Rattle.arbitration.proofs.losses.no_cut.Statement.{statement}
 use Rattle.arbitration.proofs.losses.no_cut.Tie as tie

@@ -1,3 +1,5 @@
+-- `arbitration::losses::no_loss` meets its contract.
+-- Assumes nothing.
 use borrow.Author.Needs.{needs}
 use Rattle.arbitration.proofs.losses.no_loss.Statement.{statement}
 use Rattle.arbitration.proofs.losses.no_loss.Tie as tie
