@@ -2,7 +2,7 @@
 -- Assumes nothing.
 use mathlib.Core.Path.{_≡_, refl, ap}
 use mathlib.Core.Bool.{Bool, true, false, not, _&&_, false≢true}
-use Rattle.arbiter.specs.Words.{if_then_else_, side}
+use Rattle.arbiter.specs.Words.{side}
 use Rattle.arbiter.specs.Parts.{withTurn, withArb, withSide}
 use Rattle.arbiter.specs.Registers.{disconnected}
 use Rattle.arbiter.specs.Order.{runsOut, lost, lossesFrom, losses, cutFrom, cut, winner, claimBy, newClaim, claimAfter, claim, granted, grantFrom, grant}
@@ -10,17 +10,8 @@ use Rattle.arbiter.specs.declared.Master.{Master}
 use Rattle.arbiter.specs.declared.Turn.{Turn}
 use Rattle.arbiter.specs.declared.Turn.the-variants.{Nobody, Claims, Owns}
 use Rattle.arbiter.specs.declared.Device.{Device}
+use Rattle.arbiter.proofs.Choice.{if-true, if-false, not-true}
 use Rattle.arbitration.specs.Quiet.{noLoss, isCut, noCut, noClaim, isReady, noGrant}
-
--- ---- a choice whose test is known
-
-if-true : {A : Type 0} (b : Bool) (x y : A) → b ≡ true → (if b then x else y) ≡ x
-if-true true x y e = refl
-if-true false x y e = absurd (false≢true e)
-
-if-not : {A : Type 0} (b : Bool) (x y : A) → not b ≡ true → (if b then x else y) ≡ y
-if-not true x y e = absurd (false≢true e)
-if-not false x y e = refl
 
 -- ---- 3. losses
 
@@ -28,7 +19,7 @@ losses-quiet : (t : Turn) (d : Device) → noLoss t d ≡ true → lossesFrom t 
 unfolding lossesFrom
 losses-quiet Nobody d q = refl
 losses-quiet (Claims m) d q = refl
-losses-quiet (Owns m) d q = if-not (runsOut (side m d) (d .arb .reserve) (d .bus)) (lost m d) d q
+losses-quiet (Owns m) d q = if-false (lost m d) d (not-true (runsOut (side m d) (d .arb .reserve) (d .bus)) q)
 
 pub no-loss : (d : Device) → noLoss (d .arb .turn) d ≡ true → losses d ≡ d
 unfolding losses
@@ -40,7 +31,7 @@ cut-quiet : (tick : Bool) (t : Turn) (d : Device) → noCut tick t d ≡ true �
 unfolding cutFrom
 cut-quiet tick Nobody d q = refl
 cut-quiet tick (Claims m) d q = refl
-cut-quiet tick (Owns m) d q = if-not (isCut tick (side m d) (d .bus)) (withSide m (disconnected (side m d)) d) d q
+cut-quiet tick (Owns m) d q = if-false (withSide m (disconnected (side m d)) d) d (not-true (isCut tick (side m d) (d .bus)) q)
 
 pub no-cut : (tick : Bool) (d : Device) → noCut tick (d .arb .turn) d ≡ true → cut tick d ≡ d
 unfolding cut
@@ -56,7 +47,7 @@ nobody-asks true r1 w q = absurd (false≢true q)
 claim-quiet : (t : Turn) (d : Device) → noClaim t d ≡ true → claimAfter t d ≡ t
 claim-quiet Nobody d q =
     nobody-asks (d .side0 .contr .lockreq) (d .side1 .contr .lockreq) (winner (d .side0 .contr .priority) (d .side1 .contr .priority) (d .arb .last)) q
-claim-quiet (Claims m) d q = if-true ((side m d) .contr .lockreq) (Claims m) (newClaim d) q
+claim-quiet (Claims m) d q = if-true (Claims m) (newClaim d) q
 claim-quiet (Owns m) d q = refl
 
 pub no-claim : (d : Device) → noClaim (d .arb .turn) d ≡ true → claim d ≡ d
@@ -68,7 +59,7 @@ no-claim d q = ap (λ (t : Turn). withArb (withTurn t (d .arb)) d) (claim-quiet 
 grant-quiet : (t : Turn) (d : Device) → noGrant t d ≡ true → grantFrom t d ≡ d
 unfolding grantFrom
 grant-quiet Nobody d q = refl
-grant-quiet (Claims m) d q = if-not (isReady (side m d) (d .bus)) (granted m d) d q
+grant-quiet (Claims m) d q = if-false (granted m d) d (not-true (isReady (side m d) (d .bus)) q)
 grant-quiet (Owns m) d q = refl
 
 pub no-grant : (d : Device) → noGrant (d .arb .turn) d ≡ true → grant d ≡ d

@@ -2,7 +2,7 @@
 -- Assumes nothing.
 use mathlib.Core.Path.{_≡_, refl, sym, ap}
 use mathlib.Core.Bool.{Bool, true, false, false≢true}
-use Rattle.arbiter.specs.Words.{if_then_else_, sameMaster, side}
+use Rattle.arbiter.specs.Words.{if_then_else_, side}
 use Rattle.arbiter.specs.Order.{switched, joined, clocked, keptJoined, connectFrom, connect}
 use Rattle.arbiter.specs.declared.Master.{Master}
 use Rattle.arbiter.specs.declared.Turn.{Turn}
@@ -11,11 +11,8 @@ use Rattle.arbiter.specs.declared.Switch.{Switch}
 use Rattle.arbiter.specs.declared.Switch.the-variants.{Apart, Initialising, Closed}
 use Rattle.arbiter.specs.declared.Clock.the-variants.{NoClock}
 use Rattle.arbiter.specs.declared.Device.{Device}
+use Rattle.arbiter.proofs.Choice.{if-true}
 use Rattle.connection.specs.Quiet.{isApart, linked, switchStays}
-
-if-true : {A : Type 0} (b : Bool) (x y : A) → b ≡ true → (if b then x else y) ≡ x
-if-true true x y e = refl
-if-true false x y e = absurd (false≢true e)
 
 switched-same : (w : Switch) (d : Device) → w ≡ d .arb .switch → switched w d ≡ d
 switched-same w d e = ap (λ (x : Switch). switched x d) e
@@ -31,9 +28,9 @@ linked-same : (m : Master) (busconnect : Bool) (w : Switch) (d : Device) → d .
 unfolding keptJoined clocked
 linked-same m true Apart d e q = absurd (false≢true q)
 linked-same m false Apart d e q = switched-same Apart d (sym e)
-linked-same m true (Initialising k n) d e q = if-true (sameMaster m k) d (joined m d) q
+linked-same m true (Initialising k n) d e q = if-true d (joined m d) q
 linked-same m false (Initialising k n) d e q = absurd (false≢true q)
-linked-same m true (Closed k) d e q = if-true (sameMaster m k) d (joined m d) q
+linked-same m true (Closed k) d e q = if-true d (joined m d) q
 linked-same m false (Closed k) d e q = absurd (false≢true q)
 
 connect-quiet : (t : Turn) (d : Device) → switchStays t d ≡ true → connectFrom NoClock t d ≡ d
