@@ -13,6 +13,7 @@ pub mod AuditWords
 pub mod Audit
 pub mod Traces
 pub mod Listing
+pub mod Writing
 pub mod Marks
 pub mod Witnesses
 pub mod Answers

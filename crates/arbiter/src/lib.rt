@@ -236,3 +236,9 @@ pub struct Ran {
     pub events: usize,
     pub device: Device,
 }
+
+// What the writing of a trace reports: its number, and the length of what was written.
+pub struct Written {
+    pub number: u8,
+    pub length: usize,
+}

@@ -1,13 +1,20 @@
--- Where the events of a trace are, and where their answers go, for any bytes: a place past their end has no event and takes no answer.
+-- Where the head of a trace and its events are, and where the answers go, for any bytes: a place past their end has no event and takes no
+-- answer.
 -- Assumes nothing.
 use Prim.Native.Nat.{ℕ, _+_, _*_}
-use mathlib.Core.List.{List, []}
+use mathlib.Core.List.{List, [], _++_}
 use lib.Dec.{ltb}
 use lib.ListN.{length, take, drop, set}
 use Rattle.arbiter.specs.Words.{if_then_else_}
 use Rattle.arbiter.specs.Traces.{headBytes, eventBytes, wholeBytes, countIn, rawIn, eventCount}
+use Rattle.arbiter.specs.Writing.{traceHead}
+use Rattle.arbiter.specs.declared.Pins.{Pins}
 use Rattle.arbiter.specs.declared.Raw.{Raw}
 use Rattle.arbiter.specs.declared.Answer.{Answer}
+
+-- a buffer with the head of a trace of n events, if it has room for that
+unfoldable pub withHead : List ℕ → Pins → ℕ → List ℕ
+withHead buffer p n = if ltb (length buffer) headBytes then buffer else traceHead p n ++ drop headBytes buffer
 
 -- the bytes of a trace's events: none where it ends before they do
 unfoldable pub eventsPart : List ℕ → List ℕ

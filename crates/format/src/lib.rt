@@ -3,7 +3,7 @@
 ghost use Prim.Native.Nat.{_<_};
 ghost use mathlib.Core.Path.{_≡_};
 ghost use Rattle.arbiter.specs.Traces.{byteAt, pinsIn, countIn, wholeBytes};
-ghost use Rattle.format.specs.Places.{eventsPart, eventAt, withAnswer};
+ghost use Rattle.format.specs.Places.{withHead, eventsPart, eventAt, withAnswer};
 use arbiter::Answer;
 use arbiter::Pins;
 use arbiter::Raw;
@@ -67,6 +67,21 @@ pub fn count_in(t: &[u8]) -> u16
     ensures { λ r. ⌜ r ≡ countIn (now (t .entry)) ⌝ }
 {
     wide(byte_at(t, 5)) + 256 * wide(byte_at(t, 6))
+}
+
+// The head of a trace of n events, in a buffer that has room for it.
+pub fn put_head(out: &mut [u8], p: Pins, n: u16)
+    ensures { λ _. ⌜ now (out .exit) ≡ withHead (now (out .entry)) p n ⌝ }
+{
+    if HEAD_BYTES <= out.len() {
+        out[0] = PIN_COUNT;
+        out[1] = p.ad3;
+        out[2] = p.ad2;
+        out[3] = p.ad1;
+        out[4] = p.ad0;
+        out[5] = (n % 256) as u8;
+        out[6] = (n / 256) as u8;
+    }
 }
 
 // ---- the events

@@ -4,6 +4,7 @@
 use Prim.Native.Nat.{ℕ, _+_, _*_}
 use Rattle.arbiter.specs.Straps.{strappedNumber, strappedAddress, strappingNumber}
 use Rattle.arbiter.specs.declared.Report.{Report}
+use Rattle.arbiter.specs.declared.Written.{Written}
 use Rattle.arbiter.specs.declared.Strapped.{Strapped}
 use Rattle.arbiter.specs.declared.Strapping.{Strapping}
 use Rattle.arbiter.specs.declared.Strapping.the-variants.{Straps, Outside}
@@ -11,6 +12,10 @@ use Rattle.arbiter.specs.declared.Strapping.the-variants.{Straps, Outside}
 -- a report: the number, the address, and from 65,536 on the count of events
 abbrev pub packedReport : Report → ℕ
 packedReport r = r .number + 256 * r .address + 65536 * r .events
+
+-- a trace that was written: the number, and from 256 on its length (0 where nothing was written)
+abbrev pub packedWritten : Written → ℕ
+packedWritten w = w .number + 256 * w .length
 
 -- an address: the number, and the address (00h where there is none)
 abbrev pub packedAddress : Strapped → ℕ

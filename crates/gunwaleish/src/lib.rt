@@ -4,10 +4,11 @@ ghost use mathlib.Core.Path.{_≡_};
 ghost use lib.ListN.{length};
 ghost use Rattle.arbiter.specs.Straps.{addressOf, strapsOf};
 ghost use Rattle.arbiter.specs.Traces.{report, bufferAfter};
+ghost use Rattle.arbiter.specs.Writing.{written, bufferWritten};
 ghost use Rattle.arbiter.specs.Listing.{listing};
 ghost use Rattle.text.specs.Written.{textAfter};
 ghost use Rattle.arbiter.specs.declared.Strapping.the-variants.{Straps};
-ghost use Rattle.gunwaleish.specs.Packed.{packedReport, packedAddress, packedPins};
+ghost use Rattle.gunwaleish.specs.Packed.{packedReport, packedWritten, packedAddress, packedPins};
 use arbiter::Pins;
 use arbiter::Strapped;
 use arbiter::Strapping;
@@ -15,6 +16,7 @@ use straps::address_of;
 use straps::straps_of;
 use text::list_trace;
 use traces::answer_trace;
+use writer::write_trace;
 
 fn byte(x: u8) -> u64
     ensures { λ r. ⌜ (r ≡ x) × (r < 256) ⌝ }
@@ -29,6 +31,22 @@ pub extern "C" fn gunwaleish_run_trace(t: &[u8], out: &mut [u8]) -> u64
 {
     let r = answer_trace(t, out);
     byte(r.number) + 256 * byte(r.address) + 65536 * (r.events as u64)
+}
+
+// The trace of four pins and some events into a lent buffer.
+#[no_mangle]
+pub extern "C" fn gunwaleish_write_trace(
+    ad3: u8,
+    ad2: u8,
+    ad1: u8,
+    ad0: u8,
+    events: &[u8],
+    out: &mut [u8],
+) -> u64
+    ensures { λ r. ⌜ (r ≡ packedWritten (written (record { ad3 = ad3; ad2 = ad2; ad1 = ad1; ad0 = ad0 }) (now (events .entry)) (now (out .entry)))) × (now (out .exit) ≡ bufferWritten (record { ad3 = ad3; ad2 = ad2; ad1 = ad1; ad0 = ad0 }) (now (events .entry)) (now (out .entry))) ⌝ }
+{
+    let w = write_trace(Pins { ad3, ad2, ad1, ad0 }, events, out);
+    byte(w.number) + 256 * (w.length as u64)
 }
 
 // The listing of a trace into a lent buffer: its length, and the text where it fits.

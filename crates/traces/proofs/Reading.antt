@@ -8,7 +8,7 @@ use native.Mathlib.Omega.{arith}
 use lib.Dec.{eqb, ltb}
 use lib.ListN.{length, take, drop, length-drop}
 use lib.Seq.{length-take-le, getD-take, take-add, drop-at}
-use borrow.Author.Tests.{ltb-false, le-ltb}
+use borrow.Author.Tests.{eqb-true, not-false, ltb-false, le-ltb}
 use Rattle.arbiter.specs.Words.{if_then_else_}
 use Rattle.arbiter.specs.Straps.{addressOf}
 use Rattle.arbiter.specs.Effects.{powerUp}
@@ -30,7 +30,7 @@ use Rattle.traces.proofs.Runs.{all-ran, all-answered}
 -- ---- an accepted trace has passed every test
 
 abbrev pub Fits : List ℕ → ℕ → ℕ → Type 0
-Fits t room n = (wholeBytes n ≤ length t) × (eventBytes * n ≤ room) × (n ≤ mostEvents) × (countIn t ≡ n)
+Fits t room n = (wholeBytes n ≤ length t) × (eventBytes * n ≤ room) × (n ≤ mostEvents) × (countIn t ≡ n) × (length t ≤ wholeBytes n)
 
 not-both : (r : Refusal) (a n : ℕ) → Refused r ≡ Accepted a n → ⊥
 not-both r a n h = let z : _≡_ {A = ℕ} 0 1 = cc in omega arith
@@ -50,9 +50,10 @@ counted-fits x t room a n h =
     let last : Accepted x (countIn t) ≡ Accepted a n = p5 .1 in
     let e : countIn t ≡ n = cc in
     let whole : wholeBytes (countIn t) ≤ length t = ltb-false _ _ (p3 .0) in
+    let no-more : length t ≤ wholeBytes (countIn t) = ltb-false _ _ (p4 .0) in
     let room-for : eventBytes * countIn t ≤ room = ltb-false _ _ (p5 .0) in
     let few : countIn t ≤ mostEvents = ltb-false _ _ (p2 .0) in
-    (rw e at whole, rw e at room-for, rw e at few, e)
+    (rw e at whole, rw e at room-for, rw e at few, e, rw e at no-more)
 
 strapped-fits : (s : Strapped) (t : List ℕ) (room a n : ℕ) → readStrapped s t room ≡ Accepted a n → Fits t room n
 unfolding readStrapped
@@ -66,6 +67,13 @@ accepted-fits t room a n h =
     let p2 = passed (not (eqb (byteAt 0 t) pinCount)) BadCount _ a n (p1 .1) in
     let p3 = passed (ltb (length t) pinBytes) TraceCut _ a n (p2 .1) in
     strapped-fits (addressOf (pinsIn t)) t room a n (p3 .1)
+
+pub accepted-first : (t : List ℕ) (room a n : ℕ) → readTrace t room ≡ Accepted a n → byteAt 0 t ≡ pinCount
+unfolding readTrace
+accepted-first t room a n h =
+    let p1 = passed (ltb (length t) 1) TraceCut _ a n h in
+    let p2 = passed (not (eqb (byteAt 0 t) pinCount)) BadCount _ a n (p1 .1) in
+    eqb-true _ _ (not-false _ (p2 .0))
 
 -- ---- the number of a reading is the one that the report has
 

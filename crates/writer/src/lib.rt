@@ -1,0 +1,77 @@
+// A trace written from its pins and its events into a lent buffer, as the reader takes it.
+ghost use Prim.Native.Nat.{_+_, _≤_};
+ghost use mathlib.Core.Path.{_≡_};
+ghost use lib.ListN.{length};
+ghost use lib.Seq.{paste};
+ghost use Rattle.arbiter.specs.Traces.{headBytes};
+ghost use Rattle.arbiter.specs.Writing.{writtenNumber, written, bufferWritten};
+ghost use Rattle.writer.specs.Numbers.{bodyNumber};
+use arbiter::Pins;
+use arbiter::Strapped;
+use arbiter::Written;
+use format::EVENT_BYTES;
+use format::HEAD_BYTES;
+use format::MOST_EVENTS;
+use format::put_head;
+use straps::address_of;
+
+// ---- the refusals, in their order
+
+// The number for so many bytes of events and this room, of pins that have an address.
+fn body_number(len: usize, room: usize) -> u8
+    ensures { λ r. ⌜ r ≡ bodyNumber len room ⌝ }
+{
+    let n = len / EVENT_BYTES;
+    if len % EVENT_BYTES == 0 {
+        if MOST_EVENTS < n {
+            return 6;
+        }
+        if room < HEAD_BYTES + EVENT_BYTES * n {
+            return 9;
+        }
+        return 0;
+    }
+    5
+}
+
+fn write_number(p: Pins, events: &[u8], room: usize) -> u8
+    ensures { λ r. ⌜ r ≡ writtenNumber p (now (events .entry)) room ⌝ }
+{
+    let strapped = address_of(p);
+    match strapped {
+        Strapped::Address(_) => body_number(events.len(), room),
+        Strapped::Unlisted => 8,
+    }
+}
+
+// ---- the trace
+
+// The events' bytes after the head, as they are given.
+fn put_events(out: &mut [u8], events: &[u8])
+    requires { ⌜ headBytes + length (now events) ≤ length (now out) ⌝ }
+    ensures { λ _. ⌜ now (out .exit) ≡ paste (now (out .entry)) headBytes (now (events .entry)) (length (now (events .entry))) ⌝ }
+{
+    let mut i: usize = 0;
+    while i < events.len() {
+        out[HEAD_BYTES + i] = events[i];
+        i += 1;
+    }
+}
+
+// The trace of these pins and events: its length, and its bytes in the lent buffer. A refusal by number leaves the buffer as it was and
+// has length 0. No event is looked at.
+pub fn write_trace(p: Pins, events: &[u8], out: &mut [u8]) -> Written
+    ensures { λ r. ⌜ (r ≡ written p (now (events .entry)) (now (out .entry))) × (now (out .exit) ≡ bufferWritten p (now (events .entry)) (now (out .entry))) ⌝ }
+{
+    let number = write_number(p, events, out.len());
+    if number == 0 {
+        let n = events.len() / EVENT_BYTES;
+        put_head(out, p, n as u16);
+        put_events(out, events);
+        return Written {
+            number: 0,
+            length: HEAD_BYTES + events.len(),
+        };
+    }
+    Written { number, length: 0 }
+}
