@@ -1,15 +1,26 @@
-/* Lists a trace, says in words who owns the bus at its end, and shows straps both ways.
+/* Lists a trace, says in words who owns the bus at its end, writes the trace again, and shows straps both ways.
  * Usage: example TRACE-FILE */
 #include <stdio.h>
+#include <string.h>
 
 #include "gunwaleish.h"
 
 /* One byte more than the longest trace, so that a file with bytes after the end is refused with 7 and not cut to fit. */
-static uint8_t trace[7 + GUNWALEISH_MOST_ANSWERS + 1];
+static uint8_t trace[GUNWALEISH_MOST_TRACE + 1];
 static uint8_t answers[GUNWALEISH_MOST_ANSWERS];
+static uint8_t written[GUNWALEISH_MOST_TRACE];
 static uint8_t text[GUNWALEISH_MOST_TEXT];
 
 static const char *const owners[4] = {"nobody", "master 0", "master 1", "?"};
+
+/* An accepted trace has its pins from byte 1 on and its events from byte 7 on. */
+static void show_written(size_t length, size_t events) {
+    uint64_t result =
+        gunwaleish_write_trace(trace[1], trace[2], trace[3], trace[4], trace + 7, 4 * events, written, sizeof written);
+    size_t again = gunwaleish_length(result);
+    int same = gunwaleish_number(result) == GUNWALEISH_DONE && again == length && memcmp(written, trace, length) == 0;
+    printf("its pins and events written again: %zu bytes, %s\n", again, same ? "the same" : "not the same");
+}
 
 static void show_trace(size_t length) {
     size_t listed = gunwaleish_listing(trace, length, text, sizeof text);
@@ -17,21 +28,23 @@ static void show_trace(size_t length) {
         fwrite(text, 1, listed, stdout);
     }
     uint64_t report = gunwaleish_run_trace(trace, length, answers, sizeof answers);
-    if (gunwaleish_number(report) != 0) {
+    if (gunwaleish_number(report) != GUNWALEISH_DONE) {
         printf("refused, number %u\n", gunwaleish_number(report));
         return;
     }
     size_t events = gunwaleish_events(report);
     printf("address %02Xh, %zu events\n", gunwaleish_address(report), events);
     if (events > 0) {
-        printf("at the end the bus is owned by %s\n", owners[answers[4 * events - 2] & 3]);
+        const uint8_t *last = answers + 4 * (events - 1);
+        printf("at the end the bus is owned by %s\n", owners[gunwaleish_owner(last[GUNWALEISH_ANSWER_BUS])]);
     }
+    show_written(length, events);
 }
 
 static void show_address(uint8_t ad3, uint8_t ad2, uint8_t ad1, uint8_t ad0) {
     uint32_t packed = gunwaleish_address_of(ad3, ad2, ad1, ad0);
     printf("straps %u,%u,%u,%u: ", ad3, ad2, ad1, ad0);
-    if (gunwaleish_number(packed) != 0) {
+    if (gunwaleish_number(packed) != GUNWALEISH_DONE) {
         printf("no address, number %u\n", gunwaleish_number(packed));
     } else {
         printf("%02Xh\n", gunwaleish_address(packed));
@@ -41,7 +54,7 @@ static void show_address(uint8_t ad3, uint8_t ad2, uint8_t ad1, uint8_t ad0) {
 static void show_pins(uint8_t address) {
     uint64_t packed = gunwaleish_pins_of(address);
     printf("address %02Xh: ", address);
-    if (gunwaleish_number(packed) != 0) {
+    if (gunwaleish_number(packed) != GUNWALEISH_DONE) {
         printf("no strapping, number %u\n", gunwaleish_number(packed));
     } else {
         printf("straps %u,%u,%u,%u\n", gunwaleish_pin(packed, 3), gunwaleish_pin(packed, 2), gunwaleish_pin(packed, 1),

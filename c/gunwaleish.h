@@ -2,11 +2,8 @@
  *
  * Link with libgunwaleish.a, which `rt staticlib gunwaleish` writes to target/staticlib/ (x86-64).
  *
- * Numbers are those of document 01: 0 accepted; 5 trace cut; 6 more than 4,096 events; 7 bytes after the end; 8 pin code above 3 or
- * unlisted strapping; 9 answer room under four bytes an event; 10 first count not 4; 11 address outside 08h to 77h.
- *
  * What a caller owes, since C cannot say it: a pointer is never null, also with length 0; the bytes it points to are there for that
- * length; and the two ranges of one call do not overlap. Any bytes are taken as a trace.
+ * length; and the two ranges of one call do not overlap. Any bytes are taken as a trace or as events.
  */
 #ifndef GUNWALEISH_H
 #define GUNWALEISH_H
@@ -18,14 +15,59 @@
 extern "C" {
 #endif
 
-/* The most events of a trace, the answer bytes of such a trace, and the longest listing. */
+/* The numbers of document 01. The first five are outcomes of one event, the others refuse a whole call. */
+enum gunwaleish_numbers {
+    GUNWALEISH_DONE = 0,                   /* done, accepted */
+    GUNWALEISH_NOT_ACKNOWLEDGED = 1,       /* the byte was not acknowledged */
+    GUNWALEISH_UNKNOWN_KIND = 2,           /* the event's first byte is no kind */
+    GUNWALEISH_FIELD_OUT_OF_RANGE = 3,     /* a field out of range, or an unused one not 0 */
+    GUNWALEISH_OUT_OF_SEQUENCE = 4,        /* the event cannot come now */
+    GUNWALEISH_TRACE_CUT = 5,              /* bytes are missing at the end, or event bytes do not come in fours */
+    GUNWALEISH_TOO_MANY_EVENTS = 6,        /* more than 4,096 events */
+    GUNWALEISH_BYTES_AFTER_END = 7,        /* bytes after the last event */
+    GUNWALEISH_NO_SUCH_STRAPPING = 8,      /* a pin code above 3, or a strapping without an address */
+    GUNWALEISH_TOO_LITTLE_ROOM = 9,        /* the buffer is too short */
+    GUNWALEISH_FIRST_COUNT_NOT_FOUR = 10,  /* the first byte, the count of pins, is not 4 */
+    GUNWALEISH_ADDRESS_OUTSIDE = 11        /* the address is not one of 08h to 77h */
+};
+
+/* The most events of a trace, the answer bytes of such a trace, its own bytes, and the longest listing. */
 #define GUNWALEISH_MOST_EVENTS 4096
 #define GUNWALEISH_MOST_ANSWERS (4 * GUNWALEISH_MOST_EVENTS)
+#define GUNWALEISH_MOST_TRACE (7 + 4 * GUNWALEISH_MOST_EVENTS)
 #define GUNWALEISH_MOST_TEXT (8 + 9 * GUNWALEISH_MOST_EVENTS)
+
+/* The four bytes of an answer, by their places. */
+#define GUNWALEISH_ANSWER_OUTCOME 0
+#define GUNWALEISH_ANSWER_BYTE_READ 1
+#define GUNWALEISH_ANSWER_BUS 2
+#define GUNWALEISH_ANSWER_PINS 3
+
+/* The bits of the third answer byte. Owner and switch are 0 for none, 1 for master 0 and 2 for master 1; the switch is two bits up. */
+#define GUNWALEISH_BUS_OWNER 0x03
+#define GUNWALEISH_BUS_SWITCH 0x0c
+#define GUNWALEISH_BUS_SWITCH_SHIFT 2
+#define GUNWALEISH_BUS_INITIALISING 0x10
+
+/* The bits of the fourth answer byte. */
+#define GUNWALEISH_PINS_INT0_ASSERTED 0x01
+#define GUNWALEISH_PINS_INT1_ASSERTED 0x02
+#define GUNWALEISH_PINS_SCL_HIGH 0x04
+#define GUNWALEISH_PINS_SDA_HIGH 0x08
+
+/* What gunwaleish_pin gives for a pin that is not there. */
+#define GUNWALEISH_NO_PIN 0xff
 
 /* Runs a trace from power-up and writes four answer bytes an event. The result is packed: number + 256 * address + 65536 * events.
  * Bytes past the answers stay. A refused trace leaves all of them, and reports address 0 and 0 events. */
 uint64_t gunwaleish_run_trace(const uint8_t *trace, size_t trace_len, uint8_t *answers, size_t answers_len);
+
+/* Writes the trace of four pins and of events, four bytes each, as they are given, also those that a device will refuse. The result is
+ * packed: number + 256 * the trace's length. Refusals, in this order: 8 for the pins, 5 event bytes not in fours, 6 above 4,096 events, 9
+ * if the buffer is shorter than the trace, which has 7 bytes and the events'. A refusal writes nothing, and the length is 0. Bytes past
+ * the trace stay. */
+uint64_t gunwaleish_write_trace(uint8_t ad3, uint8_t ad2, uint8_t ad1, uint8_t ad0, const uint8_t *events, size_t events_len,
+                                uint8_t *trace, size_t trace_len);
 
 /* The address of a strapping; pin codes are 0 VSS, 1 VDD, 2 pull-down, 3 pull-up. Packed: number + 256 * address; number 0 or 8. */
 uint32_t gunwaleish_address_of(uint8_t ad3, uint8_t ad2, uint8_t ad1, uint8_t ad0);
@@ -36,22 +78,38 @@ uint64_t gunwaleish_pins_of(uint8_t address);
 /* The length of a trace's listing. The text, with no null byte at its end, is written only if it fits; bytes after it stay. */
 size_t gunwaleish_listing(const uint8_t *trace, size_t trace_len, uint8_t *text, size_t text_len);
 
-/* The parts of a packed result. */
+/* The parts of a packed result. Each is defined for every argument. */
 static inline unsigned gunwaleish_number(uint64_t packed) {
     return (unsigned)(packed & 0xff);
 }
 
+/* Out of what gunwaleish_run_trace or gunwaleish_address_of gave. */
 static inline uint8_t gunwaleish_address(uint64_t packed) {
     return (uint8_t)(packed >> 8 & 0xff);
 }
 
+/* Out of what gunwaleish_run_trace gave. */
 static inline size_t gunwaleish_events(uint64_t packed) {
     return (size_t)(packed >> 16);
 }
 
-/* The code of pin AD3, AD2, AD1 or AD0, out of what gunwaleish_pins_of gave. */
+/* Out of what gunwaleish_write_trace gave. */
+static inline size_t gunwaleish_length(uint64_t packed) {
+    return (size_t)(packed >> 8);
+}
+
+/* The code of pin AD3, AD2, AD1 or AD0, out of what gunwaleish_pins_of gave. There are no other pins. */
 static inline uint8_t gunwaleish_pin(uint64_t packed, unsigned ad) {
-    return (uint8_t)(packed >> (8 * (4 - ad)) & 0xff);
+    return (uint8_t)(ad > 3 ? GUNWALEISH_NO_PIN : packed >> (8 * (4 - ad)) & 0xff);
+}
+
+/* The parts of an answer's third byte: 0 none, 1 master 0, 2 master 1. */
+static inline unsigned gunwaleish_owner(uint8_t bus) {
+    return (unsigned)(bus & GUNWALEISH_BUS_OWNER);
+}
+
+static inline unsigned gunwaleish_switch(uint8_t bus) {
+    return (unsigned)(bus & GUNWALEISH_BUS_SWITCH) >> GUNWALEISH_BUS_SWITCH_SHIFT;
 }
 
 #ifdef __cplusplus

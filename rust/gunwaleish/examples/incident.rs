@@ -7,7 +7,7 @@ use std::path::PathBuf;
 use std::process::ExitCode;
 use std::{env, fs};
 
-const TICK: u8 = 6;
+use gunwaleish::{run, Event, Master};
 
 fn main() -> ExitCode {
     let mut traces: Vec<PathBuf> = env::args_os().skip(1).map(PathBuf::from).collect();
@@ -30,45 +30,38 @@ fn main() -> ExitCode {
 
 /// Says in words when the bus changed hands.
 fn tell(trace: &[u8]) {
-    let mut answers = vec![0; 4 * gunwaleish::MOST_EVENTS];
-    let report = match gunwaleish::run_trace(trace, &mut answers) {
-        Ok(report) => report,
+    let run = match run(trace) {
+        Ok(run) => run,
         Err(refusal) => return println!("  {refusal}"),
     };
-    println!("  address {:02X}h, {} events", report.address, report.events);
-    let events = trace[7..].chunks_exact(4);
-    let mut owner = 0;
+    println!("  address {:02X}h, {} events", run.address, run.events.len());
+    let mut owner = None;
     let mut ticks = 0;
-    for (place, (event, answer)) in events.zip(answers.chunks_exact(4)).enumerate() {
-        ticks += usize::from(event[0] == TICK);
-        let now = answer[2] & 3;
-        if now != owner {
-            println!("  event {:>3}, {ticks:>3} ticks passed: {}", place + 1, in_words(owner, now));
+    for (place, (event, answer)) in run.events.iter().zip(&run.answers).enumerate() {
+        ticks += usize::from(*event == Event::Tick);
+        if let Some(words) = in_words(owner, answer.owner) {
+            println!("  event {:>3}, {ticks:>3} ticks passed: {words}", place + 1);
         }
-        owner = now;
+        owner = answer.owner;
     }
     println!("  at the end, {ticks} ticks passed: {}", holder(owner));
 }
 
-fn in_words(before: u8, now: u8) -> String {
+fn in_words(before: Option<Master>, now: Option<Master>) -> Option<String> {
     match (before, now) {
-        (_, 0) => format!("{} no longer owns the bus, nobody does", master(before)),
-        (0, _) => format!("{} is granted the bus", master(now)),
-        _ => format!("{} loses the bus and {} is granted it", master(before), master(now)),
+        _ if before == now => None,
+        (None, Some(new)) => Some(format!("master {new} is granted the bus")),
+        (Some(old), None) => Some(format!("master {old} no longer owns the bus, nobody does")),
+        (Some(old), Some(new)) => {
+            Some(format!("master {old} loses the bus and master {new} is granted it"))
+        }
+        (None, None) => None,
     }
 }
 
-fn holder(owner: u8) -> String {
+fn holder(owner: Option<Master>) -> String {
     match owner {
-        0 => "nobody owns the bus".to_string(),
-        _ => format!("{} owns the bus", master(owner)),
-    }
-}
-
-/// The owner's bits of an answer: 1 is master 0, 2 is master 1.
-fn master(bits: u8) -> &'static str {
-    match bits {
-        1 => "master 0",
-        _ => "master 1",
+        None => "nobody owns the bus".to_string(),
+        Some(master) => format!("master {master} owns the bus"),
     }
 }

@@ -1,4 +1,4 @@
-//! The four functions of the library as C declares them, and one safe call of each, which gives
+//! The functions of the library as C declares them, and one safe call of each, which gives
 //! the library's packed number as it is. The functions at the crate's root take it apart.
 //!
 //! This is the only file with `unsafe`. Every call is sound for the same four reasons. A Rust
@@ -22,6 +22,16 @@ extern "C" {
         text: *mut u8,
         text_len: usize,
     ) -> usize;
+    fn gunwaleish_write_trace(
+        ad3: u8,
+        ad2: u8,
+        ad1: u8,
+        ad0: u8,
+        events: *const u8,
+        events_len: usize,
+        trace: *mut u8,
+        trace_len: usize,
+    ) -> u64;
 }
 
 /// The number, then the address, then the count of events, packed as 1, 256 and 65536.
@@ -49,4 +59,15 @@ pub fn pins_of(address: u8) -> u64 {
 pub fn listing(trace: &[u8], text: &mut [u8]) -> usize {
     // SAFETY: see the head of this file.
     unsafe { gunwaleish_listing(trace.as_ptr(), trace.len(), text.as_mut_ptr(), text.len()) }
+}
+
+/// The number, then the trace's length, packed as 1 and 256.
+pub fn write_trace(pins: [u8; 4], events: &[u8], trace: &mut [u8]) -> u64 {
+    let [ad3, ad2, ad1, ad0] = pins;
+    let (from, from_len) = (events.as_ptr(), events.len());
+    // SAFETY: see the head of this file.
+    unsafe {
+        let (to, to_len) = (trace.as_mut_ptr(), trace.len());
+        gunwaleish_write_trace(ad3, ad2, ad1, ad0, from, from_len, to, to_len)
+    }
 }

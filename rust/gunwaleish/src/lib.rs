@@ -1,7 +1,7 @@
 //! The proved model of a PCA9641 bus arbiter, for Rust.
 //!
-//! The work is done by a static library whose every function is proved. This crate takes its
-//! packed numbers apart and nothing more. Build the library first, with `rt staticlib
+//! The work is done by a static library whose every function is proved. This crate gives its
+//! numbers and bytes names and nothing more. Build the library first, with `rt staticlib
 //! gunwaleish`; it links on x86-64.
 //!
 //! A trace is one byte string: the count 4, the pins AD3 to AD0, a two-byte low-first count of
@@ -9,55 +9,86 @@
 //! read, owner and switch, outputs and lines.
 //!
 //! ```
-//! // Strapped to 70h, one event: master 0 reads its ID register.
-//! let trace = [4, 0, 0, 0, 0, 1, 0, 2, 0, 0, 0];
-//! let mut answers = [0; 4];
-//! let report = gunwaleish::run_trace(&trace, &mut answers)?;
-//! assert_eq!((report.address, report.events), (0x70, 1));
-//! assert_eq!(answers, [0x00, 0x38, 0x00, 0x0C]);
+//! use gunwaleish::{run, write_trace, Event, Master, Pins};
+//!
+//! // Strapped to 70h, master 0 asks for the bus and is granted it at its STOP.
+//! let master = Master::Zero;
+//! let events = [
+//!     Event::Command { master, code: 1 },
+//!     Event::Write { master, value: 0x05 },
+//!     Event::Stop { master },
+//! ];
+//! let trace = write_trace(Pins::of_address(0x70)?, &events)?;
+//! let run = run(&trace)?;
+//! assert_eq!(run.events, events);
+//! assert_eq!(run.answers[1].owner, None);
+//! assert_eq!(run.answers[2].owner, Some(Master::Zero));
 //! # Ok::<(), gunwaleish::Refusal>(())
 //! ```
+//!
+//! The calls whose names end in `_into`, and `run_trace`, work on bytes in lent buffers and
+//! allocate nothing.
 
+mod answer;
 pub mod boundary;
+mod event;
+mod pins;
 mod refusal;
+mod run;
 
+pub use answer::{Answer, Outcome};
+pub use event::{Event, Master};
+pub use pins::Pins;
 pub use refusal::Refusal;
+pub use run::{run, run_trace, Report, Run};
 
 /// The most events a trace may have.
 pub const MOST_EVENTS: usize = 4096;
 
-/// What an accepted trace reports. Its answers are in the buffer.
-#[derive(Clone, Copy, Debug, PartialEq, Eq)]
-pub struct Report {
-    /// The seven-bit address of the strapping.
-    pub address: u8,
-    /// How many events were run, and answered by four bytes each.
-    pub events: usize,
-}
+/// The bytes of a trace that are not events: the first count, the pins and the count of events.
+const HEAD: usize = 7;
 
-/// Runs a trace from power-up and writes its answers.
-///
-/// Bytes of `answers` past four an event stay as they are. A refused trace leaves all of them as
-/// they are.
-pub fn run_trace(trace: &[u8], answers: &mut [u8]) -> Result<Report, Refusal> {
-    let packed = boundary::run_trace(trace, answers);
-    match Refusal::of(packed as u8) {
-        Some(refusal) => Err(refusal),
-        None => Ok(Report { address: (packed >> 8) as u8, events: (packed >> 16) as usize }),
-    }
-}
+/// The bytes of the longest trace.
+pub const MOST_TRACE: usize = HEAD + 4 * MOST_EVENTS;
 
-/// The address of a strapping, given as the codes of AD3, AD2, AD1 and AD0: 0 VSS, 1 VDD, 2
-/// pull-down, 3 pull-up.
-pub fn address_of(pins: [u8; 4]) -> Result<u8, Refusal> {
-    let [number, address, ..] = boundary::address_of(pins).to_le_bytes();
+/// The address of a strapping. Four codes pass as well as `Pins`.
+pub fn address_of(pins: impl Into<Pins>) -> Result<u8, Refusal> {
+    let [number, address, ..] = boundary::address_of(pins.into().into()).to_le_bytes();
     Refusal::of(number).map_or(Ok(address), Err)
 }
 
-/// The one strapping of an address, as the codes of AD3, AD2, AD1 and AD0.
+/// The one strapping of an address, as the codes of AD3, AD2, AD1 and AD0. `Pins::of_address`
+/// gives it with names.
 pub fn pins_of(address: u8) -> Result<[u8; 4], Refusal> {
     let [number, ad3, ad2, ad1, ad0, ..] = boundary::pins_of(address).to_le_bytes();
     Refusal::of(number).map_or(Ok([ad3, ad2, ad1, ad0]), Err)
+}
+
+/// Writes a trace into a lent buffer and gives the trace's length.
+///
+/// `events` has four bytes an event, and they are written as they are, also those that a device
+/// will refuse. Refusals, in this order: 8 for the pins, 5 if the bytes do not come in fours, 6
+/// above 4,096 events, 9 if the buffer is shorter than the trace. The buffer is untouched then.
+/// Bytes past the trace stay as they are.
+pub fn write_trace_into(
+    pins: impl Into<Pins>,
+    events: &[u8],
+    trace: &mut [u8],
+) -> Result<usize, Refusal> {
+    let packed = boundary::write_trace(pins.into().into(), events, trace);
+    Refusal::of(packed as u8).map_or(Ok((packed >> 8) as usize), Err)
+}
+
+/// The trace of these pins and events. The events are `Event`s, or four bytes each.
+pub fn write_trace<E>(pins: impl Into<Pins>, events: &[E]) -> Result<Vec<u8>, Refusal>
+where
+    E: Copy + Into<[u8; 4]>,
+{
+    let bytes: Vec<u8> = events.iter().flat_map(|&event| event.into()).collect();
+    let mut trace = vec![0; HEAD + bytes.len()];
+    let length = write_trace_into(pins, &bytes, &mut trace)?;
+    trace.truncate(length);
+    Ok(trace)
 }
 
 /// Writes a trace's listing into a lent buffer and gives the listing's length.

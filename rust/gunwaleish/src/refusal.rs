@@ -3,17 +3,19 @@
 use std::fmt;
 
 /// A refusal of a whole call. The library keeps to document 01's numbers, and so does `number`.
-#[derive(Clone, Copy, Debug, PartialEq, Eq)]
+/// Later calls bring numbers of their own.
+#[derive(Clone, Copy, Debug, PartialEq, Eq, Hash)]
+#[non_exhaustive]
 pub enum Refusal {
-    /// 5: the trace ends too early.
+    /// 5: the trace ends too early, or event bytes do not come in fours.
     TraceCut,
-    /// 6: the trace's count is above 4,096.
+    /// 6: there are more than 4,096 events.
     TooManyEvents,
     /// 7: there are bytes after the last event.
     BytesAfterEnd,
     /// 8: a pin code is above 3, or the strapping has no address.
     NoSuchStrapping,
-    /// 9: the answers need four bytes an event, and there is less room.
+    /// 9: the buffer is too short. Answers need four bytes an event, a trace seven more.
     TooLittleRoom,
     /// 10: the first byte, the count of pins, is not 4.
     FirstCountNotFour,
@@ -58,11 +60,11 @@ impl Refusal {
 impl fmt::Display for Refusal {
     fn fmt(&self, f: &mut fmt::Formatter) -> fmt::Result {
         let line = match self {
-            Refusal::TraceCut => "the trace is cut: bytes are missing at its end",
-            Refusal::TooManyEvents => "the trace has more than 4,096 events",
+            Refusal::TraceCut => "cut: bytes are missing at the end",
+            Refusal::TooManyEvents => "there are more than 4,096 events",
             Refusal::BytesAfterEnd => "there are bytes after the trace's last event",
             Refusal::NoSuchStrapping => "a pin code is above 3, or the strapping has no address",
-            Refusal::TooLittleRoom => "there is less room than four answer bytes an event",
+            Refusal::TooLittleRoom => "the buffer is too short for what is to be written",
             Refusal::FirstCountNotFour => "the trace's first byte, the count of pins, is not 4",
             Refusal::AddressOutside => "the address is not one of 08h to 77h",
             Refusal::Unknown(_) => "the library gave a number that document 01 does not have here",

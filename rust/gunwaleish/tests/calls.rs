@@ -1,6 +1,9 @@
 //! Each call once with what document 01 says of it. The many cases are in `rust/compare`.
 
-use gunwaleish::{address_of, listing, listing_into, pins_of, run_trace, Refusal, Report};
+use gunwaleish::{
+    address_of, listing, listing_into, pins_of, run, run_trace, write_trace, write_trace_into,
+    Answer, Event, Master, Outcome, Pins, Refusal, Report, MOST_EVENTS, MOST_TRACE,
+};
 
 /// M1: master 0 asks for the bus, is granted it at its STOP, and reads CONTR.
 const M1: [u8; 23] = [4, 0, 0, 0, 0, 4, 0, 0, 0, 1, 0, 1, 0, 5, 0, 3, 0, 0, 0, 2, 0, 0, 0];
@@ -43,6 +46,10 @@ fn straps_both_ways() {
     assert_eq!(pins_of(0x08), Ok([1, 0, 0, 2]));
     assert_eq!(pins_of(0x77), Ok([0, 1, 1, 1]));
     assert_eq!(pins_of(0x78), Err(Refusal::AddressOutside));
+    let pins = Pins { ad3: 1, ad2: 1, ad1: 1, ad0: 3 };
+    assert_eq!(pins.address(), Ok(0x0F));
+    assert_eq!(Pins::of_address(0x0F), Ok(pins));
+    assert_eq!(pins.to_string(), "1 1 1 3");
 }
 
 #[test]
@@ -55,4 +62,85 @@ fn a_listing_is_written_only_if_it_fits() {
     assert_eq!(listing_into(&M1, &mut text), 44);
     assert_eq!(&text[..44], M1_TEXT.as_bytes());
     assert_eq!(text[44..], [0xEE; 2]);
+}
+
+/// The events of M1 by their names.
+fn m1_events() -> [Event; 4] {
+    let master = Master::Zero;
+    [
+        Event::Command { master, code: 1 },
+        Event::Write { master, value: 5 },
+        Event::Stop { master },
+        Event::Read { master },
+    ]
+}
+
+#[test]
+fn a_trace_is_written_and_read_again() {
+    assert_eq!(write_trace(Pins::default(), &m1_events()).as_deref(), Ok(&M1[..]));
+    let run = run(&M1).unwrap();
+    assert_eq!((run.address, run.pins), (0x70, Pins::default()));
+    assert_eq!(run.events, m1_events());
+    assert_eq!(write_trace(run.pins, &run.events).as_deref(), Ok(&M1[..]));
+    assert_eq!(write_trace([0; 4], &m1_events().map(Event::bytes)).as_deref(), Ok(&M1[..]));
+    let mut buffer = [0xEE; 25];
+    assert_eq!(write_trace_into([0; 4], &M1[7..], &mut buffer), Ok(23));
+    assert_eq!(buffer[..23], M1);
+    assert_eq!(buffer[23..], [0xEE; 2]);
+}
+
+/// Each refusal of the writer, with all those that come after it wrong as well.
+#[test]
+fn the_writer_refuses_in_order() {
+    let many = vec![6; 4 * (MOST_EVENTS + 1)];
+    let cases: [([u8; 4], &[u8], Refusal); 4] = [
+        ([1, 0, 0, 0], &[many.as_slice(), &[6]].concat(), Refusal::NoSuchStrapping),
+        ([0; 4], &[many.as_slice(), &[6]].concat(), Refusal::TraceCut),
+        ([0; 4], &many, Refusal::TooManyEvents),
+        ([0; 4], &M1[7..], Refusal::TooLittleRoom),
+    ];
+    for (pins, events, refusal) in cases {
+        let mut buffer = [0xEE; 22];
+        assert_eq!(write_trace_into(pins, events, &mut buffer), Err(refusal));
+        assert_eq!(buffer, [0xEE; 22]);
+    }
+    let most = write_trace([0; 4], &[Event::Tick; MOST_EVENTS]).unwrap();
+    assert_eq!((most.len(), run(&most).unwrap().events.len()), (MOST_TRACE, MOST_EVENTS));
+}
+
+/// Bytes that read as an event get its name, others stay as they are; the library says which.
+#[test]
+fn events_lose_no_byte() {
+    for kind in 0..=11 {
+        for a in [0, 1, 2, 255] {
+            for b in [0, 1, 2, 255] {
+                for c in [0, 1, 2, 255] {
+                    let bytes = [kind, a, b, c];
+                    let event = Event::from(bytes);
+                    assert_eq!(event.bytes(), bytes);
+                    let outcome =
+                        run(&write_trace([0; 4], &[event]).unwrap()).unwrap().answers[0].outcome;
+                    let no_event =
+                        matches!(outcome, Outcome::UnknownKind | Outcome::FieldOutOfRange);
+                    assert_eq!(matches!(event, Event::Raw(_)), no_event, "{bytes:?}");
+                }
+            }
+        }
+    }
+}
+
+#[test]
+fn an_answer_by_its_names() {
+    let answer = Answer::from([0x04, 0x38, 0b1_10_01, 0b0110]);
+    assert_eq!((answer.outcome, answer.byte_read), (Outcome::OutOfSequence, 0x38));
+    assert_eq!((answer.owner, answer.connected), (Some(Master::Zero), Some(Master::One)));
+    assert_eq!((answer.initialising, answer.int0, answer.int1), (true, false, true));
+    assert_eq!((answer.scl, answer.sda), (true, false));
+    let idle = Answer::from([0, 0, 0, 0b1001]);
+    assert_eq!((idle.owner, idle.connected, idle.initialising), (None, None, false));
+    assert_eq!((idle.int0, idle.int1, idle.scl, idle.sda), (true, false, false, true));
+    for number in 0..=5 {
+        let outcome = Outcome::of(number);
+        assert_eq!((outcome.number(), outcome.is_refused()), (number, number > 1));
+    }
 }

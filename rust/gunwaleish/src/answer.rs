@@ -1,0 +1,115 @@
+//! An answer's four bytes by their names. Document 01, "Answers and the trace".
+
+use std::fmt;
+
+use crate::Master;
+
+/// What became of one event.
+#[derive(Clone, Copy, Debug, PartialEq, Eq, Hash)]
+#[non_exhaustive]
+pub enum Outcome {
+    /// 0.
+    Done,
+    /// 1: the event had its effect, and its byte was not acknowledged.
+    NotAcknowledged,
+    /// 2: the first byte is no kind.
+    UnknownKind,
+    /// 3: a field is out of range, or one that is not used is not 0.
+    FieldOutOfRange,
+    /// 4: the event cannot come now.
+    OutOfSequence,
+    /// A number that document 01 does not have here. The proved library never gives one.
+    Unknown(u8),
+}
+
+impl Outcome {
+    pub fn of(number: u8) -> Outcome {
+        match number {
+            0 => Outcome::Done,
+            1 => Outcome::NotAcknowledged,
+            2 => Outcome::UnknownKind,
+            3 => Outcome::FieldOutOfRange,
+            4 => Outcome::OutOfSequence,
+            other => Outcome::Unknown(other),
+        }
+    }
+
+    /// Document 01's number.
+    pub fn number(self) -> u8 {
+        match self {
+            Outcome::Done => 0,
+            Outcome::NotAcknowledged => 1,
+            Outcome::UnknownKind => 2,
+            Outcome::FieldOutOfRange => 3,
+            Outcome::OutOfSequence => 4,
+            Outcome::Unknown(number) => number,
+        }
+    }
+
+    /// True if the event was refused, so that it changed nothing.
+    pub fn is_refused(self) -> bool {
+        !matches!(self, Outcome::Done | Outcome::NotAcknowledged)
+    }
+}
+
+impl fmt::Display for Outcome {
+    fn fmt(&self, f: &mut fmt::Formatter) -> fmt::Result {
+        f.write_str(match self {
+            Outcome::Done => "done",
+            Outcome::NotAcknowledged => "not acknowledged",
+            Outcome::UnknownKind => "unknown kind",
+            Outcome::FieldOutOfRange => "field out of range",
+            Outcome::OutOfSequence => "out of sequence",
+            Outcome::Unknown(_) => "a number that document 01 does not have here",
+        })
+    }
+}
+
+/// What the device answers to one event. All but the outcome and the byte read show the device
+/// after the step.
+#[derive(Clone, Copy, Debug, PartialEq, Eq, Hash)]
+#[non_exhaustive]
+pub struct Answer {
+    pub outcome: Outcome,
+    /// The byte that a READ handed out, else 00.
+    pub byte_read: u8,
+    /// The granted master.
+    pub owner: Option<Master>,
+    /// The master whose switch is closed.
+    pub connected: Option<Master>,
+    /// An initialisation of the bus is running.
+    pub initialising: bool,
+    /// Interrupt output 0 is asserted.
+    pub int0: bool,
+    /// Interrupt output 1 is asserted.
+    pub int1: bool,
+    /// SCL is high.
+    pub scl: bool,
+    /// SDA is high.
+    pub sda: bool,
+}
+
+impl From<[u8; 4]> for Answer {
+    fn from([outcome, byte_read, bus, pins]: [u8; 4]) -> Answer {
+        Answer {
+            outcome: Outcome::of(outcome),
+            byte_read,
+            owner: master(bus),
+            connected: master(bus >> 2),
+            initialising: bus & 0x10 != 0,
+            int0: pins & 0x01 != 0,
+            int1: pins & 0x02 != 0,
+            scl: pins & 0x04 != 0,
+            sda: pins & 0x08 != 0,
+        }
+    }
+}
+
+/// Two bits that name a master: 0 none, 1 master 0, 2 master 1. The proved library never gives 3.
+fn master(bits: u8) -> Option<Master> {
+    match bits & 3 {
+        1 => Some(Master::Zero),
+        2 => Some(Master::One),
+        _ => None,
+    }
+}

@@ -1,0 +1,130 @@
+//! An event and its four bytes. Document 01, "Events".
+
+use std::fmt;
+
+/// One of the two masters, which are the shelf's two controllers.
+#[derive(Clone, Copy, Debug, PartialEq, Eq, Hash, PartialOrd, Ord)]
+pub enum Master {
+    Zero,
+    One,
+}
+
+impl Master {
+    pub const BOTH: [Master; 2] = [Master::Zero, Master::One];
+
+    /// 0 or 1.
+    pub fn number(self) -> u8 {
+        self as u8
+    }
+
+    pub fn partner(self) -> Master {
+        match self {
+            Master::Zero => Master::One,
+            Master::One => Master::Zero,
+        }
+    }
+
+    /// The master of this number.
+    pub fn of(number: u8) -> Option<Master> {
+        match number {
+            0 => Some(Master::Zero),
+            1 => Some(Master::One),
+            _ => None,
+        }
+    }
+}
+
+impl fmt::Display for Master {
+    fn fmt(&self, f: &mut fmt::Formatter) -> fmt::Result {
+        self.number().fmt(f)
+    }
+}
+
+/// What happens at one instant: one of the ten kinds, or four bytes that are none of them.
+///
+/// Four bytes become an `Event` and an `Event` becomes four bytes, and nothing is lost on the way:
+/// bytes that no kind has are kept in `Raw`. The library refuses those when it runs them, and it
+/// writes them as they are.
+#[derive(Clone, Copy, Debug, PartialEq, Eq, Hash)]
+pub enum Event {
+    /// 0: opens the master's port for writing. Bit 7 is auto-increment, bits 2 to 0 the pointer.
+    Command { master: Master, code: u8 },
+    /// 1: writes a byte at the pointer.
+    Write { master: Master, value: u8 },
+    /// 2: reads the byte at the pointer.
+    Read { master: Master },
+    /// 3: ends the transfer, and the port goes to rest.
+    Stop { master: Master },
+    /// 4: both masters write at one instant.
+    Pair { value0: u8, value1: u8 },
+    /// 5: the outside levels; true is high.
+    Lines { scl: bool, sda: bool, int_in: bool },
+    /// 6: one millisecond.
+    Tick,
+    /// 7: the level of SDA at one initialisation clock.
+    Pulse { sda: bool },
+    /// 8: the reset pin.
+    Reset,
+    /// 9: a general call; 06h is the soft reset.
+    GeneralCall { master: Master, code: u8 },
+    /// Any four bytes. `Event::from` gives this one only for bytes that no kind above has.
+    Raw([u8; 4]),
+}
+
+impl Event {
+    /// The four bytes of this event.
+    pub fn bytes(self) -> [u8; 4] {
+        let level = u8::from;
+        match self {
+            Event::Command { master, code } => [0, master.number(), code, 0],
+            Event::Write { master, value } => [1, master.number(), value, 0],
+            Event::Read { master } => [2, master.number(), 0, 0],
+            Event::Stop { master } => [3, master.number(), 0, 0],
+            Event::Pair { value0, value1 } => [4, value0, value1, 0],
+            Event::Lines { scl, sda, int_in } => [5, level(scl), level(sda), level(int_in)],
+            Event::Tick => [6, 0, 0, 0],
+            Event::Pulse { sda } => [7, level(sda), 0, 0],
+            Event::Reset => [8, 0, 0, 0],
+            Event::GeneralCall { master, code } => [9, master.number(), code, 0],
+            Event::Raw(bytes) => bytes,
+        }
+    }
+
+    /// The kind that these bytes have, if they have one.
+    fn of_a_kind([kind, a, b, c]: [u8; 4]) -> Option<Event> {
+        let master = Master::of(a);
+        Some(match (kind, b, c) {
+            (0, code, 0) => Event::Command { master: master?, code },
+            (1, value, 0) => Event::Write { master: master?, value },
+            (2, 0, 0) => Event::Read { master: master? },
+            (3, 0, 0) => Event::Stop { master: master? },
+            (4, value1, 0) => Event::Pair { value0: a, value1 },
+            (5, ..) => Event::Lines { scl: level(a)?, sda: level(b)?, int_in: level(c)? },
+            (6, 0, 0) if a == 0 => Event::Tick,
+            (7, 0, 0) => Event::Pulse { sda: level(a)? },
+            (8, 0, 0) if a == 0 => Event::Reset,
+            (9, code, 0) => Event::GeneralCall { master: master?, code },
+            _ => return None,
+        })
+    }
+}
+
+fn level(byte: u8) -> Option<bool> {
+    match byte {
+        0 => Some(false),
+        1 => Some(true),
+        _ => None,
+    }
+}
+
+impl From<[u8; 4]> for Event {
+    fn from(bytes: [u8; 4]) -> Event {
+        Event::of_a_kind(bytes).unwrap_or(Event::Raw(bytes))
+    }
+}
+
+impl From<Event> for [u8; 4] {
+    fn from(event: Event) -> [u8; 4] {
+        event.bytes()
+    }
+}

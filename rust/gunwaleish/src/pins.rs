@@ -1,0 +1,47 @@
+//! The four address pins. Document 01, "Straps".
+
+use std::fmt;
+
+use crate::{address_of, pins_of, Refusal};
+
+/// A strapping: the codes of the four pins. 0 is VSS, 1 VDD, 2 pull-down, 3 pull-up.
+///
+/// Any codes can stand here. Whether a strapping has an address, the library says.
+#[derive(Clone, Copy, Debug, Default, PartialEq, Eq, Hash)]
+pub struct Pins {
+    pub ad3: u8,
+    pub ad2: u8,
+    pub ad1: u8,
+    pub ad0: u8,
+}
+
+impl Pins {
+    /// The one strapping of an address.
+    pub fn of_address(address: u8) -> Result<Pins, Refusal> {
+        pins_of(address).map(Pins::from)
+    }
+
+    /// The address of this strapping.
+    pub fn address(self) -> Result<u8, Refusal> {
+        address_of(self)
+    }
+}
+
+/// The codes of AD3, AD2, AD1 and AD0, as a trace has them.
+impl From<[u8; 4]> for Pins {
+    fn from([ad3, ad2, ad1, ad0]: [u8; 4]) -> Pins {
+        Pins { ad3, ad2, ad1, ad0 }
+    }
+}
+
+impl From<Pins> for [u8; 4] {
+    fn from(pins: Pins) -> [u8; 4] {
+        [pins.ad3, pins.ad2, pins.ad1, pins.ad0]
+    }
+}
+
+impl fmt::Display for Pins {
+    fn fmt(&self, f: &mut fmt::Formatter) -> fmt::Result {
+        write!(f, "{} {} {} {}", self.ad3, self.ad2, self.ad1, self.ad0)
+    }
+}

@@ -1,0 +1,56 @@
+//! A trace, run from power-up.
+
+use crate::{boundary, Answer, Event, Pins, Refusal, HEAD, MOST_EVENTS};
+
+/// What an accepted trace reports. Its answers are in the buffer.
+#[derive(Clone, Copy, Debug, PartialEq, Eq)]
+pub struct Report {
+    /// The seven-bit address of the strapping.
+    pub address: u8,
+    /// How many events were run, and answered by four bytes each.
+    pub events: usize,
+}
+
+/// Runs a trace from power-up and writes its answers.
+///
+/// Bytes of `answers` past four an event stay as they are. A refused trace leaves all of them as
+/// they are.
+pub fn run_trace(trace: &[u8], answers: &mut [u8]) -> Result<Report, Refusal> {
+    let packed = boundary::run_trace(trace, answers);
+    match Refusal::of(packed as u8) {
+        Some(refusal) => Err(refusal),
+        None => Ok(Report { address: (packed >> 8) as u8, events: (packed >> 16) as usize }),
+    }
+}
+
+/// An accepted trace with its names: what was read, and what was answered. There are as many
+/// answers as events.
+#[derive(Clone, Debug, PartialEq, Eq)]
+#[non_exhaustive]
+pub struct Run {
+    /// The seven-bit address of the strapping.
+    pub address: u8,
+    pub pins: Pins,
+    pub events: Vec<Event>,
+    pub answers: Vec<Answer>,
+}
+
+/// Runs a trace from power-up and gives its events and answers by their names.
+pub fn run(trace: &[u8]) -> Result<Run, Refusal> {
+    let mut answers = vec![0; 4 * (trace.len() / 4).min(MOST_EVENTS)];
+    let report = run_trace(trace, &mut answers)?;
+    answers.truncate(4 * report.events);
+    // An accepted trace has its head and its events, so these slices are there.
+    let pins = fours(trace.get(1..5).unwrap_or_default()).next().unwrap_or_default();
+    let events = trace.get(HEAD..HEAD + 4 * report.events).unwrap_or_default();
+    Ok(Run {
+        address: report.address,
+        pins: pins.into(),
+        events: fours(events).map(Event::from).collect(),
+        answers: fours(&answers).map(Answer::from).collect(),
+    })
+}
+
+fn fours(bytes: &[u8]) -> impl Iterator<Item = [u8; 4]> + '_ {
+    bytes.chunks_exact(4).map(|four| [four[0], four[1], four[2], four[3]])
+}
