@@ -4,6 +4,8 @@
 //! readings.md, and comments here say "reading 5" for point 5 of that list.
 //! The model serves to check a proved implementation in tests. So nothing in
 //! it was taken from that implementation, and nothing in it is made fast.
+//! Later requests are those of document 02 (02-change-requests.md); a comment
+//! names them by their number.
 //!
 //! - `straps`: pins to address and back ("Straps").
 //! - `event`: what four bytes mean, refusals 2 and 3 ("Events").
@@ -11,6 +13,7 @@
 //! - `bytes`: what a byte written or read does ("Registers").
 //! - `step`: one event, in the order of "Order inside a step".
 //! - `trace`: whole traces and the listing ("Answers and the trace").
+//! - `writer`: a trace out of pins and events (document 02, #101).
 //! - `rng`, `phrases`, `traces`, `damage`, `happenings`, `kinds`: random cases for the tests.
 //! - `samples`, `stored`: the traces that the repository keeps as files.
 
@@ -28,7 +31,9 @@ pub mod stored;
 pub mod straps;
 pub mod trace;
 pub mod traces;
+pub mod writer;
 
 pub use device::Device;
 pub use straps::{address_of, pins_of};
-pub use trace::{listing, run_trace, TraceResult};
+pub use trace::{listing, read_trace, run_trace, Trace, TraceResult};
+pub use writer::{write_trace, Written};

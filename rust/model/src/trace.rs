@@ -14,33 +14,46 @@ pub struct TraceResult {
     pub device: Device,
 }
 
+/// What an accepted trace says.
+#[derive(Clone, Debug, PartialEq, Eq)]
+pub struct Trace {
+    /// AD3 to AD0, and the address that they make.
+    pub pins: [u8; 4],
+    pub address: u8,
+    pub events: Vec<[u8; 4]>,
+}
+
 /// Runs a trace and writes four answer bytes for each event. A refused trace
 /// writes nothing and reports address 00h, 0 events and the fresh device
 /// (reading 21). Answer bytes past 4n stay.
 pub fn run_trace(trace: &[u8], answers: &mut [u8]) -> TraceResult {
     let mut device = Device::power_up();
-    match read_trace(trace, answers.len()) {
-        Err(number) => TraceResult { number, address: 0, events: 0, device },
-        Ok((address, events)) => {
-            for (place, event) in events.iter().enumerate() {
-                let answer = device.step(*event);
-                answers[4 * place..4 * place + 4].copy_from_slice(&answer);
-            }
-            TraceResult { number: 0, address, events: events.len(), device }
-        }
+    let refused = |number, device| TraceResult { number, address: 0, events: 0, device };
+    let Trace { address, events, .. } = match read_trace(trace) {
+        Ok(read) => read,
+        Err(number) => return refused(number, device),
+    };
+    // 9 is the last of the refusals.
+    if answers.len() < 4 * events.len() {
+        return refused(9, device);
     }
+    for (place, event) in events.iter().enumerate() {
+        let answer = device.step(*event);
+        answers[4 * place..4 * place + 4].copy_from_slice(&answer);
+    }
+    TraceResult { number: 0, address, events: events.len(), device }
 }
 
 /// "Trace order: first count missing 5, wrong 10, pins missing 5, pins 8,
-/// n missing 5, 6, events missing 5, 7, 9."
-fn read_trace(trace: &[u8], room: usize) -> Result<(u8, Vec<[u8; 4]>), u8> {
+/// n missing 5, 6, events missing 5, 7, 9." The 9 is of a run, not of a reading.
+pub fn read_trace(trace: &[u8]) -> Result<Trace, u8> {
     let mut rest = trace;
     let first_count = take(&mut rest, 1)?;
     if first_count[0] != 4 {
         return Err(10);
     }
-    let pins = take(&mut rest, 4)?;
-    let Some(address) = address_of([pins[0], pins[1], pins[2], pins[3]]) else {
+    let pins = four(take(&mut rest, 4)?);
+    let Some(address) = address_of(pins) else {
         return Err(8);
     };
     let count = take(&mut rest, 2)?;
@@ -52,11 +65,12 @@ fn read_trace(trace: &[u8], room: usize) -> Result<(u8, Vec<[u8; 4]>), u8> {
     if !rest.is_empty() {
         return Err(7);
     }
-    if room < 4 * n {
-        return Err(9);
-    }
-    let events = bytes.chunks(4).map(|e| [e[0], e[1], e[2], e[3]]).collect();
-    Ok((address, events))
+    Ok(Trace { pins, address, events: bytes.chunks(4).map(four).collect() })
+}
+
+/// Four bytes as an array.
+pub fn four(bytes: &[u8]) -> [u8; 4] {
+    [bytes[0], bytes[1], bytes[2], bytes[3]]
 }
 
 /// Takes bytes off the front. Missing bytes are refusal 5.

@@ -1,0 +1,46 @@
+//! A trace written from pins and events. Document 02, #101.
+
+use crate::straps::address_of;
+use crate::trace::MOST_EVENTS;
+
+/// What the writer answers.
+#[derive(Clone, Copy, Debug, PartialEq, Eq)]
+pub struct Written {
+    /// 0, or the number of the refusal.
+    pub number: u8,
+    /// How many bytes the trace has. A refusal has none.
+    pub length: usize,
+}
+
+/// Writes the trace of these pins, AD3 first, and these event bytes. A refusal
+/// leaves the buffer untouched, and bytes past the trace stay.
+pub fn write_trace(pins: [u8; 4], events: &[u8], trace: &mut [u8]) -> Written {
+    match written(pins, events, trace.len()) {
+        Err(number) => Written { number, length: 0 },
+        Ok(bytes) => {
+            trace[..bytes.len()].copy_from_slice(&bytes);
+            Written { number: 0, length: bytes.len() }
+        }
+    }
+}
+
+/// "8 for the pins, 5 for event bytes not in fours, 6 for too many, then 9 for
+/// room." No event is looked at: "Events are written as given".
+fn written(pins: [u8; 4], events: &[u8], room: usize) -> Result<Vec<u8>, u8> {
+    if address_of(pins).is_none() {
+        return Err(8);
+    }
+    if events.len() % 4 != 0 {
+        return Err(5);
+    }
+    let n = events.len() / 4;
+    if n > MOST_EVENTS {
+        return Err(6);
+    }
+    let count = [(n % 256) as u8, (n / 256) as u8];
+    let bytes = [&[4], &pins[..], &count, events].concat();
+    if room < bytes.len() {
+        return Err(9);
+    }
+    Ok(bytes)
+}
