@@ -7,9 +7,10 @@ use model::trace::MOST_EVENTS;
 use model::traces::{trace, trace_of};
 
 use crate::figures::Figures;
+use crate::writing::writer_calls;
 
 /// Compares one round of cases: some 55 good traces with 16,000 events and seven times as many
-/// damaged ones.
+/// damaged ones, and some 90 calls of the writer.
 pub fn round(seed: u64, figures: &mut Figures) {
     let mut rng = Rng::new(seed);
     for length in lengths(&mut rng) {
@@ -22,6 +23,7 @@ pub fn round(seed: u64, figures: &mut Figures) {
         figures.run(&bytes, room);
         figures.list(&bytes);
     }
+    writer_calls(&mut rng, figures);
 }
 
 /// Many short traces and a few long ones. A bus hangs only in those of 700 events and more.
@@ -39,6 +41,7 @@ fn good_and_damaged(rng: &mut Rng, length: usize, figures: &mut Figures) {
     let seed = rng.below(1 << 31) << 31 | rng.below(1 << 31);
     let good = trace(seed, length);
     figures.run(&good, 4 * length + rng.pick(&[0, 0, 1, 3, 64]));
+    figures.write_again(&good);
     if length <= 60 || rng.percent(20) {
         figures.list(&good);
     }

@@ -4,24 +4,25 @@ use std::collections::BTreeMap;
 use std::fmt;
 
 use model::happenings::{Happenings, KINDS};
-use model::trace::hex;
+use model::trace::{four, hex};
 use model::TraceResult;
 
 use crate::check::{check_listing, check_run, Difference};
+use crate::writing::{check_write, check_write_again};
 
-/// The refusals that a run of a trace can meet.
-const REFUSALS: std::ops::RangeInclusive<u8> = 5..=10;
+/// The calls that answer a number, each with the numbers that have to occur.
+const CALLS: &[(&str, &[u8])] = &[("run", &[0, 5, 6, 7, 8, 9, 10]), ("write", &[0, 5, 6, 8, 9])];
 /// So many mismatches are told in full. The rest are only counted.
 const TOLD: usize = 3;
-/// A trace up to this length is told in hex. A longer one is kept as a file.
+/// An input up to this length is told in hex. A longer one is kept as a file.
 const SHORT: usize = 300;
 
 #[derive(Default)]
 pub struct Figures {
     seed: u64,
-    accepted: u64,
+    /// How often each call answered each number.
+    numbers: BTreeMap<(&'static str, u8), u64>,
     events: u64,
-    refusals: BTreeMap<u8, u64>,
     listings: u64,
     happenings: Happenings,
     mismatches: u64,
@@ -37,14 +38,31 @@ impl Figures {
     pub fn run(&mut self, trace: &[u8], room: usize) {
         match check_run(trace, room) {
             Ok(result) => self.count(trace, &result),
-            Err(difference) => self.tell(trace, &format!("room {room}; {difference}")),
+            Err(difference) => self.tell("trace", trace, &format!("room {room}; {difference}")),
+        }
+    }
+
+    /// Writes a trace on both sides and counts it.
+    pub fn write(&mut self, pins: [u8; 4], events: &[u8], room: usize) {
+        match check_write(pins, events, room) {
+            Ok(number) => self.answered("write", number),
+            Err(difference) => {
+                self.tell("events", events, &format!("pins {pins:?}, room {room}; {difference}"))
+            }
+        }
+    }
+
+    /// Has the library write an accepted trace again.
+    pub fn write_again(&mut self, trace: &[u8]) {
+        if let Err(difference) = check_write_again(trace) {
+            self.tell("trace", trace, &difference);
         }
     }
 
     pub fn list(&mut self, trace: &[u8]) {
         self.listings += 1;
         if let Err(difference) = check_listing(trace) {
-            self.tell(trace, &difference);
+            self.tell("trace", trace, &difference);
         }
     }
 
@@ -55,23 +73,26 @@ impl Figures {
         }
     }
 
-    fn count(&mut self, trace: &[u8], result: &TraceResult) {
-        if result.number != 0 {
-            *self.refusals.entry(result.number).or_insert(0) += 1;
-            return;
-        }
-        self.accepted += 1;
-        self.events += result.events as u64;
-        let four = |e: &[u8]| [e[0], e[1], e[2], e[3]];
-        let events: Vec<[u8; 4]> = trace[7..].chunks_exact(4).map(four).collect();
-        self.happenings.run(&events);
+    fn answered(&mut self, call: &'static str, number: u8) {
+        *self.numbers.entry((call, number)).or_insert(0) += 1;
     }
 
-    fn tell(&mut self, trace: &[u8], difference: &str) {
+    fn count(&mut self, trace: &[u8], result: &TraceResult) {
+        self.answered("run", result.number);
+        if result.number == 0 {
+            self.events += result.events as u64;
+            let events: Vec<[u8; 4]> = trace[7..].chunks_exact(4).map(four).collect();
+            self.happenings.run(&events);
+        }
+    }
+
+    /// Tells what differs, and the input by its name.
+    fn tell(&mut self, name: &str, input: &[u8], difference: &str) {
         // Once enough is told, no more files are kept.
         if self.told.len() < TOLD {
-            let bytes = if trace.len() <= SHORT { hex(trace) } else { kept(trace, self.seed) };
-            return self.tell_only(&format!("{difference}\n  trace:   {bytes}"));
+            let bytes =
+                if input.len() <= SHORT { hex(input) } else { kept(name, input, self.seed) };
+            return self.tell_only(&format!("{difference}\n  {name}: {bytes}"));
         }
         self.tell_only(difference);
     }
@@ -85,22 +106,34 @@ impl Figures {
 
     /// Adds what another thread counted.
     pub fn add(&mut self, other: Figures) {
-        self.accepted += other.accepted;
-        self.events += other.events;
-        for (number, count) in other.refusals {
-            *self.refusals.entry(number).or_insert(0) += count;
+        for (answer, count) in other.numbers {
+            *self.numbers.entry(answer).or_insert(0) += count;
         }
+        self.events += other.events;
         self.listings += other.listings;
         self.happenings.add(&other.happenings);
         self.mismatches += other.mismatches;
         self.told.extend(other.told);
     }
 
-    /// Kinds of happening and refusals that never occurred.
+    /// Kinds of happening and numbers of a call that never occurred.
     pub fn never(&self) -> Vec<String> {
         let kinds = KINDS.iter().filter(|kind| self.happenings.count(kind) == 0);
-        let refusals = REFUSALS.filter(|number| !self.refusals.contains_key(number));
-        kinds.map(|kind| kind.to_string()).chain(refusals.map(|n| format!("refusal {n}"))).collect()
+        let mut never: Vec<String> = kinds.map(|kind| kind.to_string()).collect();
+        for (call, numbers) in CALLS {
+            let missing = numbers.iter().filter(|n| !self.numbers.contains_key(&(*call, **n)));
+            never.extend(missing.map(|number| format!("{call} with number {number}")));
+        }
+        never
+    }
+
+    /// How often a call was made, and how often it answered each number.
+    fn calls(&self, call: &str) -> String {
+        let of_call = || self.numbers.iter().filter(|((name, _), _)| *name == call);
+        let total: u64 = of_call().map(|(_, count)| count).sum();
+        let by_number: Vec<String> =
+            of_call().map(|((_, number), count)| format!("{number}: {count}")).collect();
+        format!("{call} {total} times ({})", by_number.join(", "))
     }
 
     /// No mismatch.
@@ -116,18 +149,15 @@ impl Figures {
 
 impl fmt::Display for Figures {
     fn fmt(&self, f: &mut fmt::Formatter) -> fmt::Result {
-        let refused: u64 = self.refusals.values().sum();
-        let by_number: Vec<String> =
-            self.refusals.iter().map(|(number, count)| format!("{number}: {count}")).collect();
         let kinds = KINDS.iter().filter(|kind| self.happenings.count(kind) > 0).count();
+        let calls: Vec<String> = CALLS.iter().map(|(call, _)| self.calls(call)).collect();
         writeln!(
             f,
-            "seed {}: {} traces accepted with {} events, {refused} refused ({}), {} listings, \
-             {kinds} of {} kinds of happening, {} mismatches",
+            "seed {}, by number: {}; {} events run, {} listings, {kinds} of {} kinds of happening, \
+             {} mismatches",
             self.seed,
-            self.accepted,
+            calls.join(", "),
             self.events,
-            by_number.join(", "),
             self.listings,
             KINDS.len(),
             self.mismatches
@@ -136,12 +166,12 @@ impl fmt::Display for Figures {
     }
 }
 
-/// Keeps a long trace as a file among the temporary ones, and says its name.
-fn kept(trace: &[u8], seed: u64) -> String {
-    let name = format!("mismatch-{seed}-{}.trace", trace.len());
-    let path = std::env::temp_dir().join(name);
-    match std::fs::write(&path, trace) {
-        Ok(()) => format!("{} bytes, kept as {}", trace.len(), path.display()),
-        Err(_) => hex(trace),
+/// Keeps a long input as a file among the temporary ones, and says its name.
+fn kept(name: &str, input: &[u8], seed: u64) -> String {
+    let file = format!("mismatch-{seed}-{}.{name}", input.len());
+    let path = std::env::temp_dir().join(file);
+    match std::fs::write(&path, input) {
+        Ok(()) => format!("{} bytes, kept as {}", input.len(), path.display()),
+        Err(_) => hex(input),
     }
 }

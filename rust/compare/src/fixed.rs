@@ -1,5 +1,6 @@
 //! Calls that are few enough to try them all.
 
+use model::read_trace;
 use model::stored::stored_traces;
 
 use crate::check::{check_address_of, check_pins_of};
@@ -16,11 +17,14 @@ pub fn short_strings(figures: &mut Figures) {
     }
 }
 
-/// The traces that the repository keeps as files, run and listed.
+/// The traces that the repository keeps as files: run, listed, and written again if accepted.
 pub fn kept_traces(figures: &mut Figures) {
     for trace in stored_traces() {
         figures.run(&trace, trace.len());
         figures.list(&trace);
+        if read_trace(&trace).is_ok() {
+            figures.write_again(&trace);
+        }
     }
 }
 
@@ -30,7 +34,9 @@ pub fn all_pins(figures: &mut Figures) {
     let codes = [0, 1, 2, 3, 4, 5, 255];
     for place in 0..7usize.pow(4) {
         let code = |pin: u32| codes[place / 7usize.pow(pin) % 7];
-        figures.note(check_address_of([code(3), code(2), code(1), code(0)]));
+        let pins = [code(3), code(2), code(1), code(0)];
+        figures.note(check_address_of(pins));
+        figures.write(pins, &[], 7);
     }
     for others in 0..=255u8 {
         let good = [others >> 6, (others >> 4) & 3, (others >> 2) & 3, others & 3];
