@@ -1,0 +1,74 @@
+//! The command line, read word by word.
+
+use std::ffi::OsString;
+use std::path::PathBuf;
+
+use crate::commands::{Command, COMMANDS};
+use crate::failure::Failure;
+
+/// What the command line asks for.
+pub enum Asked {
+    Help,
+    Version,
+    HelpFor(&'static Command),
+    Run(&'static Command, Arguments),
+}
+
+/// What stands after the command's name.
+#[derive(Clone, Debug, Default, PartialEq, Eq)]
+pub struct Arguments {
+    /// The files, where `-` is standard input.
+    pub files: Vec<PathBuf>,
+    pub output: Option<PathBuf>,
+}
+
+pub fn read_arguments(words: Vec<OsString>) -> Result<Asked, Failure> {
+    let mut words = words.into_iter();
+    let Some(first) = words.next() else {
+        return Err(wrong("no command is named"));
+    };
+    match first.to_str() {
+        Some("--help" | "-h") => return Ok(Asked::Help),
+        Some("--version" | "-V") => return Ok(Asked::Version),
+        _ => {}
+    }
+    let named = COMMANDS.iter().find(|command| first.to_str() == Some(command.name));
+    let Some(command) = named else {
+        return Err(wrong(&format!("there is no command '{}'", first.to_string_lossy())));
+    };
+    let Some(arguments) = read_rest(words)? else {
+        return Ok(Asked::HelpFor(command));
+    };
+    Ok(Asked::Run(command, arguments))
+}
+
+/// What stands after the command, or `None` if help is asked for.
+fn read_rest(mut words: impl Iterator<Item = OsString>) -> Result<Option<Arguments>, Failure> {
+    let mut arguments = Arguments::default();
+    let mut only_files = false;
+    while let Some(word) = words.next() {
+        let text = word.to_string_lossy();
+        match &*text {
+            _ if only_files => arguments.files.push(word.into()),
+            "--" => only_files = true,
+            "--help" | "-h" => return Ok(None),
+            "-o" | "--output" => {
+                let Some(output) = words.next() else {
+                    return Err(wrong(&format!("{text} needs a name after it")));
+                };
+                if arguments.output.replace(output.into()).is_some() {
+                    return Err(wrong("-o is there twice"));
+                }
+            }
+            option if option.starts_with('-') && option != "-" => {
+                return Err(wrong(&format!("there is no option '{option}'")));
+            }
+            _ => arguments.files.push(word.into()),
+        }
+    }
+    Ok(Some(arguments))
+}
+
+fn wrong(what: &str) -> Failure {
+    Failure::Wrong(format!("{what}; gunwaleish --help lists the commands"))
+}

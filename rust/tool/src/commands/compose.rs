@@ -1,0 +1,61 @@
+//! `compose`: a script to a trace.
+
+use gunwaleish::{write_trace, Refusal};
+
+use super::Command;
+use crate::each::{Each, Made};
+use crate::files::Input;
+use crate::script::{read_script, Script};
+
+/// A script of the longest trace has far less, even with long comments.
+const MOST_SCRIPT: usize = 1 << 24;
+
+pub const COMMAND: Command = Command {
+    name: "compose",
+    summary: "a script, one event a line, to a trace",
+    usage: "[SCRIPT...] [-o OUT]",
+    help:
+        "A script begins with the codes of AD3 to AD0 and has one event a line. Bytes are in hex,\n\
+           the count of ticks is in decimal, and # begins a comment.\n\n\
+           pins 0 0 0 1       # VSS VSS VSS VDD, which is address 71h\n\
+           command 0 03       # controller 0 opens register 3, RT\n\
+           write 0 32         # 50 ticks\n\
+           read 0\n\
+           stop 0\n\
+           pair 01 81         # both write at once\n\
+           lines 1 0 1        # SCL, SDA, INT_IN\n\
+           tick 50            # fifty of them; tick alone is one\n\
+           pulse 0\n\
+           reset\n\
+           general 0 06\n\
+           raw FF 00 00 00    # any four bytes, as they are\n\n\
+           If a line cannot be read, nothing is written.",
+    example: "target/rust/release/gunwaleish compose traces/m1.script | cmp - traces/m1.trace",
+    run: |arguments| Each { most: MOST_SCRIPT, ending: "trace", make: compose }.run(arguments),
+};
+
+pub fn compose(input: &Input) -> Made {
+    if input.bytes.len() > MOST_SCRIPT {
+        return Made::refused(format!("{}: the script is longer than 16 MiB", input.name));
+    }
+    let script = match read_script(&input.bytes) {
+        Ok(script) => script,
+        Err(unread) => return Made::refused(format!("{}, {unread}", input.name)),
+    };
+    match write_trace(script.pins, &script.events) {
+        Ok(trace) => Made::done(trace),
+        Err(refusal) => {
+            Made::refused(format!("{}{}: {refusal}", input.name, place(&script, refusal)))
+        }
+    }
+}
+
+/// The line that the library's refusal is about.
+fn place(script: &Script, refusal: Refusal) -> String {
+    let line = match refusal {
+        Refusal::NoSuchStrapping => Some(script.pins_line),
+        Refusal::TooManyEvents => script.overflow_line,
+        _ => None,
+    };
+    line.map_or(String::new(), |line| format!(", line {line}"))
+}

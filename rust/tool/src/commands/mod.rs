@@ -1,0 +1,34 @@
+//! The subcommands, a file each.
+
+pub mod compose;
+pub mod decompose;
+pub mod explain;
+pub mod list;
+pub mod picture;
+pub mod wave;
+
+use crate::arguments::Arguments;
+use crate::failure::Failure;
+
+/// A subcommand, and what the tool says of it.
+pub struct Command {
+    pub name: &'static str,
+    pub summary: &'static str,
+    pub usage: &'static str,
+    pub help: &'static str,
+    /// A command line that works at the repository's root.
+    pub example: &'static str,
+    pub run: fn(&Arguments) -> Result<(), Failure>,
+}
+
+/// What the usage of most commands says after their name.
+const TRACES: &str = "[TRACE...] [-o OUT]";
+
+pub const COMMANDS: &[Command] = &[
+    list::COMMAND,
+    explain::COMMAND,
+    compose::COMMAND,
+    decompose::COMMAND,
+    wave::COMMAND,
+    picture::COMMAND,
+];

@@ -1,0 +1,166 @@
+//! One output for each input: what most commands do.
+
+use std::collections::{HashMap, HashSet};
+use std::io::{self, IsTerminal, Write};
+use std::path::{Path, PathBuf};
+
+use gunwaleish::{Refusal, MOST_TRACE};
+
+use crate::arguments::Arguments;
+use crate::failure::Failure;
+use crate::files::{self, Input};
+
+/// What a command makes of one input. With a refusal there may be an output all the same: a
+/// listing says of a refused trace that it is refused.
+pub struct Made {
+    pub output: Option<Vec<u8>>,
+    pub refused: Option<String>,
+}
+
+impl Made {
+    pub fn done(output: impl Into<Vec<u8>>) -> Made {
+        Made { output: Some(output.into()), refused: None }
+    }
+
+    pub fn refused(why: String) -> Made {
+        Made { output: None, refused: Some(why) }
+    }
+}
+
+/// How a command goes over its inputs.
+pub struct Each {
+    /// The most bytes of an input that are of use.
+    pub most: usize,
+    /// The ending of an output's name in a folder.
+    pub ending: &'static str,
+    pub make: fn(&Input) -> Made,
+}
+
+/// For a command that makes something of a trace.
+pub fn each_trace(
+    arguments: &Arguments,
+    ending: &'static str,
+    make: fn(&Input) -> Made,
+) -> Result<(), Failure> {
+    Each { most: MOST_TRACE, ending, make }.run(arguments)
+}
+
+impl Each {
+    pub fn run(&self, arguments: &Arguments) -> Result<(), Failure> {
+        let standard = [PathBuf::from("-")];
+        let files = match arguments.files.is_empty() {
+            true => &standard[..],
+            false => &arguments.files,
+        };
+        let outputs = self.outputs(files, arguments.output.as_deref())?;
+        if let [one] = files {
+            return self.one(one, outputs[0].as_deref());
+        }
+        self.many(files, &outputs)
+    }
+
+    fn one(&self, file: &Path, output: Option<&Path>) -> Result<(), Failure> {
+        let made = (self.make)(&files::read(file, self.most)?);
+        if let Some(bytes) = made.output {
+            match output {
+                Some(path) => files::write_whole(path, &bytes)?,
+                None => files::print_bytes(&bytes)?,
+            }
+        }
+        made.refused.map_or(Ok(()), |why| Err(Failure::Refused(why)))
+    }
+
+    /// A file that fails is told, and the others go on.
+    fn many(&self, files: &[PathBuf], outputs: &[Option<PathBuf>]) -> Result<(), Failure> {
+        let terminal = io::stderr().is_terminal();
+        let mut code = 0;
+        for (place, (file, output)) in files.iter().zip(outputs).enumerate() {
+            if terminal {
+                let _ = write!(io::stderr(), "\r{} of {}", place + 1, files.len());
+            }
+            if let Err(failure) = self.one(file, output.as_deref()) {
+                if terminal {
+                    let _ = writeln!(io::stderr());
+                }
+                failure.say();
+                code = code.max(failure.code());
+            }
+        }
+        if terminal {
+            let _ = writeln!(io::stderr());
+        }
+        match code {
+            0 => Ok(()),
+            code => Err(Failure::OfMany { refused: code == 1 }),
+        }
+    }
+
+    /// Where each output goes; `None` is standard output. No output takes the place of an input,
+    /// or of another output.
+    fn outputs(
+        &self,
+        files: &[PathBuf],
+        output: Option<&Path>,
+    ) -> Result<Vec<Option<PathBuf>>, Failure> {
+        let outputs = match output {
+            Some(folder) if folder.is_dir() => {
+                files.iter().map(|file| self.in_folder(folder, file).map(Some)).collect()
+            }
+            _ if files.len() > 1 => {
+                wrong("many files need a folder for their outputs: -o FOLDER, which is there")
+            }
+            Some(path) if !files::is_standard(path) => Ok(vec![Some(path.to_path_buf())]),
+            _ => Ok(vec![None]),
+        }?;
+        let inputs: HashSet<PathBuf> =
+            files.iter().filter_map(|file| file.canonicalize().ok()).collect();
+        let mut taken: HashMap<&PathBuf, &PathBuf> = HashMap::new();
+        for (file, path) in files.iter().zip(&outputs) {
+            let Some(path) = path else { continue };
+            if let Some(other) = taken.insert(path, file) {
+                let (one, two, to) = (other.display(), file.display(), path.display());
+                return wrong(&format!("{one} and {two} would both be written to {to}"));
+            }
+            if path.canonicalize().is_ok_and(|path| inputs.contains(&path)) {
+                return wrong(&format!("{} is an input, and is not written over", path.display()));
+            }
+        }
+        Ok(outputs)
+    }
+
+    fn in_folder(&self, folder: &Path, file: &Path) -> Result<PathBuf, Failure> {
+        let stem = file.file_stem().filter(|_| !files::is_standard(file));
+        let Some(stem) = stem else {
+            return wrong(&format!("{} has no name to use in a folder", files::name_of(file)));
+        };
+        let mut name = stem.to_os_string();
+        name.push(".");
+        name.push(self.ending);
+        Ok(folder.join(name))
+    }
+}
+
+fn wrong<T>(what: &str) -> Result<T, Failure> {
+    Err(Failure::Wrong(what.to_string()))
+}
+
+/// Why a trace is refused: number, words, and the byte where it was seen.
+pub fn refused(input: &Input, refusal: Refusal) -> String {
+    format!("{}: {refusal} (seen at byte {})", input.name, seen_at(&input.bytes, refusal))
+}
+
+/// The place of the byte that is wrong, from 0; for bytes that are missing, that of the first one.
+/// The library says what is wrong, and document 01's layout where.
+pub fn seen_at(trace: &[u8], refusal: Refusal) -> usize {
+    let count = |at: usize| trace.get(at).map_or(0, |&byte| usize::from(byte));
+    match refusal {
+        Refusal::FirstCountNotFour => 0,
+        Refusal::NoSuchStrapping => {
+            let mut pins = trace.iter().skip(1).take(4);
+            1 + pins.position(|&code| code > 3).unwrap_or(0)
+        }
+        Refusal::TooManyEvents => 5,
+        Refusal::BytesAfterEnd => 7 + 4 * (count(5) + 256 * count(6)),
+        _ => trace.len(),
+    }
+}

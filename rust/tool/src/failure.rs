@@ -1,0 +1,38 @@
+//! Why the tool stops, and its exit code.
+
+use std::process::ExitCode;
+
+/// What kept a command from being done. The text is for a person.
+#[derive(Clone, Debug, PartialEq, Eq)]
+pub enum Failure {
+    /// The trace or the script is refused.
+    Refused(String),
+    /// The tool was used wrongly, or a file cannot be read or written.
+    Wrong(String),
+    /// Some of many files are refused or cannot be read. Each was told already.
+    OfMany { refused: bool },
+    /// Nobody reads the output any more.
+    Closed,
+}
+
+impl Failure {
+    /// Says it on standard error and gives the exit code.
+    pub fn tell(&self) -> ExitCode {
+        self.say();
+        ExitCode::from(self.code())
+    }
+
+    pub fn say(&self) {
+        if let Failure::Refused(text) | Failure::Wrong(text) = self {
+            crate::files::complain(text);
+        }
+    }
+
+    pub fn code(&self) -> u8 {
+        match self {
+            Failure::Closed => 0,
+            Failure::Refused(_) | Failure::OfMany { refused: true } => 1,
+            Failure::Wrong(_) | Failure::OfMany { refused: false } => 2,
+        }
+    }
+}

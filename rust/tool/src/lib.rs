@@ -1,0 +1,69 @@
+//! The tool that people run: a subcommand reads traces (or a script) and writes one thing of each.
+//!
+//! Every answer comes from the proved library. What is here is words and pictures: `story` follows
+//! a run and says what changed, `commands` has a file for each subcommand, and `arguments`, `files`
+//! and `each` are the way from the command line to the files and back.
+
+pub mod arguments;
+pub mod commands;
+pub mod each;
+pub mod failure;
+pub mod files;
+pub mod picture;
+pub mod script;
+pub mod story;
+pub mod summary;
+pub mod svg;
+pub mod words;
+
+use std::ffi::OsString;
+use std::process::ExitCode;
+
+use arguments::{read_arguments, Asked};
+use commands::{Command, COMMANDS};
+use failure::Failure;
+
+/// Runs the tool with these arguments and gives its exit code.
+pub fn main(arguments: Vec<OsString>) -> ExitCode {
+    match run(arguments) {
+        Ok(()) => ExitCode::SUCCESS,
+        Err(failure) => failure.tell(),
+    }
+}
+
+fn run(arguments: Vec<OsString>) -> Result<(), Failure> {
+    match read_arguments(arguments)? {
+        Asked::Help => files::print(&overview()),
+        Asked::Version => files::print(concat!("gunwaleish ", env!("CARGO_PKG_VERSION"), "\n")),
+        Asked::HelpFor(command) => files::print(&help(command)),
+        Asked::Run(command, arguments) => (command.run)(&arguments),
+    }
+}
+
+/// What the tool says of itself.
+pub fn overview() -> String {
+    let mut text = String::from(
+        "gunwaleish: traces of a PCA9641 bus arbiter, answered by the proved library\n\n\
+         Usage: gunwaleish COMMAND [FILE...] [-o OUT]\n\nCommands:\n",
+    );
+    for command in COMMANDS {
+        text.push_str(&format!("  {:<10} {}\n", command.name, command.summary));
+    }
+    text.push_str(
+        "\nWithout FILE, or with -, standard input is read. -o names the file to write, or a folder\n\
+         that is there; then each output has its input's name. Many files need such a folder.\n\
+         Controller 0 and controller 1 are document 01's masters 0 and 1.\n\n\
+         gunwaleish COMMAND --help tells more, with an example. --version gives the version.\n\n\
+         Exit code: 0 done; 1 a trace or a script is refused, standard error says why and where;\n\
+         2 wrong use, or a file that cannot be read or written.\n",
+    );
+    text
+}
+
+/// What the tool says of one command.
+pub fn help(command: &Command) -> String {
+    format!(
+        "gunwaleish {}: {}\n\nUsage: gunwaleish {0} {}\n\n{}\n\nExample, at the repository's root:\n\n    {}\n",
+        command.name, command.summary, command.usage, command.help, command.example
+    )
+}

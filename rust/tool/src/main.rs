@@ -1,0 +1,5 @@
+use std::process::ExitCode;
+
+fn main() -> ExitCode {
+    gunwaleish_tool::main(std::env::args_os().skip(1).collect())
+}

@@ -1,0 +1,131 @@
+//! What changed in one event.
+
+use gunwaleish::{Event, Master};
+
+use super::{Scene, Step};
+
+/// How a grant ended.
+#[derive(Clone, Copy, Debug, PartialEq, Eq)]
+pub enum GrantEnd {
+    /// Its owner wrote LOCK_REQ 0.
+    LetGo,
+    /// The device took it: the reserve had run out, or the idle timer.
+    Lost,
+    Reset,
+}
+
+/// How an initialisation ended.
+#[derive(Clone, Copy, Debug, PartialEq, Eq)]
+pub enum InitialisationEnd {
+    Succeeds,
+    Fails,
+    /// Its owner lost the bus or BUS_CONNECT.
+    IsAbandoned,
+}
+
+/// One thing that can be seen to have changed.
+#[derive(Clone, Copy, Debug, PartialEq, Eq)]
+pub enum Change {
+    GrantEnded(Master, GrantEnd),
+    /// With the RT that holds for this grant, and whether the idle timer is on.
+    Granted {
+        master: Master,
+        rt: u8,
+        idle_timer: bool,
+    },
+    BeginsToWait(Master),
+    /// It waits no more and was not granted.
+    GivesUp(Master),
+    InitialisationStarts,
+    InitialisationEnds(InitialisationEnd),
+    Disconnected(Master),
+    Connected(Master),
+    Asserted(Master),
+    Released(Master),
+    SclFalls,
+    SclRises,
+    SdaFalls,
+    SdaRises,
+    Hung,
+    HungNoMore,
+}
+
+/// What changed from the scene before to the scene after a step.
+pub fn between(before: &Scene, step: &Step) -> Vec<Change> {
+    let after = &step.scene;
+    let mut changes = vec![];
+    grants(before, step, &mut changes);
+    for master in Master::BOTH {
+        let m = master as usize;
+        match (before.waits[m], after.waits[m]) {
+            (false, true) => changes.push(Change::BeginsToWait(master)),
+            (true, false) if after.owner != Some(master) => changes.push(Change::GivesUp(master)),
+            _ => {}
+        }
+    }
+    // When the bus passes on in one step, one initialisation may end and the next one start.
+    let passes_on = before.owner != after.owner;
+    if before.initialising && (passes_on || !after.initialising) {
+        changes.push(Change::InitialisationEnds(how_it_went(step.event)));
+    }
+    if after.initialising && (passes_on || !before.initialising) {
+        changes.push(Change::InitialisationStarts);
+    }
+    let mut note = |was: bool, is: bool, rises: Change, falls: Change| {
+        if was != is {
+            changes.push(if is { rises } else { falls });
+        }
+    };
+    for master in Master::BOTH {
+        let at = |scene: &Scene| scene.connected == Some(master);
+        let (closes, opens) = (Change::Connected(master), Change::Disconnected(master));
+        note(at(before), at(after), closes, opens);
+    }
+    for master in Master::BOTH {
+        let at = |scene: &Scene| scene.asserted[master as usize];
+        note(at(before), at(after), Change::Asserted(master), Change::Released(master));
+    }
+    note(before.scl, after.scl, Change::SclRises, Change::SclFalls);
+    note(before.sda, after.sda, Change::SdaRises, Change::SdaFalls);
+    note(before.hung, after.hung, Change::Hung, Change::HungNoMore);
+    changes
+}
+
+fn grants(before: &Scene, step: &Step, changes: &mut Vec<Change>) {
+    let after = &step.scene;
+    if before.owner == after.owner {
+        return;
+    }
+    if let Some(master) = before.owner {
+        changes.push(Change::GrantEnded(master, how_it_ended(step, master)));
+    }
+    if let Some(master) = after.owner {
+        let written = &step.after[master as usize];
+        let (rt, idle_timer) = (written.rt, written.idle_timer);
+        changes.push(Change::Granted { master, rt, idle_timer });
+    }
+}
+
+/// An owner lets go by a byte with LOCK_REQ 0 at register 1 (CONTR).
+fn how_it_ended(step: &Step, master: Master) -> GrantEnd {
+    let byte = match step.event {
+        Event::Write { master: writer, value } if writer == master => Some(value),
+        Event::Pair { value0, value1 } => Some([value0, value1][master as usize]),
+        _ => None,
+    };
+    let at_contr = step.before[master as usize].pointer == 1;
+    match byte {
+        Some(value) if at_contr && value & 0x01 == 0 => GrantEnd::LetGo,
+        _ if step.is_reset() => GrantEnd::Reset,
+        _ => GrantEnd::Lost,
+    }
+}
+
+/// Only a clock brings an initialisation to its own end.
+fn how_it_went(event: Event) -> InitialisationEnd {
+    match event {
+        Event::Pulse { sda: true } => InitialisationEnd::Succeeds,
+        Event::Pulse { sda: false } => InitialisationEnd::Fails,
+        _ => InitialisationEnd::IsAbandoned,
+    }
+}

@@ -1,0 +1,132 @@
+//! A run, followed event by event: what can be seen of the device, and what changed.
+//!
+//! Owner, switch, outputs and lines stand in the library's answers. Two things do not: who waits,
+//! which `written` derives from what was written and answered, and whether the bus is hung, which
+//! `hung` asks the library.
+
+mod changes;
+mod hung;
+mod written;
+
+pub use changes::{Change, GrantEnd, InitialisationEnd};
+pub use written::Written;
+
+use gunwaleish::{Answer, Event, Master, Pins, Refusal};
+
+/// What can be seen of the device at one moment. A pair has master 0's first.
+#[derive(Clone, Copy, Debug, PartialEq, Eq)]
+pub struct Scene {
+    pub owner: Option<Master>,
+    pub connected: Option<Master>,
+    pub initialising: bool,
+    pub asserted: [bool; 2],
+    pub scl: bool,
+    pub sda: bool,
+    /// A request stands and is not granted.
+    pub waits: [bool; 2],
+    pub hung: bool,
+}
+
+/// A device after power-up.
+const POWER_UP: Scene = Scene {
+    owner: None,
+    connected: None,
+    initialising: false,
+    asserted: [false; 2],
+    scl: true,
+    sda: true,
+    waits: [false; 2],
+    hung: false,
+};
+
+/// One event of a run.
+#[derive(Clone, Debug, PartialEq, Eq)]
+pub struct Step {
+    /// Its place in the trace, from 1.
+    pub number: usize,
+    /// The ticks that have passed, this one included.
+    pub tick: usize,
+    pub event: Event,
+    pub answer: Answer,
+    /// What each master had written before this event, and after it.
+    pub before: [Written; 2],
+    pub after: [Written; 2],
+    /// What can be seen after it.
+    pub scene: Scene,
+    /// What changed in it.
+    pub changes: Vec<Change>,
+}
+
+/// A whole run.
+#[derive(Clone, Debug, PartialEq, Eq)]
+pub struct Story {
+    pub address: u8,
+    pub pins: Pins,
+    pub steps: Vec<Step>,
+}
+
+impl Step {
+    pub fn is_quiet_tick(&self) -> bool {
+        self.event == Event::Tick && self.changes.is_empty()
+    }
+
+    /// True if this event was a reset: of the pin, or a general call that was taken as one.
+    pub fn is_reset(&self) -> bool {
+        written::is_reset(self.event, self.answer)
+    }
+}
+
+impl Story {
+    pub fn ticks(&self) -> usize {
+        self.steps.last().map_or(0, |step| step.tick)
+    }
+
+    /// The ticks that have passed at the step of this place, or at the end.
+    pub fn tick_at(&self, place: usize) -> usize {
+        self.steps.get(place).map_or(self.ticks(), |step| step.tick)
+    }
+}
+
+/// Runs a trace and follows it.
+pub fn follow(trace: &[u8]) -> Result<Story, Refusal> {
+    let run = gunwaleish::run(trace)?;
+    let hung = hung::flags(&run);
+    let mut written = [Written::default(); 2];
+    let mut scene = POWER_UP;
+    let mut tick = 0;
+    let mut steps = Vec::with_capacity(run.events.len());
+    for (place, (&event, &answer)) in run.events.iter().zip(&run.answers).enumerate() {
+        tick += usize::from(event == Event::Tick);
+        let before = written;
+        written::take(&mut written, event, answer, scene.owner);
+        let now = scene_after(answer, &written, hung[place]);
+        let mut step = Step {
+            number: place + 1,
+            tick,
+            event,
+            answer,
+            before,
+            after: written,
+            scene: now,
+            changes: vec![],
+        };
+        step.changes = changes::between(&scene, &step);
+        steps.push(step);
+        scene = now;
+    }
+    Ok(Story { address: run.address, pins: run.pins, steps })
+}
+
+fn scene_after(answer: Answer, written: &[Written; 2], hung: bool) -> Scene {
+    let waits = |m: Master| written[m as usize].requests && answer.owner != Some(m);
+    Scene {
+        owner: answer.owner,
+        connected: answer.connected,
+        initialising: answer.initialising,
+        asserted: [answer.int0, answer.int1],
+        scl: answer.scl,
+        sda: answer.sda,
+        waits: Master::BOTH.map(waits),
+        hung,
+    }
+}

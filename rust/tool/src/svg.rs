@@ -1,0 +1,97 @@
+//! The few shapes of SVG that the picture needs.
+
+use std::fmt::Write;
+
+/// A picture that grows. Later shapes lie over earlier ones.
+#[derive(Default)]
+pub struct Drawing {
+    shapes: String,
+}
+
+impl Drawing {
+    /// A box. `class` names its look in the style sheet, and `tip` is shown under the pointer.
+    pub fn rect(&mut self, class: &str, [x, y, width, height]: [f64; 4], tip: &str) {
+        let _ = write!(
+            self.shapes,
+            "<rect class=\"{class}\" x=\"{x:.1}\" y=\"{y:.1}\" width=\"{:.1}\" height=\"{height:.1}\"",
+            width.max(0.0)
+        );
+        self.close("rect", &title(tip));
+    }
+
+    pub fn line(&mut self, class: &str, from: [f64; 2], to: [f64; 2]) {
+        let _ = writeln!(
+            self.shapes,
+            "<line class=\"{class}\" x1=\"{:.1}\" y1=\"{:.1}\" x2=\"{:.1}\" y2=\"{:.1}\"/>",
+            from[0], from[1], to[0], to[1]
+        );
+    }
+
+    /// A line through these points.
+    pub fn path(&mut self, class: &str, points: &[[f64; 2]]) {
+        let mut path = String::new();
+        for (place, [x, y]) in points.iter().enumerate() {
+            let _ = write!(path, "{}{x:.1} {y:.1}", if place == 0 { "M" } else { " L" });
+        }
+        let _ = writeln!(self.shapes, "<path class=\"{class}\" d=\"{path}\"/>");
+    }
+
+    pub fn text(&mut self, class: &str, [x, y]: [f64; 2], words: &str) {
+        let _ = write!(self.shapes, "<text class=\"{class}\" x=\"{x:.1}\" y=\"{y:.1}\"");
+        self.close("text", &escaped(words));
+    }
+
+    /// Text that reads upwards from its point.
+    pub fn upward_text(&mut self, class: &str, [x, y]: [f64; 2], words: &str, tip: &str) {
+        let _ = write!(
+            self.shapes,
+            "<text class=\"{class}\" transform=\"translate({x:.1} {y:.1}) rotate(-90)\""
+        );
+        self.close("text", &(title(tip) + &escaped(words)));
+    }
+
+    /// A small cross, for what is refused.
+    pub fn cross(&mut self, class: &str, [x, y]: [f64; 2], size: f64) {
+        self.line(class, [x - size, y - size], [x + size, y + size]);
+        self.line(class, [x - size, y + size], [x + size, y - size]);
+    }
+
+    fn close(&mut self, element: &str, inside: &str) {
+        let _ = match inside.is_empty() {
+            true => writeln!(self.shapes, "/>"),
+            false => writeln!(self.shapes, ">{inside}</{element}>"),
+        };
+    }
+
+    /// The whole file.
+    pub fn finish(self, width: f64, height: f64, style: &str) -> String {
+        format!(
+            "<svg xmlns=\"http://www.w3.org/2000/svg\" width=\"{width:.0}\" height=\"{height:.0}\" \
+             viewBox=\"0 0 {width:.0} {height:.0}\">\n{style}{}</svg>\n",
+            self.shapes
+        )
+    }
+}
+
+fn title(tip: &str) -> String {
+    match tip.is_empty() {
+        true => String::new(),
+        false => format!("<title>{}</title>", escaped(tip)),
+    }
+}
+
+/// Text as it may stand in a file of XML, where control characters may not.
+pub fn escaped(words: &str) -> String {
+    let mut text = String::new();
+    for letter in words.chars() {
+        match letter {
+            '&' => text.push_str("&amp;"),
+            '<' => text.push_str("&lt;"),
+            '>' => text.push_str("&gt;"),
+            '"' => text.push_str("&quot;"),
+            letter if letter.is_control() => text.push('?'),
+            letter => text.push(letter),
+        }
+    }
+    text
+}

@@ -1,0 +1,181 @@
+//! The tool as people call it: exit codes, files in and out, and the help.
+
+use std::fs;
+use std::path::{Path, PathBuf};
+use std::process::{Command, Output};
+
+use gunwaleish_tool::commands::COMMANDS;
+
+const TOOL: &str = env!("CARGO_BIN_EXE_gunwaleish");
+
+fn root() -> PathBuf {
+    Path::new(env!("CARGO_MANIFEST_DIR")).join("../..")
+}
+
+/// Runs the tool at the repository's root.
+fn run(arguments: &[&str]) -> Output {
+    Command::new(TOOL).args(arguments).current_dir(root()).output().unwrap()
+}
+
+fn code(output: &Output) -> i32 {
+    output.status.code().unwrap()
+}
+
+fn said(output: &Output) -> String {
+    String::from_utf8(output.stderr.clone()).unwrap()
+}
+
+/// A folder of a test's own, taken away when the test is over.
+struct Folder(PathBuf);
+
+impl Folder {
+    fn new(name: &str) -> Folder {
+        let path = std::env::temp_dir().join(format!("gunwaleish-{name}-{}", std::process::id()));
+        fs::create_dir_all(&path).unwrap();
+        Folder(path)
+    }
+
+    fn path(&self, name: &str) -> String {
+        self.0.join(name).to_str().unwrap().to_string()
+    }
+
+    fn files(&self) -> Vec<String> {
+        let entries = fs::read_dir(&self.0).unwrap();
+        let mut names: Vec<String> =
+            entries.map(|entry| entry.unwrap().file_name().into_string().unwrap()).collect();
+        names.sort();
+        names
+    }
+}
+
+impl Drop for Folder {
+    fn drop(&mut self) {
+        let _ = fs::remove_dir_all(&self.0);
+    }
+}
+
+#[test]
+fn done_is_0() {
+    let listed = run(&["list", "traces/m1.trace"]);
+    assert_eq!(code(&listed), 0);
+    assert_eq!(listed.stdout, fs::read(root().join("traces/m1.listing")).unwrap());
+    assert_eq!(said(&listed), "");
+    assert_eq!(run(&["--version"]).stdout, b"gunwaleish 0.1.0\n");
+}
+
+#[test]
+fn refused_is_1_with_number_words_and_place() {
+    let explained = run(&["explain", "traces/refused-cut.trace"]);
+    assert_eq!((code(&explained), explained.stdout.len()), (1, 0));
+    let expected =
+        "gunwaleish: traces/refused-cut.trace: refusal 5: cut: bytes are missing at the \
+                    end (seen at byte 22)\n";
+    assert_eq!(said(&explained), expected);
+    let listed = run(&["list", "traces/refused-strap.trace"]);
+    assert_eq!((code(&listed), listed.stdout.as_slice()), (1, &b"R8\n"[..]));
+}
+
+#[test]
+fn wrong_use_is_2() {
+    let cases: [&[&str]; 9] = [
+        &[],
+        &["sing"],
+        &["list", "--loud"],
+        &["list", "-o"],
+        &["list", "-o", "a", "-o", "b"],
+        &["list", "no-such.trace"],
+        &["list", "traces/m1.trace", "traces/pair.trace"],
+        &["list", "traces/m1.trace", "-o", "no-such-folder/m1.listing"],
+        &["list", "traces/m1.trace", "-o", "traces/m1.trace"],
+    ];
+    for arguments in cases {
+        let output = run(arguments);
+        assert_eq!((code(&output), output.stdout.len()), (2, 0), "{arguments:?}");
+        assert!(said(&output).starts_with("gunwaleish: "), "{arguments:?}");
+    }
+}
+
+/// The help of each command, and its example, which works.
+#[test]
+fn examples_of_the_help_work() {
+    let overview = String::from_utf8(run(&["--help"]).stdout).unwrap();
+    for command in COMMANDS {
+        assert!(overview.contains(&format!("\n  {} ", command.name)));
+        let help = run(&[command.name, "--help"]);
+        let text = String::from_utf8(help.stdout.clone()).unwrap();
+        assert_eq!(code(&help), 0);
+        assert!(text.contains(command.example));
+        let folder = Folder::new(command.name);
+        let line = command.example.replace("/tmp", folder.0.to_str().unwrap());
+        let line = line.replace("target/rust/release/gunwaleish", TOOL);
+        let ran = Command::new("sh").args(["-c", &line]).current_dir(root()).output().unwrap();
+        assert_eq!(code(&ran), 0, "{line}: {}", said(&ran));
+    }
+}
+
+#[test]
+fn standard_input_and_a_named_output() {
+    let folder = Folder::new("output");
+    let out = folder.path("m1.listing");
+    fs::write(&out, "old").unwrap();
+    let trace = fs::File::open(root().join("traces/m1.trace")).unwrap();
+    let status = Command::new(TOOL).args(["list", "-", "-o", &out]).stdin(trace).status().unwrap();
+    assert!(status.success());
+    assert_eq!(fs::read(&out).unwrap(), fs::read(root().join("traces/m1.listing")).unwrap());
+    assert_eq!(folder.files(), ["m1.listing"]);
+}
+
+/// A device is written to and stays a device; a link stays a link.
+#[cfg(unix)]
+#[test]
+fn devices_and_links_stay_what_they_are() {
+    assert_eq!(code(&run(&["list", "traces/m1.trace", "-o", "/dev/null"])), 0);
+    assert!(!fs::metadata("/dev/null").unwrap().is_file());
+    let folder = Folder::new("link");
+    fs::write(folder.path("to"), "old").unwrap();
+    std::os::unix::fs::symlink(folder.path("to"), folder.path("from")).unwrap();
+    assert_eq!(code(&run(&["list", "traces/m1.trace", "-o", &folder.path("from")])), 0);
+    assert!(fs::symlink_metadata(folder.path("from")).unwrap().is_symlink());
+    let listing = fs::read(root().join("traces/m1.listing")).unwrap();
+    assert_eq!(fs::read(folder.path("to")).unwrap(), listing);
+}
+
+/// What is refused leaves the file that was there, and nothing beside it.
+#[test]
+fn nothing_is_written_of_what_is_refused() {
+    let folder = Folder::new("refused");
+    let (script, out) = (folder.path("a.script"), folder.path("a.trace"));
+    fs::write(&script, "pins 0 0 0 0\ntick\nwirte 0 01\n").unwrap();
+    fs::write(&out, "old").unwrap();
+    let composed = run(&["compose", &script, "-o", &out]);
+    assert_eq!(code(&composed), 1);
+    assert!(said(&composed).contains(&format!("{script}, line 3: 'wirte', expected command")));
+    assert_eq!(fs::read(&out).unwrap(), b"old");
+    assert_eq!(folder.files(), ["a.script", "a.trace"]);
+}
+
+/// Many files go into a folder; one that is refused does not stop the others.
+#[test]
+fn many_files_go_into_a_folder() {
+    let folder = Folder::new("many");
+    let to = folder.0.to_str().unwrap();
+    let from = ["traces/pair.trace", "traces/refused-cut.trace", "traces/m1.trace"];
+    let drawn = run(&[&["picture"], &from[..], &["-o", to]].concat());
+    assert_eq!(code(&drawn), 1);
+    assert_eq!(said(&drawn).lines().count(), 1, "no progress where there is no terminal");
+    assert_eq!(folder.files(), ["m1.svg", "pair.svg"]);
+    let twice = run(&["list", "traces/m1.trace", "./traces/m1.trace", "-o", to]);
+    assert_eq!(code(&twice), 2);
+    let missing = run(&["list", "traces/m1.trace", "no-such.trace", "-o", to]);
+    assert_eq!(code(&missing), 2);
+    assert_eq!(folder.files(), ["m1.listing", "m1.svg", "pair.svg"]);
+}
+
+#[test]
+fn a_file_that_begins_with_a_dash() {
+    let folder = Folder::new("dash");
+    fs::copy(root().join("traces/m1.trace"), folder.path("-m1.trace")).unwrap();
+    let listed =
+        Command::new(TOOL).args(["list", "--", "-m1.trace"]).current_dir(&folder.0).output();
+    assert_eq!(code(&listed.unwrap()), 0);
+}

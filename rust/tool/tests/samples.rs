@@ -1,0 +1,111 @@
+//! The sample traces: each has its script and its listing beside it, and the pictures are of them.
+
+use std::collections::BTreeSet;
+use std::fs;
+use std::path::{Path, PathBuf};
+
+use gunwaleish_tool::commands::{compose, decompose, explain, list, picture};
+use gunwaleish_tool::each::Made;
+use gunwaleish_tool::files::Input;
+
+/// A file of the repository.
+fn file(path: &str) -> PathBuf {
+    Path::new(env!("CARGO_MANIFEST_DIR")).join("../..").join(path)
+}
+
+fn input(path: &str) -> Input {
+    Input { name: path.to_string(), bytes: fs::read(file(path)).unwrap() }
+}
+
+fn output(made: Made) -> Vec<u8> {
+    assert_eq!(made.refused, None);
+    made.output.unwrap()
+}
+
+/// The files of `traces/` with this ending, without it.
+fn names(ending: &str) -> BTreeSet<String> {
+    let entries = fs::read_dir(file("traces")).unwrap();
+    let paths = entries.map(|entry| entry.unwrap().path());
+    let with_ending = paths.filter(|path| path.extension().is_some_and(|found| found == ending));
+    with_ending.map(|path| path.file_stem().unwrap().to_str().unwrap().to_string()).collect()
+}
+
+#[test]
+fn each_script_gives_its_trace() {
+    for name in names("script") {
+        let trace = output(compose::compose(&input(&format!("traces/{name}.script"))));
+        assert!(
+            trace == input(&format!("traces/{name}.trace")).bytes,
+            "{name}: gunwaleish compose traces/{name}.script -o traces/{name}.trace"
+        );
+    }
+}
+
+/// The two that are refused come out of others, since no script gives a refused trace.
+#[test]
+fn refused_samples_come_out_of_others() {
+    let m1 = input("traces/m1.trace").bytes;
+    assert_eq!(input("traces/refused-cut.trace").bytes, m1[..22]);
+    let script = Input { name: String::new(), bytes: b"pins 0 0 0 0\ntick\n".to_vec() };
+    let mut strap = output(compose::compose(&script));
+    strap[1] = 1;
+    assert_eq!(input("traces/refused-strap.trace").bytes, strap);
+    let refused = ["refused-cut", "refused-strap"].map(String::from);
+    let composed: BTreeSet<String> = names("script").into_iter().chain(refused).collect();
+    assert_eq!(names("trace"), composed);
+}
+
+#[test]
+fn each_listing_is_the_models_and_the_tools() {
+    assert_eq!(names("trace"), names("listing"));
+    let readme = String::from_utf8(input("traces/README.md").bytes).unwrap();
+    for name in names("trace") {
+        let trace = input(&format!("traces/{name}.trace"));
+        let text = input(&format!("traces/{name}.listing")).bytes;
+        assert!(text == model::listing(&trace.bytes).as_bytes(), "{name}.listing");
+        assert!(list::list(&trace).output.unwrap() == text, "{name}");
+        assert!(readme.contains(&format!("| `{name}.trace` | ")), "traces/README.md: {name}");
+    }
+}
+
+#[test]
+fn composing_what_was_decomposed_gives_the_sample_again() {
+    for name in names("script") {
+        let trace = input(&format!("traces/{name}.trace"));
+        let script = output(decompose::decompose(&trace));
+        let again = compose::compose(&Input { name: name.clone(), bytes: script });
+        assert!(output(again) == trace.bytes, "{name}");
+    }
+}
+
+/// Box 14 in words: never granted with RT 00h, and granted at the 50th tick with RT 50.
+#[test]
+fn box_14_is_told_in_words() {
+    let told = |name| {
+        String::from_utf8(output(explain::explain(&input(&format!("traces/{name}.trace")))))
+            .unwrap()
+    };
+    let empty = told("box14-rt00");
+    let last = empty.lines().last().unwrap();
+    assert!(last.starts_with("controller 1 waited 300 ticks and was never granted"), "{last}");
+    assert!(last.contains("RT 00h, which holds until let go"), "{last}");
+    assert!(empty.contains("ticks 1 to 300: nothing changes"));
+    let filled = told("box14-rt50");
+    assert!(
+        filled.contains("longest wait 49 ticks from event 13, then granted at event 64, tick 50")
+    );
+    assert!(filled.contains("controller 0 loses the bus; controller 1 is granted the bus"));
+    assert!(!filled.contains("never granted"));
+}
+
+#[test]
+fn the_pictures_are_those_of_the_samples() {
+    for name in ["box14-rt00", "box14-rt50"] {
+        let drawn = output(picture::picture(&input(&format!("traces/{name}.trace"))));
+        let path = format!("docs/pictures/{name}.svg");
+        assert!(
+            fs::read(file(&path)).is_ok_and(|stored| stored == drawn),
+            "{path}: gunwaleish picture traces/{name}.trace -o {path}"
+        );
+    }
+}
