@@ -15,7 +15,7 @@
 //! - `trace`: whole traces and the listing ("Answers and the trace").
 //! - `writer`: a trace out of pins and events (document 02, #101).
 //! - `rng`, `phrases`, `traces`, `damage`, `happenings`, `kinds`: random cases for the tests.
-//! - `samples`, `stored`: the traces that the repository keeps as files.
+//! - `stored`: the traces that the repository keeps as one set.
 
 pub mod bytes;
 pub mod damage;
@@ -25,7 +25,6 @@ pub mod happenings;
 pub mod kinds;
 pub mod phrases;
 pub mod rng;
-pub mod samples;
 pub mod step;
 pub mod stored;
 pub mod straps;

@@ -6,16 +6,27 @@
 
 use crate::damage::{damage, Damage, ALL_DAMAGES};
 use crate::rng::Rng;
-use crate::samples::samples;
 use crate::trace::{listing, MOST_EVENTS};
 use crate::traces::{seed_of, trace, trace_of};
 
 /// The run that all seeds here belong to.
 const RUN: u64 = 14;
 
+/// The sample traces of the folder `traces/`. They stand first in the set.
+const SAMPLES: [&[u8]; 8] = [
+    include_bytes!("../../../traces/m1.trace"),
+    include_bytes!("../../../traces/box14-rt00.trace"),
+    include_bytes!("../../../traces/box14-rt50.trace"),
+    include_bytes!("../../../traces/hung-bus.trace"),
+    include_bytes!("../../../traces/mail.trace"),
+    include_bytes!("../../../traces/pair.trace"),
+    include_bytes!("../../../traces/refused-cut.trace"),
+    include_bytes!("../../../traces/refused-strap.trace"),
+];
+
 pub fn stored_traces() -> Vec<Vec<u8>> {
     let mut all = vec![vec![]];
-    all.extend(samples().into_iter().map(|sample| sample.trace));
+    all.extend(SAMPLES.map(|sample| sample.to_vec()));
     all.extend((0..3).map(|place| trace(seed_of(RUN, place), 0)));
     all.extend((0..120).map(short));
     // A bus hangs only in the long ones.

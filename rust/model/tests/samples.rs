@@ -1,23 +1,22 @@
-//! The sample traces: the files are those of the list, and they show what they say.
+//! The sample traces: they show what they say, and the listings beside them are the model's.
 
 use std::fs;
 use std::path::{Path, PathBuf};
 
-use model::samples::{samples, Sample};
 use model::{listing, run_trace};
 
-/// A file of the repository.
-fn file(path: &str) -> PathBuf {
-    Path::new(env!("CARGO_MANIFEST_DIR")).join("../..").join(path)
+/// The folder of the samples.
+fn folder() -> PathBuf {
+    Path::new(env!("CARGO_MANIFEST_DIR")).join("../../traces")
 }
 
-fn sample(name: &str) -> Sample {
-    samples().into_iter().find(|sample| sample.name == name).expect(name)
+fn sample(name: &str) -> Vec<u8> {
+    fs::read(folder().join(format!("{name}.trace"))).expect(name)
 }
 
 /// The events and answers of an accepted sample.
 fn run(name: &str) -> Vec<([u8; 4], [u8; 4])> {
-    let trace = sample(name).trace;
+    let trace = sample(name);
     let events = &trace[7..];
     let mut answers = vec![0; events.len()];
     let result = run_trace(&trace, &mut answers);
@@ -39,18 +38,15 @@ fn bytes_read(name: &str) -> Vec<u8> {
 }
 
 #[test]
-fn files_are_those_of_the_list() {
-    let readme = fs::read_to_string(file("traces/README.md")).unwrap();
-    for sample in samples() {
-        let trace = fs::read(file(&format!("traces/{}.trace", sample.name))).unwrap();
-        assert!(trace == sample.trace, "{}.trace: run the bin samples", sample.name);
-        let text = fs::read_to_string(file(&format!("traces/{}.listing", sample.name))).unwrap();
-        assert!(text == listing(&trace), "{}.listing: run the bin samples", sample.name);
-        let line = format!("| `{}.trace` | {} |", sample.name, sample.shows);
-        assert!(readme.contains(&line), "traces/README.md lacks: {line}");
+fn listings_are_those_of_the_traces() {
+    let mut files: Vec<PathBuf> =
+        fs::read_dir(folder()).unwrap().map(|entry| entry.unwrap().path()).collect();
+    files.retain(|path| path.extension().is_some_and(|kind| kind == "trace"));
+    assert!(files.len() >= 8, "{} samples", files.len());
+    for path in files {
+        let text = fs::read_to_string(path.with_extension("listing")).unwrap();
+        assert!(text == listing(&fs::read(&path).unwrap()), "the listing of {}", path.display());
     }
-    let files = fs::read_dir(file("traces")).unwrap().count();
-    assert_eq!(files, 2 * samples().len() + 1, "a file that no sample has");
 }
 
 #[test]
@@ -64,7 +60,7 @@ fn box_14_filled_gives_the_partner_its_turn() {
     let owners = owners_by_tick("box14-rt50");
     assert_eq!(owners[..49], [1; 49]);
     assert_eq!(owners[49..99], [2; 50]);
-    let (empty, filled) = (sample("box14-rt00").trace, sample("box14-rt50").trace);
+    let (empty, filled) = (sample("box14-rt00"), sample("box14-rt50"));
     let differing = empty.iter().zip(&filled).filter(|(a, b)| a != b).count();
     assert_eq!((differing, empty.len()), (1, filled.len()));
 }
@@ -93,6 +89,6 @@ fn pair_has_each_win_once() {
 
 #[test]
 fn refused_samples() {
-    assert_eq!(listing(&sample("refused-cut").trace), "R5\n");
-    assert_eq!(listing(&sample("refused-strap").trace), "R8\n");
+    assert_eq!(listing(&sample("refused-cut")), "R5\n");
+    assert_eq!(listing(&sample("refused-strap")), "R8\n");
 }
