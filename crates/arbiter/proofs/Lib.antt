@@ -19,4 +19,7 @@ pub mod Timer
 pub mod IdleCount
 pub mod Marks
 pub mod Witnesses
+pub mod LowCounts
+pub mod Hung
+pub mod HungRows
 pub mod Once

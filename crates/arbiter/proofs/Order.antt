@@ -38,7 +38,7 @@ alike One s d e = ap (λ x. (kept (d .side0), x, d .bus, d .arb .reserve, d .arb
 
 -- ---- part 4 clears BUS_CONNECT at most
 
-cut-still : (tick : Bool) (t : Turn) (d : Device) → still (cutFrom tick t d) ≡ still d
+pub cut-still : (tick : Bool) (t : Turn) (d : Device) → still (cutFrom tick t d) ≡ still d
 unfolding cutFrom
 cut-still tick Nobody d = refl
 cut-still tick (Claims m) d = refl
@@ -46,7 +46,7 @@ cut-still tick (Owns m) d = cut-cases (λ (n : Device). still n ≡ still d) tic
 
 -- ---- part 7 changes the switch, BUS_INIT, BUS_CONNECT and BUS_INIT_FAIL at most
 
-connect-still : (c : Clock) (d : Device) → still (connect c d) ≡ still d
+pub connect-still : (c : Clock) (d : Device) → still (connect c d) ≡ still d
 connect-still c d = connect-cases (λ (n : Device). still n ≡ still d) d (λ w fail. refl) (λ m on w fail h. alike m _ d refl) c
 
 -- ---- part 6

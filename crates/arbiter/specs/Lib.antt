@@ -15,3 +15,5 @@ pub mod Traces
 pub mod Listing
 pub mod Marks
 pub mod Witnesses
+pub mod Hung
+pub mod HungRows

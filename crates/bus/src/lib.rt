@@ -6,7 +6,7 @@ ghost use Rattle.arbiter.specs.Parts.{withIdle};
 ghost use Rattle.arbiter.specs.State.{sclHigh, sdaHigh, isIdle, busHung};
 ghost use Rattle.arbiter.specs.Registers.{released};
 ghost use Rattle.arbiter.specs.Effects.{outside, tickedBus, freshBus};
-ghost use Rattle.arbiter.specs.Order.{busyAfter, settledBus};
+ghost use Rattle.arbiter.specs.Order.{busyAfter, sclChanged, settledBus};
 use arbiter::Bus;
 use bits::counted_u8;
 use bits::counted_u16;
@@ -35,7 +35,7 @@ pub fn is_idle(b: Bus) -> bool
 pub fn bus_hung(b: Bus) -> bool
     ensures { λ r. ⌜ r ≡ busHung b ⌝ }
 {
-    (b.lowscl == 500) | (b.lowsda == 500)
+    (b.lowscl == 500) | (b.lowsda == 501)
 }
 
 // New outside levels.
@@ -73,7 +73,7 @@ pub fn ticked_bus(b: Bus) -> Bus
         hold: less_one(b.hold),
         idle: counted_u8(101, idle, b.idle),
         lowscl: counted_u16(500, !scl, b.lowscl),
-        lowsda: counted_u16(500, !sda, b.lowsda),
+        lowsda: counted_u16(501, !sda, b.lowsda),
     }
 }
 
@@ -89,10 +89,11 @@ fn busy_after(before: Bus, b: Bus) -> bool
 // Part 2: the levels after an event, with the bus as it was before it. A reset asks for no care: it clears busy by itself, and can only
 // let SDA rise.
 pub fn settled_bus(before: Bus, b: Bus) -> Bus
-    ensures { λ r. ⌜ r ≡ settledBus (busyAfter false before b) b ⌝ }
+    ensures { λ r. ⌜ r ≡ settledBus (busyAfter false before b) (sclChanged before b) b ⌝ }
 {
     let scl = scl_high(b);
     let sda = sda_high(b);
+    let was = scl_high(before);
     let busy = busy_after(before, b);
     Bus {
         outscl: b.outscl,
@@ -104,7 +105,7 @@ pub fn settled_bus(before: Bus, b: Bus) -> Bus
         hold: b.hold,
         idle: pick_u8(!busy & scl & sda, b.idle, 0),
         lowscl: pick_u16(scl, 0, b.lowscl),
-        lowsda: pick_u16(sda, 0, b.lowsda),
+        lowsda: pick_u16(sda | (was & !scl | !was & scl), 0, b.lowsda),
     }
 }
 
