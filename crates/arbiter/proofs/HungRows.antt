@@ -8,23 +8,24 @@ use Rattle.arbiter.specs.Effects.{commanded, written, paired, wasRead, l
 use Rattle.arbiter.specs.Order.{levels, lost, lossesFrom, losses, cutFrom, cut, winner, claim, granted, grantFrom, grant, joined, clocked, keptJoined, connectFrom, connect}
 use Rattle.arbiter.specs.Steps.{parts, ownerByte, linesByte, byteRead, refused, taken, stepEvent, stepDecoded, step, runFrom, run}
 use Rattle.arbiter.specs.AuditWords.{throughout}
-use Rattle.arbiter.specs.HungRows.{longRows, changedRows, shownRows, RowsHold, HungRowsHold, SlowClockNeverHung}
+use Rattle.arbiter.specs.Marks.{AsThePaper}
+use Rattle.arbiter.specs.HungRows.{longRows, changedRows, shownRows, HungRowsHold, SlowClockNeverHung}
 
-long-rows-hold : RowsHold longRows
+long-rows-hold : AsThePaper longRows
 unfolding byteOf contrByte statusByte registerByte isAsserted ownWritten mailWritten drivesWritten turnWritten
     decode inSequence acknowledged outcome commanded written paired wasRead lined ticked freshSide wasReset powerUp effect
     levels lost lossesFrom losses cutFrom cut winner claim granted grantFrom grant joined clocked keptJoined connectFrom connect
     parts ownerByte linesByte byteRead refused taken stepEvent stepDecoded step runFrom run longRows
 long-rows-hold = refl
 
-changed-rows-hold : RowsHold changedRows
+changed-rows-hold : AsThePaper changedRows
 unfolding byteOf contrByte statusByte registerByte isAsserted ownWritten mailWritten drivesWritten turnWritten
     decode inSequence acknowledged outcome commanded written paired wasRead lined ticked freshSide wasReset powerUp effect
     levels lost lossesFrom losses cutFrom cut winner claim granted grantFrom grant joined clocked keptJoined connectFrom connect
     parts ownerByte linesByte byteRead refused taken stepEvent stepDecoded step runFrom run changedRows
 changed-rows-hold = refl
 
-shown-rows-hold : RowsHold shownRows
+shown-rows-hold : AsThePaper shownRows
 unfolding byteOf contrByte statusByte registerByte isAsserted ownWritten mailWritten drivesWritten turnWritten
     decode inSequence acknowledged outcome commanded written paired wasRead lined ticked freshSide wasReset powerUp effect
     levels lost lossesFrom losses cutFrom cut winner claim granted grantFrom grant joined clocked keptJoined connectFrom connect

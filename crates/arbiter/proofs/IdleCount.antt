@@ -17,11 +17,11 @@ use Rattle.arbiter.specs.Audit.{IdleTimerEnds}
 use Rattle.arbiter.proofs.Choice.{either, if-true, turn-owns}
 use Rattle.arbiter.proofs.Runs.{never-comes, now, hence}
 use Rattle.arbiter.proofs.Effects.{counts, effect-counts}
-use Rattle.arbiter.proofs.Owner.{mid, expired}
+use Rattle.arbiter.proofs.Owner.{mid, expired, over-unowned}
 use Rattle.arbiter.proofs.Raws.{Takes, refuses, takes, met, taken-tick, tick-no-reset}
 use Rattle.arbiter.proofs.Tenure.{Owner, keeps, over, lot, taken-fresh, rt-found}
 use Rattle.arbiter.proofs.Reserve.{rt-kept}
-use Rattle.arbiter.proofs.Timer.{expires, over-unowned}
+use Rattle.arbiter.proofs.Timer.{expires}
 
 -- A tick adds one to the idle count of an idle bus that is below its limit.
 counted : (d : Device) → isIdle (d .bus) ≡ true → d .bus .idle < idleLimit → (b : Bool)

@@ -1,23 +1,22 @@
--- In sum, over every run: a partner whose request stands has the bus at the tick at which the owner's reserve runs out.
+-- In sum, over every run: a partner whose request stands has the bus at the tick that uses up the owner's reserve.
 -- Assumes nothing.
-use Prim.Native.Nat.{_<_}
-use mathlib.Core.Path.{_≡_, sym, ap, ap₂, _∙_, subst}
+use Prim.Native.Nat.{_<_, _≤_}
+use mathlib.Core.Path.{_≡_, sym, ap, _∙_, subst}
 use mathlib.Core.Bool.{true≢false}
 use native.Mathlib.Omega.{arith}
-use borrow.Author.Tests.{ne-eqb, eq-eqb}
-use Rattle.arbiter.specs.Types.{_+_, _-_, Bool, true, false, _&&_, List, [], _∷_, _++_, Master, Owns, Device, Raw}
+use Rattle.arbiter.specs.Types.{_+_, _-_, true, false, List, [], _∷_, _++_, Master, Owns, Device, Raw}
 use Rattle.arbiter.specs.Words.{worth, partner}
 use Rattle.arbiter.specs.State.{owns, isIdle}
 use Rattle.arbiter.specs.Order.{isReset}
 use Rattle.arbiter.specs.Steps.{parts, runFrom, run}
-use Rattle.arbiter.specs.AuditWords.{next, requests, resting, reserveOf, letsGo, reset, tick, levelled, ticksIn, never, throughout}
-use Rattle.arbiter.specs.Audit.{PartnerInTime}
-use Rattle.arbiter.proofs.Choice.{split, if-false, turn-owns}
+use Rattle.arbiter.specs.AuditWords.{next, requests, resting, reserveOf, letsGo, reset, tick, ticksIn, never, throughout}
+use Rattle.arbiter.specs.Audit.{PartnerInTime, PartnerInTimeThroughout}
+use Rattle.arbiter.proofs.Choice.{split, turn-owns}
 use Rattle.arbiter.proofs.Runs.{never-comes, now, hence}
-use Rattle.arbiter.proofs.Owner.{expired, Next, over-next, waits, withdraws}
+use Rattle.arbiter.proofs.Owner.{Next, over-next, waits, withdraws}
 use Rattle.arbiter.proofs.Raws.{refuses, takes, met, tick-no-reset}
-use Rattle.arbiter.proofs.Tenure.{Owner, Owned, next-owned, run-owned, keeps, over, lot, taken-fresh, rt-found, reserve-found}
-use Rattle.arbiter.proofs.Reserve.{rt-kept, reserve-kept}
+use Rattle.arbiter.proofs.Tenure.{Owner, Owned, next-owned, run-owned, keeps, over, lot, taken-fresh}
+use Rattle.arbiter.proofs.Reserve.{rt-kept, reserve-kept, ends-at-tick, last-tick}
 use Rattle.arbiter.proofs.Waiting.{Waiting, next-owns, next-waits}
 
 -- ---- in line
@@ -60,17 +59,25 @@ line-owns : (p : Master) (d : Device) → InLine p d → resting p d ≡ true �
 line-owns p d (mine t) r = turn-owns p (d .arb .turn) t
 line-owns p d (soon w) r = absurd (true≢false (sym r ∙ w .port))
 
--- ---- the tick at which the reserve runs out
+-- ---- the tick that uses up the reserve
 
--- On an idle bus the owner loses at the last tick of its reserve.
-loses : (m : Master) (t : Raw) (d : Device) → Owner m d → 0 < reserveOf m d → d .arb .reserve ≡ 1 → tick t d ≡ true
-    → isIdle ((levelled t d) .bus) ≡ true → expired m (levelled t d) ≡ true
-loses m t d o rt one h idle =
-    let l : Device = levelled t d in
-    let ok = tick-no-reset t d h in
-    let same : reserveOf m l ≡ reserveOf m d = rt-found m t d (turn-owns m (d .arb .turn) (o .turn)) ok in
-    let count : l .arb .reserve ≡ d .arb .reserve - 1 = reserve-found t d ok ∙ ap (λ (b : Bool). d .arb .reserve - worth 1 b) h in
-    if-false _ _ (ne-eqb (reserveOf m l) 0 (λ x. omega arith)) ∙ ap₂ (λ (a b : Bool). a && b) (eq-eqb (l .arb .reserve) 0 (omega arith)) idle
+-- At that tick, with the bus idle after it, the grant is over, and a partner that requests with its port at rest owns.
+follows : (m : Master) (t : Raw) (d : Device) → Owner m d → 0 < reserveOf m d → d .arb .reserve ≤ 1 → tick t d ≡ true
+    → requests (partner m) (next d t) ≡ true → isIdle ((next d t) .bus) ≡ true → resting (partner m) (next d t) ≡ true
+    → owns (partner m) (next d t) ≡ true
+follows m t d o rt one h q idle rest =
+    let n : Device = next d t in
+    elim (lot m t d o (tick-no-reset t d h)) [
+      | keeps k ↦ absurd (true≢false (sym (turn-owns m (n .arb .turn) (k .owner .turn)) ∙ ends-at-tick m t d o rt one h idle))
+      | over h c ↦ turn-owns (partner m) (n .arb .turn) (next-owns (partner m) n (over-next m n h q) rest)
+    ]
+
+pub partner-in-time : PartnerInTime
+partner-in-time m rs r later t g l h nr nw q idle rest =
+    let (o, rt, one) = last-tick m r (run rs) later g l nr nw in
+    follows m t (runFrom (next (run rs) r) later) o rt one h q idle rest
+
+-- ---- with the partner's request standing all the while
 
 -- From any device in which m owns with its reserve count just used up by t.
 by-the-tick : (m : Master) (rs : List Raw) (t : Raw) (d : Device) → Owned d → d .arb .turn ≡ Owns m → 0 < reserveOf m d
@@ -79,14 +86,8 @@ by-the-tick : (m : Master) (rs : List Raw) (t : Raw) (d : Device) → Owned d �
     → resting (partner m) (next (runFrom d rs) t) ≡ true → owns (partner m) (next (runFrom d rs) t) ≡ true
 unfolding runFrom ticksIn
 by-the-tick m [] t d i u rt l h nr st idle rest =
-    let p : Master = partner m in
-    elim (lot m t d (i m u) (tick-no-reset t d h)) [
-      | keeps k ↦
-          absurd (true≢false (sym (loses m t d (i m u) rt (omega arith) h (ap (λ s. isIdle (s .2)) (sym (k .left)) ∙ idle)) ∙ k .unlost))
-      | over o c ↦
-          turn-owns p ((next d t) .arb .turn)
-          (next-owns p (next d t) (over-next m (next d t) o (now (requests p) [] (next d t) (hence (requests p) t [] d st))) rest)
-    ]
+    let q = now (requests (partner m)) [] (next d t) (hence (requests (partner m)) t [] d st) in
+    follows m t d (i m u) rt (omega arith) h q idle rest
 by-the-tick m (r ∷ rs) t d i u rt l h nr st idle rest =
     let p : Master = partner m in
     let n : Device = next d r in
@@ -103,8 +104,8 @@ by-the-tick m (r ∷ rs) t d i u rt l h nr st idle rest =
           (line p rs t n (next-owned r d i) (next-in-line p n x) (ok .1) (tick-no-reset t (runFrom n rs) h) on) rest)
     ]
 
-pub partner-in-time : PartnerInTime
-partner-in-time m rs r later t g l h nr st idle rest =
+pub partner-in-time-throughout : PartnerInTimeThroughout
+partner-in-time-throughout m rs r later t g l h nr st idle rest =
     let d : Device = next (run rs) r in
     let new = taken-fresh m r (run rs) g in
     let count : d .arb .reserve ≡ reserveOf m d = new .0 .reserve in

@@ -11,6 +11,8 @@ pub mod Effects
 pub mod Order
 pub mod Owner
 pub mod Raws
+pub mod Resets
+pub mod Idle
 pub mod Tenure
 pub mod Reserve
 pub mod Waiting
@@ -22,4 +24,5 @@ pub mod Witnesses
 pub mod LowCounts
 pub mod Hung
 pub mod HungRows
+pub mod Answers
 pub mod Once

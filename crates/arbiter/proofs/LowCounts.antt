@@ -4,48 +4,21 @@ use mathlib.Core.Path.{_≡_, refl, sym, ap, ap₂, _∙_, subst}
 use mathlib.Core.Bool.{true≢false, false≢true, and-false, or-false}
 use native.Mathlib.Omega.{arith}
 use borrow.Author.Tests.{eq-eqb, eqb-true}
-use Rattle.arbiter.specs.Types.{ℕ, _-_, Bool, true, false, not, _&&_, _||_, eqb, Turn, Nobody, Claims, Owns, Zero, One, Bus, Device, Raw, Event, Command, Write, Read, Stop, Pair, Lines, Tick, Pulse, Reset, GeneralCall}
+use Rattle.arbiter.specs.Types.{ℕ, _-_, Bool, true, false, not, _&&_, _||_, eqb, One, Bus, Device, Raw, Event, Command, Write, Read, Stop, Pair, Lines, Tick, Pulse, Reset, GeneralCall}
 use Rattle.arbiter.specs.Words.{if_then_else_}
-use Rattle.arbiter.specs.Parts.{withIdle}
 use Rattle.arbiter.specs.State.{sclHigh, sdaHigh, sclHungLimit, sdaHungLimit}
 use Rattle.arbiter.specs.Events.{softReset}
 use Rattle.arbiter.specs.Effects.{countedTo, ticked, wasReset, effect}
-use Rattle.arbiter.specs.Order.{isReset, isTick, clockOf, sclChanged, levels, losses, cut, claim, granted, grantFrom, grant}
+use Rattle.arbiter.specs.Order.{isReset, isTick, sclChanged, levels}
 use Rattle.arbiter.specs.Steps.{parts, step}
 use Rattle.arbiter.specs.AuditWords.{next, reset, tick}
 use Rattle.arbiter.specs.Hung.{sameLevel, endsLowScl, endsLowSda}
 use Rattle.arbiter.proofs.Choice.{either, split, if-true}
-use Rattle.arbiter.proofs.Cases.{grant-cases, step-keeps}
+use Rattle.arbiter.proofs.Cases.{step-keeps}
 use Rattle.arbiter.proofs.Effects.{counts, effect-counts}
-use Rattle.arbiter.proofs.Order.{cut-still, connect-still}
-use Rattle.arbiter.proofs.Owner.{mid}
 use Rattle.arbiter.proofs.Raws.{refuses, takes, met, event-tick}
-use Rattle.arbiter.proofs.Settled.{Still, levels-still, losses-bus, scl-stays, parts-ready}
-
--- ---- parts 3 to 7 leave the bus but for its idle count
-
-abbrev unidled : Device → Bus
-unidled d = withIdle 0 (d .bus)
-
-grant-bus : (t : Turn) (d : Device) → unidled (grantFrom t d) ≡ unidled d
-unfolding grantFrom granted
-grant-bus Nobody d = refl
-grant-bus (Claims Zero) d = grant-cases (λ (n : Device). unidled n ≡ unidled d) Zero d refl refl
-grant-bus (Claims One) d = grant-cases (λ (n : Device). unidled n ≡ unidled d) One d refl refl
-grant-bus (Owns m) d = refl
-
-parts-bus : (e : Event) (d : Device) → unidled (parts e d) ≡ unidled (mid e d)
-unfolding parts losses cut claim grant
-parts-bus e d =
-    let two : Device = mid e d in
-    let three : Device = losses two in
-    let four : Device = cut (isTick e) three in
-    let five : Device = claim four in
-    let six : Device = grant five in
-    ap (λ x. withIdle 0 (x .2)) (connect-still (clockOf e) six)
-    ∙ grant-bus (five .arb .turn) five
-    ∙ ap (λ x. withIdle 0 (x .2)) (cut-still (isTick e) (three .arb .turn) three)
-    ∙ ap (withIdle 0) (losses-bus (two .arb .turn) two (levels-still (isReset e) (d .bus) (effect e d)))
+use Rattle.arbiter.proofs.Settled.{Still, scl-stays, parts-ready}
+use Rattle.arbiter.proofs.Idle.{parts-bus}
 
 -- ---- part 1: the low counts
 

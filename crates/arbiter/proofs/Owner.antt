@@ -6,12 +6,12 @@ use mathlib.Core.Logic.{_⊎_, inl, inr}
 use borrow.Author.Tests.{eq-eqb}
 use Rattle.arbiter.specs.Types.{ℕ, _-_, Bool, true, false, _&&_, _||_, Master, Zero, One, Turn, Nobody, Claims, Owns, Device, Event}
 use Rattle.arbiter.specs.Words.{if_then_else_, partner, side}
-use Rattle.arbiter.specs.State.{atRest}
+use Rattle.arbiter.specs.State.{ownsTurn, owns, atRest}
 use Rattle.arbiter.specs.Effects.{ticked, effect}
 use Rattle.arbiter.specs.Order.{isReset, isTick, levels, runsOut, lost, lossesFrom, losses, claimBy, newClaim, claimAfter}
 use Rattle.arbiter.specs.Steps.{parts}
 use Rattle.arbiter.specs.AuditWords.{requests, resting, letsGo}
-use Rattle.arbiter.proofs.Choice.{either, split, if-true, if-false}
+use Rattle.arbiter.proofs.Choice.{either, split, if-true, if-false, same-not}
 use Rattle.arbiter.proofs.Effects.{effect-side, ownerLetsGo, effect-turn, effect-counts}
 use Rattle.arbiter.proofs.Order.{still, side-kept, owned, awarded, after, after-sides, after-owned, losses-unowned, after-turn, Fresh, after-fresh, owner-same}
 
@@ -77,6 +77,15 @@ pub record Over (m : Master) (d : Device) : Type 0 where
 pub over-next : (m : Master) (d : Device) → Over m d → requests (partner m) d ≡ true → Next (partner m) d
 over-next m d h q = record { request = q; hold = h .hold; turn = h .turn ∙ if-true _ Nobody q }
 
+-- Whose grant is over does not own.
+heir-other : (request rest : Bool) (m : Master) → ownsTurn m (if request then heir rest (partner m) else Nobody) ≡ false
+heir-other true true m = same-not m
+heir-other true false m = refl
+heir-other false rest m = refl
+
+pub over-unowned : (m : Master) (d : Device) → Over m d → owns m d ≡ false
+over-unowned m d h = ap (ownsTurn m) (h .turn) ∙ heir-other (requests (partner m) d) (resting (partner m) d) m
+
 -- With m not requesting, its partner claims if it requests,
 only-one : (a b : Bool) (w : Master) → a ≡ false → claimBy a b w ≡ (if b then Claims One else Nobody)
 only-one true b w h = absurd (true≢false h)
@@ -88,7 +97,7 @@ only-zero a true w h = absurd (true≢false h)
 only-zero true false w h = refl
 only-zero false false w h = refl
 
-sole-claim : (m : Master) (d : Device) → requests m d ≡ false → newClaim d ≡ (if requests (partner m) d then Claims (partner m) else Nobody)
+pub sole-claim : (m : Master) (d : Device) → requests m d ≡ false → newClaim d ≡ (if requests (partner m) d then Claims (partner m) else Nobody)
 sole-claim Zero d h = only-one (d .side0 .contr .lockreq) (d .side1 .contr .lockreq) _ h
 sole-claim One d h = only-zero (d .side0 .contr .lockreq) (d .side1 .contr .lockreq) _ h
 

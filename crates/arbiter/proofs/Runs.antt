@@ -2,10 +2,12 @@
 -- Assumes nothing.
 use mathlib.Core.Path.{_≡_, refl}
 use mathlib.Core.Bool.{and-eq-true-iff}
-use Rattle.arbiter.specs.Types.{Bool, true, false, not, List, [], _∷_, _++_, Device, Raw}
+use native.Mathlib.Omega.{arith}
+use Rattle.arbiter.specs.Types.{_+_, Bool, true, false, not, List, [], _∷_, _++_, Device, Raw}
+use Rattle.arbiter.specs.Words.{worth}
 use Rattle.arbiter.specs.Effects.{powerUp}
 use Rattle.arbiter.specs.Steps.{step, runFrom, run}
-use Rattle.arbiter.specs.AuditWords.{next, never, throughout}
+use Rattle.arbiter.specs.AuditWords.{next, tick, ticksIn, never, throughout}
 use Rattle.arbiter.specs.Audit.{RunsOn}
 use Rattle.arbiter.proofs.Choice.{not-true}
 
@@ -39,3 +41,12 @@ now holds (r ∷ rs) d h = and-eq-true-iff (holds d) (throughout holds (next d r
 pub hence : (holds : Device → Bool) (r : Raw) (rs : List Raw) (d : Device) → throughout holds d (r ∷ rs) ≡ true → throughout holds (next d r) rs ≡ true
 unfolding throughout
 hence holds r rs d h = and-eq-true-iff (holds d) (throughout holds (next d r) rs) .0 h .1
+
+-- The ticks of some events and one more.
+pub ticks-last : (rs : List Raw) (e : Raw) (d : Device) → ticksIn d (rs ++ e ∷ []) ≡ ticksIn d rs + worth 1 (tick e (runFrom d rs))
+unfolding ticksIn runFrom
+ticks-last [] e d = omega arith
+ticks-last (r ∷ rs) e d =
+    let n : Device = next d r in
+    let more = ticks-last rs e n in
+    omega arith

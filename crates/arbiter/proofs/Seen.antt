@@ -85,9 +85,16 @@ answers-show rs r m =
       ap (λ (x : ℕ). eqb x (masterNumber m)) (bits .1) ∙ connected-told m (a .switch),
     )
 
+-- an owner's number is below 3
+owner-low : (t : Turn) → ltb (ownerNumber t) 3 ≡ true
+owner-low Nobody = refl
+owner-low (Claims k) = refl
+owner-low (Owns Zero) = refl
+owner-low (Owns One) = refl
+
 -- where the switch serves only an owner, its number is 0 or the owner's
 abbrev oneNumber : ℕ → ℕ → Bool
-oneNumber s o = eqb s 0 || eqb s o && ltb o 3
+oneNumber s o = eqb s 0 || eqb s o
 
 one-number : (t : Turn) (w : Switch) → ((m : Master) → serves m w ≡ true → ownsTurn m t ≡ true) → oneNumber (switchNumber w) (ownerNumber t) ≡ true
 one-number t Apart h = refl
@@ -103,7 +110,9 @@ pub answers-show-one : AnswersShowOne
 answers-show-one rs r =
     let d : Device = next (run rs) r in
     let bits = shown-bits (run rs) r in
-    ap₂ oneNumber (bits .1) (bits .0) ∙ one-number (d .arb .turn) (d .arb .switch) λ m s. serves-owner d (step-served (run rs) r (all-served rs)) m s
+    ap₂ (λ (s o : ℕ). ltb o 3 && oneNumber s o) (bits .1) (bits .0)
+    ∙ ap₂ (λ (x y : Bool). x && y) (owner-low (d .arb .turn))
+    (one-number (d .arb .turn) (d .arb .switch) λ m s. serves-owner d (step-served (run rs) r (all-served rs)) m s)
 
 -- ---- the registers
 

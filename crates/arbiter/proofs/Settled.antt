@@ -1,18 +1,17 @@
 -- A refused event changes nothing, and every step of a run leaves the device settled: parts 2 to 7 done again change nothing.
 -- Assumes nothing.
 use mathlib.Core.Path.{_≡_, refl, sym, ap, ap₂, subst, _∙_}
-use mathlib.Core.Bool.{Bool, true, false, not, _&&_, _||_, false≢true, and-eq-true-iff, and-true, and-false, or-false}
-use Rattle.arbiter.specs.Types.{ℕ, List, eqb, Master, Zero, One, Turn, Nobody, Claims, Owns, Side, Bus, Switch, Apart, Initialising, Closed, Clock, NoClock, Device, Raw, Event, Decoded, Reads, Stepped}
+use mathlib.Core.Bool.{Bool, true, false, not, _&&_, _||_, false≢true, and-eq-true-iff, and-false, or-false}
+use Rattle.arbiter.specs.Types.{ℕ, List, eqb, Master, Zero, One, Turn, Nobody, Claims, Owns, Side, Bus, Switch, Apart, Initialising, Closed, Clock, NoClock, Device, Raw, Event}
 use Rattle.arbiter.specs.Words.{if_then_else_, sameMaster, side}
 use Rattle.arbiter.specs.Parts.{withBusConnect, withBusInit, withContr, withDrives, withIdle, withTurn, withSwitch, withInitFail, withSide, withBus, withArb}
 use Rattle.arbiter.specs.State.{ownsTurn, owns, atRest, sclHigh, sdaHigh, isIdle}
 use Rattle.arbiter.specs.Registers.{released}
-use Rattle.arbiter.specs.Events.{decode, inSequence}
 use Rattle.arbiter.specs.Effects.{idleLimit, freshSide, powerUp, effect}
 use Rattle.arbiter.specs.Order.{isReset, isTick, clockOf, busyAfter, sclChanged, settledBus, levels, runsOut, lost, lossesFrom, losses, cutFrom, cut, claimBy, winner, newClaim, claimAfter, claim, granted, grantFrom, grant, switched, joined, clocked, keptJoined, connectFrom, connect}
-use Rattle.arbiter.specs.Steps.{parts, refused, run}
-use Rattle.arbiter.specs.AuditWords.{requests, acceptedAs, isAccepted}
-use Rattle.arbiter.specs.Audit.{RefusedUnchanged, settle, AllSettled}
+use Rattle.arbiter.specs.Steps.{parts, run}
+use Rattle.arbiter.specs.AuditWords.{requests}
+use Rattle.arbiter.specs.Audit.{RefusedUnchanged, partsAgain, AllSettled}
 use Rattle.arbiter.proofs.Choice.{either, split, if-true, if-false, turn-owns}
 use Rattle.arbiter.proofs.Cases.{cut-cases, claimant-stays, new-cases, claim-cases, connect-cases, run-keeps}
 use Rattle.arbiter.proofs.Raws.{refuses, takes, met}
@@ -373,7 +372,7 @@ connect-again (Owns m) d e h =
     (λ a. open-again d h λ j. ap (λ (t : Turn). ownsTurn j t && asksOn j d) e ∙ unasked j m (λ j. asksOn j d) a)
 
 -- parts 2 to 7, one after the other
-settles : (d : Device) → Ready d → Served d → settle d ≡ d
+settles : (d : Device) → Ready d → Served d → partsAgain d ≡ d
 unfolding losses cut grant connect
 settles d ((still, stays), claimed, waits) served =
     ap (λ (x : Device). connect NoClock (grant (claim (cut false (losses x))))) (levels-again d still)

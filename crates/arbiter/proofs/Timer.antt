@@ -4,17 +4,16 @@ use mathlib.Core.Path.{_≡_, refl, sym, ap, _∙_}
 use mathlib.Core.Bool.{true≢false}
 use borrow.Author.Tests.{eq-eqb}
 use Rattle.arbiter.specs.Types.{Bool, true, false, not, _&&_, List, [], _∷_, eqb, Master, Zero, One, Turn, Nobody, Claims, Owns, Device, Raw}
-use Rattle.arbiter.specs.Words.{if_then_else_, partner}
-use Rattle.arbiter.specs.State.{ownsTurn, owns}
+use Rattle.arbiter.specs.State.{owns}
 use Rattle.arbiter.specs.Effects.{idleLimit}
 use Rattle.arbiter.specs.Order.{lost, lossesFrom, losses}
 use Rattle.arbiter.specs.Steps.{parts, runFrom, run}
-use Rattle.arbiter.specs.AuditWords.{next, requests, resting, reserveOf, idleTimerOn, reset, withdrawalOf, levelled, never, throughout}
+use Rattle.arbiter.specs.AuditWords.{next, reserveOf, idleTimerOn, reset, withdrawalOf, levelled, never, throughout}
 use Rattle.arbiter.specs.Audit.{HeldUntilLetGo, IdleTimerExact}
-use Rattle.arbiter.proofs.Choice.{either, if-true, not-true, same-not, owns-turn, turn-owns}
+use Rattle.arbiter.proofs.Choice.{either, if-true, not-true, owns-turn, turn-owns}
 use Rattle.arbiter.proofs.Runs.{never-comes, now, hence}
 use Rattle.arbiter.proofs.Order.{side-kept, after, after-sides}
-use Rattle.arbiter.proofs.Owner.{mid, expired, heir, Over}
+use Rattle.arbiter.proofs.Owner.{mid, expired, over-unowned}
 use Rattle.arbiter.proofs.Raws.{refuses, takes, met}
 use Rattle.arbiter.proofs.Tenure.{Owner, run-owned, keeps, over, lot, taken-fresh, rt-found}
 use Rattle.arbiter.proofs.Reserve.{rt-kept}
@@ -82,22 +81,19 @@ held-until-let-go m rs r later g z nr nw off = held m later (next (run rs) r) (t
 
 -- ---- with the timer on
 
--- Whose grant is over does not own.
-heir-other : (request rest : Bool) (m : Master) → ownsTurn m (if request then heir rest (partner m) else Nobody) ≡ false
-heir-other true true m = same-not m
-heir-other true false m = refl
-heir-other false rest m = refl
-
-pub over-unowned : (m : Master) (d : Device) → Over m d → owns m d ≡ false
-over-unowned m d h = ap (ownsTurn m) (h .turn) ∙ heir-other (requests (partner m) d) (resting (partner m) d) m
-
-pub idle-timer-exact : IdleTimerExact
-idle-timer-exact m rs r own z ok on =
-    let d : Device = run rs in
+-- From any device in which m owns with a reserve of 00h.
+exact : (m : Master) (r : Raw) (d : Device) → Owner m d → reserveOf m d ≡ 0 → reset r d ≡ false → withdrawalOf m r d ≡ false
+    → owns m (next d r) ≡ not (idleTimerOn m (levelled r d) && eqb ((levelled r d) .bus .idle) idleLimit)
+exact m r d o z ok on =
     let l : Device = levelled r d in
-    let o : Owner m d = run-owned rs m (owns-turn m (d .arb .turn) own) in
+    let own : owns m d ≡ true = turn-owns m (d .arb .turn) (o .turn) in
     let x : expired m l ≡ (idleTimerOn m l && eqb (l .bus .idle) idleLimit) = expires m l (rt-found m r d own ok ∙ z) in
     elim (lot m r d o ok) [
       | keeps k ↦ turn-owns m ((next d r) .arb .turn) (k .owner .turn) ∙ sym (ap not (sym x ∙ k .unlost))
       | over h c ↦ over-unowned m (next d r) h ∙ sym (ap not (sym x ∙ c on))
     ]
+
+pub idle-timer-exact : IdleTimerExact
+idle-timer-exact m rs r own z ok on =
+    let d : Device = run rs in
+    exact m r d (run-owned rs m (owns-turn m (d .arb .turn) own)) z ok on

@@ -9,8 +9,8 @@ use Rattle.arbiter.specs.Events.{decode, inSequence}
 use Rattle.arbiter.specs.Effects.{effect}
 use Rattle.arbiter.specs.Order.{isReset}
 use Rattle.arbiter.specs.Steps.{parts, runFrom, run}
-use Rattle.arbiter.specs.AuditWords.{next, requests, resting, letsGo, isStopOf, reset, withdrawalOf, stopOf, never}
-use Rattle.arbiter.specs.Audit.{PartnerNext}
+use Rattle.arbiter.specs.AuditWords.{next, requests, resting, letsGo, isStopOf, reset, withdrawalOf, stopOf, grantEnded, never}
+use Rattle.arbiter.specs.Audit.{IsNext, PartnerNext}
 use Rattle.arbiter.proofs.Choice.{not-true, owns-turn, turn-owns}
 use Rattle.arbiter.proofs.Runs.{never-comes}
 use Rattle.arbiter.proofs.Effects.{effect-side}
@@ -72,19 +72,23 @@ until-stop p (r ∷ rs) d w nr nw ns =
     let still = never-comes (stopOf p) r rs d ns in
     until-stop p rs (next d r) (waits-on p r d w (ok .0) (on .0) (still .0)) (ok .1) (on .1) (still .1)
 
+-- From any device in which m owns and its grant ends.
+follows-next : (m : Master) (r : Raw) (d : Device) → Owner m d → grantEnded m r d ≡ true → reset r d ≡ false → requests (partner m) (next d r) ≡ true
+    → Next (partner m) (next d r)
+follows-next m r d o g ok q =
+    let n : Device = next d r in
+    let ended : owns m n ≡ false = not-true (owns m n) (and-eq-true-iff (owns m d) (not (owns m n)) .0 g .1) in
+    elim (lot m r d o ok) [
+      | keeps k ↦ absurd (true≢false (sym (turn-owns m (n .arb .turn) (k .owner .turn)) ∙ ended))
+      | over h c ↦ over-next m n h q
+    ]
+
+-- Who is next is so in the auditor's words.
+is-next : (p : Master) (d : Device) → Next p d → IsNext p d
+is-next p d x = (λ rest. turn-owns p (d .arb .turn) (next-owns p d x rest), λ rest later. until-stop p later d (next-waits p d x rest))
+
 pub partner-next : PartnerNext
 partner-next m rs r g ok q =
     let d : Device = run rs in
-    let n : Device = next d r in
-    let p : Master = partner m in
-    let both = and-eq-true-iff (owns m d) (not (owns m n)) .0 g in
-    let o : Owner m d = run-owned rs m (owns-turn m (d .arb .turn) (both .0)) in
-    let x : Next p n =
-    elim (lot m r d o ok) [
-      | keeps k ↦ absurd (true≢false (sym (turn-owns m (n .arb .turn) (k .owner .turn)) ∙ not-true (owns m n) (both .1)))
-      | over h c ↦ over-next m n h q
-    ]
-    in (
-      λ rest. turn-owns p (n .arb .turn) (next-owns p n x rest),
-      λ rest later. until-stop p later n (next-waits p n x rest),
-    )
+    let own : owns m d ≡ true = and-eq-true-iff (owns m d) (not (owns m (next d r))) .0 g .0 in
+    is-next (partner m) (next d r) (follows-next m r d (run-owned rs m (owns-turn m (d .arb .turn) own)) g ok q)

@@ -1,10 +1,10 @@
 -- Every row of specs/Witnesses.antt meets its premises: antt computes each. And they are the premises of the statement that the row is for:
 -- with the statement, they give what it concludes.
 -- Assumes nothing.
-use mathlib.Core.Path.{_≡_, refl, ap}
+use mathlib.Core.Path.{_≡_, refl, ap, _∙_}
 use mathlib.Core.Bool.{Bool, true, false, not, _&&_, false≢true, and-eq-true-iff}
-use borrow.Author.Tests.{ltb-true, eqb-true, not-true}
-use Rattle.arbiter.specs.Types.{ℕ, _+_, List, [], _∷_, eqb, Master, Zero, One, Claims, Apart, Device, Raw, Event, Command, Write, Read, Stop, Pair, Lines, Tick, Pulse, Reset, GeneralCall, Decoded, Reads, UnknownKind, BadField}
+use borrow.Author.Tests.{ltb-true, leb-true, eqb-true, not-true}
+use Rattle.arbiter.specs.Types.{ℕ, _+_, List, [], _∷_, _++_, eqb, Master, Zero, One, Claims, Apart, Device, Raw, Event, Command, Write, Read, Stop, Pair, Lines, Tick, Pulse, Reset, GeneralCall, Decoded, Reads, UnknownKind, BadField}
 use Rattle.arbiter.specs.Words.{byteOf, partner, sameMaster}
 use Rattle.arbiter.specs.Registers.{contrByte, statusByte, registerByte, isAsserted, ownWritten, mailWritten, drivesWritten, turnWritten}
 use Rattle.arbiter.specs.Events.{decode, inSequence, acknowledged, outcome}
@@ -12,9 +12,9 @@ use Rattle.arbiter.specs.Effects.{idleLimit, commanded, written, paired,
 use Rattle.arbiter.specs.Order.{levels, lost, lossesFrom, losses, cutFrom, cut, winner, claim, granted, grantFrom, grant, joined, clocked, keptJoined, connectFrom, connect}
 use Rattle.arbiter.specs.Steps.{parts, ownerByte, linesByte, byteRead, refused, taken, stepEvent, stepDecoded, step, runFrom, run}
 use Rattle.arbiter.specs.AuditWords.{next, reserveOf, idleTimerOn, isStopOf, acceptedAs, resting, reset, withdrawalOf, isAccepted, levelled, ticksIn, never, throughout}
-use Rattle.arbiter.specs.State.{owns}
-use Rattle.arbiter.specs.Audit.{OneConnected, ApartUnowned, ReserveLasts, PartnerNext, PartnerInTime, HeldUntilLetGo, IdleTimerExact, IdleTimerEnds, RefusedUnchanged}
-use Rattle.arbiter.specs.Witnesses.{oneConnected, apartUnowned, reserveLasts, nextAtRest, nextAtStop, partnerInTime, heldUntilLetGo, idleTimerExact, idleTimerEnds, refusedUnchanged, allMet, witnesses, WitnessesMeet}
+use Rattle.arbiter.specs.State.{owns, isIdle}
+use Rattle.arbiter.specs.Audit.{OneConnected, ApartUnowned, ResetEnds, ReserveLasts, ReserveEnds, ReserveExact, PartnerNext, PartnerInTime, PartnerInTimeThroughout, HeldUntilLetGo, IdleTimerExact, IdleTimerEnds, RefusedUnchanged}
+use Rattle.arbiter.specs.Witnesses.{oneConnected, apartUnowned, resetEnds, reserveLasts, reserveEnds, reserveExact, exactIdle, exactBusy, nextAtRest, nextAtStop, partnerInTime, partnerInTimeThroughout, heldUntilLetGo, idleTimerExact, idleTimerEnds, refusedUnchanged, allMet, witnesses, WitnessesMeet}
 
 pub witnesses-meet : WitnessesMeet
 unfolding byteOf contrByte statusByte registerByte isAsserted ownWritten mailWritten drivesWritten turnWritten
@@ -48,11 +48,37 @@ apart-unowned-met told rs (zero, (one, _)) = told rs none
     none Zero = not-true (owns Zero (run rs)) zero
     none One = not-true (owns One (run rs)) one
 
+pub reset-ends-met : ResetEnds → (m : Master) (d : Device) (r : Raw) → Holds (resetEnds m d r) → owns m (next d r) ≡ false
+reset-ends-met told m d r (own, (reset-now, _)) = told m d r reset-now
+
 pub reserve-lasts-met : ReserveLasts → (m : Master) (rs : List Raw) (r : Raw) (later : List Raw) → Holds (reserveLasts m rs r later)
     → owns m (runFrom (next (run rs) r) later) ≡ true
 reserve-lasts-met told m rs r later (taken, (ticks, (resets, (gone, _)))) =
     let d : Device = next (run rs) r in
     told m rs r later taken (ltb-true (ticksIn d later) (reserveOf m d) ticks) resets gone
+
+pub reserve-ends-met : ReserveEnds → (m : Master) (rs : List Raw) (r : Raw) (later : List Raw) (t : Raw) → Holds (reserveEnds m rs r later t)
+    → owns m (next (runFrom (next (run rs) r) later) t) ≡ false
+reserve-ends-met told m rs r later t (taken, (ticks, (now, (resets, (gone, (idle, _)))))) =
+    let d : Device = next (run rs) r in
+    told m rs r later t taken (eqb-true (ticksIn d later + 1) (reserveOf m d) ticks) now resets gone idle
+
+exact-told : ReserveExact → (m : Master) (rs : List Raw) (r : Raw) (later : List Raw) (e : Raw) → Holds (reserveExact m rs r later e)
+    → let end : Device = next (runFrom (next (run rs) r) later) e in owns m end ≡ not (isIdle (end .bus))
+exact-told told m rs r later e (taken, (own, (some, (ticks, (reset-not, (gone-not, _)))))) =
+    let d : Device = next (run rs) r in
+    let x : Device = runFrom d later in
+    told m rs r later e taken own (ltb-true 0 (reserveOf m d) some) (leb-true (reserveOf m d) (ticksIn d (later ++ e ∷ [])) ticks)
+    (not-true (reset e x) reset-not) (not-true (withdrawalOf m e x) gone-not)
+
+-- at an event after which the bus is idle m does not own, and at one after which it is not m does
+pub exact-idle-met : ReserveExact → (m : Master) (rs : List Raw) (r : Raw) (later : List Raw) (e : Raw) → Holds (exactIdle m rs r later e)
+    → owns m (next (runFrom (next (run rs) r) later) e) ≡ false
+exact-idle-met told m rs r later e (idle, premises) = exact-told told m rs r later e premises ∙ ap not idle
+
+pub exact-busy-met : ReserveExact → (m : Master) (rs : List Raw) (r : Raw) (later : List Raw) (e : Raw) → Holds (exactBusy m rs r later e)
+    → owns m (next (runFrom (next (run rs) r) later) e) ≡ true
+exact-busy-met told m rs r later e (busy, premises) = exact-told told m rs r later e premises ∙ busy
 
 pub next-at-rest-met : PartnerNext → (m : Master) (rs : List Raw) (r : Raw) → Holds (nextAtRest m rs r) → owns (partner m) (next (run rs) r) ≡ true
 next-at-rest-met told m rs r (rest, (ended, (resets, (asks, _)))) = told m rs r ended (not-true (reset r (run rs)) resets) asks .0 rest
@@ -91,7 +117,13 @@ next-at-stop-met told m rs r later t (busy, (resets, (gone, (stops, (stop, (ende
 
 pub partner-in-time-met : PartnerInTime → (m : Master) (rs : List Raw) (r : Raw) (later : List Raw) (t : Raw) → Holds (partnerInTime m rs r later t)
     → owns (partner m) (next (runFrom (next (run rs) r) later) t) ≡ true
-partner-in-time-met told m rs r later t (taken, (ticks, (now, (resets, (asks, (idle, (rest, _))))))) =
+partner-in-time-met told m rs r later t (taken, (ticks, (now, (resets, (gone, (asks, (idle, (rest, _)))))))) =
+    let d : Device = next (run rs) r in
+    told m rs r later t taken (eqb-true (ticksIn d later + 1) (reserveOf m d) ticks) now resets gone asks idle rest
+
+pub partner-in-time-throughout-met : PartnerInTimeThroughout → (m : Master) (rs : List Raw) (r : Raw) (later : List Raw) (t : Raw)
+    → Holds (partnerInTimeThroughout m rs r later t) → owns (partner m) (next (runFrom (next (run rs) r) later) t) ≡ true
+partner-in-time-throughout-met told m rs r later t (taken, (ticks, (now, (resets, (asks, (idle, (rest, _))))))) =
     let d : Device = next (run rs) r in
     told m rs r later t taken (eqb-true (ticksIn d later + 1) (reserveOf m d) ticks) now resets asks idle rest
 

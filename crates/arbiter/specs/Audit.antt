@@ -1,7 +1,7 @@
--- The auditor's questions, as statements over every run: any list of raw four-byte events from power-up, refused ones included. Each is
--- proved in proofs/, under the same name in small letters.
+-- The auditor's questions, as statements over every run: any list of raw four-byte events from power-up, refused ones included. Those that
+-- name a device and no run hold of every device. Each is proved in proofs/, under the same name in small letters; Answers has them all.
 -- Assumes nothing.
-use Prim.Native.Nat.{_<_}
+use Prim.Native.Nat.{_<_, _≤_}
 use mathlib.Core.Path.{_≡_}
 use Rattle.arbiter.specs.Types.{ℕ, _+_, _/_, _%_, true, false, not, _&&_, _||_, List, [], _∷_, _++_, eqb, ltb, Master, Claims, Contr, Status, Apart, NoClock, Device, Raw, Stop, Reads}
 use Rattle.arbiter.specs.Words.{bit, partner, side}
@@ -40,11 +40,11 @@ AnswersShow =
     (rs : List Raw) (r : Raw) (m : Master) → let b : ℕ = step (run rs) r .answer .owner in
     (eqb (ownerBits b) (masterNumber m) ≡ owns m (next (run rs) r)) × (eqb (switchBits b) (masterNumber m) ≡ connected m (next (run rs) r))
 
--- No answer shows a connected one but the owner, and there is one owner or none.
+-- Every answer shows one owner or none, and no connected one but the owner.
 abbrev pub AnswersShowOne : Type 0
 AnswersShowOne =
     (rs : List Raw) (r : Raw) → let b : ℕ = step (run rs) r .answer .owner in
-    eqb (switchBits b) 0 || eqb (switchBits b) (ownerBits b) && ltb (ownerBits b) 3 ≡ true
+    ltb (ownerBits b) 3 && (eqb (switchBits b) 0 || eqb (switchBits b) (ownerBits b)) ≡ true
 
 -- As the registers show it: m is connected exactly if its CONTR shows LOCK_GRANT (bit 1) and BUS_CONNECT (bit 2) and no initialisation
 -- runs; LOCK_GRANT is the grant, and so is STATUS bit 0 of the partner's.
@@ -63,6 +63,10 @@ RegistersShowOne =
 
 -- ---- Can a reserved transfer be cut short?
 
+-- By a reset it can, the pin's or the soft reset of either master: after it nobody owns.
+abbrev pub ResetEnds : Type 0
+ResetEnds = (m : Master) (d : Device) (r : Raw) → reset r d ≡ true → owns m (next d r) ≡ false
+
 -- r gives m the grant. While fewer ticks have been accepted since than the reserve that it was taken with, no reset has come and m has not
 -- withdrawn, m owns. (A reserve of 00h has no fewer: see below.)
 abbrev pub ReserveLasts : Type 0
@@ -70,6 +74,25 @@ ReserveLasts =
     (m : Master) (rs : List Raw) (r : Raw) (later : List Raw) → let d : Device = next (run rs) r in
     grantTaken m r (run rs) ≡ true → ticksIn d later < reserveOf m d → never reset d later ≡ true → never (withdrawalOf m) d later ≡ true
     → owns m (runFrom d later) ≡ true
+
+-- And no longer than that on an idle bus: still without reset and withdrawal, t is the tick that makes as many as the reserve. If the bus is
+-- idle after t, m does not own.
+abbrev pub ReserveEnds : Type 0
+ReserveEnds =
+    (m : Master) (rs : List Raw) (r : Raw) (later : List Raw) (t : Raw) → let d : Device = next (run rs) r in
+    let end : Device = next (runFrom d later) t in
+    grantTaken m r (run rs) ≡ true → ticksIn d later + 1 ≡ reserveOf m d → tick t (runFrom d later) ≡ true → never reset d later ≡ true
+    → never (withdrawalOf m) d later ≡ true → isIdle (end .bus) ≡ true → owns m end ≡ false
+
+-- From that tick on, the grant is kept in an event exactly if the bus is not idle after it, and so ends in the first event after which the
+-- bus is idle. m has owned all the while since r, so that it is the same grant; as many ticks as its reserve, or more, have been accepted
+-- since, e counted; and e is no reset and no withdrawal of m.
+abbrev pub ReserveExact : Type 0
+ReserveExact =
+    (m : Master) (rs : List Raw) (r : Raw) (later : List Raw) (e : Raw) → let d : Device = next (run rs) r in
+    let x : Device = runFrom d later in
+    grantTaken m r (run rs) ≡ true → throughout (owns m) d later ≡ true → 0 < reserveOf m d → reserveOf m d ≤ ticksIn d (later ++ e ∷ [])
+    → reset e x ≡ false → withdrawalOf m e x ≡ false → owns m (next x e) ≡ not (isIdle ((next x e) .bus))
 
 -- ---- When does the waiting one get its turn?
 
@@ -87,15 +110,24 @@ PartnerNext =
     (m : Master) (rs : List Raw) (r : Raw) → let d : Device = next (run rs) r in
     grantEnded m r (run rs) ≡ true → reset r (run rs) ≡ false → requests (partner m) d ≡ true → IsNext (partner m) d
 
--- In sum: r gives m the grant, t is the tick at which its reserve runs out, the partner's request stands throughout and no reset comes.
--- If after t the bus is idle and the partner's port at rest, the partner owns the bus.
+-- In sum: r gives m the grant, and t is the tick that makes as many as its reserve. No reset has come and m has not withdrawn. If after t
+-- the partner's request stands, whenever it was made, the bus is idle and the partner's port at rest, then the partner owns.
 abbrev pub PartnerInTime : Type 0
 PartnerInTime =
     (m : Master) (rs : List Raw) (r : Raw) (later : List Raw) (t : Raw) → let d : Device = next (run rs) r in
     let end : Device = next (runFrom d later) t in
-    grantTaken m r (run rs) ≡ true → ticksIn d later + 1 ≡ reserveOf m d → tick t (runFrom d later) ≡ true → never reset d later ≡ true
-    → throughout (requests (partner m)) d (later ++ t ∷ []) ≡ true → isIdle (end .bus) ≡ true → resting (partner m) end ≡ true
-    → owns (partner m) end ≡ true
+    grantTaken m r (run rs) ≡ true → ticksIn d later + 1 ≡ reserveOf m d → tick t (runFrom d later) ≡ true
+    → never reset d later ≡ true → never (withdrawalOf m) d later ≡ true
+    → requests (partner m) end ≡ true → isIdle (end .bus) ≡ true → resting (partner m) end ≡ true → owns (partner m) end ≡ true
+
+-- Where the partner's request stands all the while from the grant on, m may withdraw as well, and the partner owns after t just so.
+abbrev pub PartnerInTimeThroughout : Type 0
+PartnerInTimeThroughout =
+    (m : Master) (rs : List Raw) (r : Raw) (later : List Raw) (t : Raw) → let d : Device = next (run rs) r in
+    let end : Device = next (runFrom d later) t in
+    grantTaken m r (run rs) ≡ true → ticksIn d later + 1 ≡ reserveOf m d → tick t (runFrom d later) ≡ true
+    → never reset d later ≡ true → throughout (requests (partner m)) d (later ++ t ∷ []) ≡ true
+    → isIdle (end .bus) ≡ true → resting (partner m) end ≡ true → owns (partner m) end ≡ true
 
 -- ---- What does a reserve of 00h mean?
 
@@ -113,7 +145,7 @@ IdleTimerExact =
     owns m d ≡ true → reserveOf m d ≡ 0 → reset r d ≡ false → withdrawalOf m r d ≡ false
     → owns m (next d r) ≡ not (idleTimerOn m (levelled r d) && eqb ((levelled r d) .bus .idle) idleLimit)
 
--- So on a bus that is idle throughout, it lasts 100 ticks and ends at the tick after them.
+-- So with the timer on and the bus idle throughout, it lasts 100 ticks and ends at the tick after them.
 abbrev pub IdleTimerEnds : Type 0
 IdleTimerEnds =
     (m : Master) (rs : List Raw) (r : Raw) (later : List Raw) → let d : Device = next (run rs) r in
@@ -122,7 +154,7 @@ IdleTimerEnds =
     → (owns m (runFrom d later) ≡ true)
     × ((t : Raw) → tick t (runFrom d later) ≡ true → ticksIn d later + 1 ≡ idleLimit → owns m (next (runFrom d later) t) ≡ false)
 
--- ---- How a grant begins and ends, whatever the device
+-- ---- How a grant begins and ends
 
 -- A grant is given only to a master whose port is at rest, and while no hold runs.
 abbrev pub GrantedAtRest : Type 0
@@ -134,13 +166,14 @@ EndsDisconnected = (m : Master) (d : Device) (r : Raw) → grantEnded m r d ≡ 
 
 -- ---- What a step leaves
 
--- A refused event changes nothing, whatever the device.
+-- A refused event changes nothing.
 abbrev pub RefusedUnchanged : Type 0
 RefusedUnchanged = (d : Device) (r : Raw) → isAccepted r d ≡ false → next d r ≡ d
 
--- Every step of a run leaves the device settled: parts 2 to 7 done again, with no event, change nothing.
-abbrev pub settle : Device → Device
-settle d = connect NoClock (grant (claim (cut false (losses (levels false (d .bus) d)))))
+-- parts 2 to 7 done again, with no event
+abbrev pub partsAgain : Device → Device
+partsAgain d = connect NoClock (grant (claim (cut false (losses (levels false (d .bus) d)))))
 
+-- Every step of a run leaves the device settled: that changes nothing.
 abbrev pub AllSettled : Type 0
-AllSettled = (rs : List Raw) → settle (run rs) ≡ run rs
+AllSettled = (rs : List Raw) → partsAgain (run rs) ≡ run rs

@@ -1,11 +1,11 @@
 -- Request #102 by examples, as STATUS and the interrupt output show them: bit 2 of STATUS is BUS_HUNG. proofs/HungRows.antt proves the table.
 -- Assumes nothing.
 use mathlib.Core.Path.{_≡_}
-use Rattle.arbiter.specs.Types.{ℕ, true, not, List, [], _∷_, _++_, map, Device, Raw}
+use Rattle.arbiter.specs.Types.{ℕ, true, not, List, [], _∷_, _++_, Device, Raw}
 use Rattle.arbiter.specs.State.{busHung}
 use Rattle.arbiter.specs.Effects.{powerUp}
 use Rattle.arbiter.specs.AuditWords.{throughout}
-use Rattle.arbiter.specs.Marks.{Shown, Row, _is_, raw, command, write, read, lines, tick, sets, times, after_on_, bytes}
+use Rattle.arbiter.specs.Marks.{Shown, Row, _is_, command, write, read, lines, tick, pulse, generalCall, sets, times, after_on_, bytes, AsThePaper}
 
 -- ---- what is done to the lines
 
@@ -22,7 +22,7 @@ slowClock = times 499 tick ++ lines 0 0 1 ∷ times 499 tick ++ lines 1 0 1 ∷ 
 
 -- SMBUS_SWRST is set and SDA low; a soft reset holds SCL for 35 ticks
 abbrev pub heldClock : List Raw
-heldClock = sets 0 1 0x10 ++ lines 1 0 1 ∷ raw 9 0 0x06 0 ∷ times 35 tick
+heldClock = sets 0 1 0x10 ++ lines 1 0 1 ∷ generalCall 0 0x06 ∷ times 35 tick
 
 -- the owner drives SDA low, and after 20 ticks pulls SCL low and lets it go
 abbrev pub drivenClock : List Raw
@@ -53,7 +53,7 @@ longRows =
     ∷ (statusAfter (sclLow 499) is bytes 0 0x88 0 0x08)
     ∷ (statusAfter (sclLow 500) is bytes 0 0x8C 0 0x08)
     -- a refused event restarts nothing, nor does a PULSE, which is refused here
-    ∷ (statusAfter (sdaLow 500 ++ lines 2 0 1 ∷ raw 7 1 0 0 ∷ tick ∷ []) is hung 0)
+    ∷ (statusAfter (sdaLow 500 ++ lines 2 0 1 ∷ pulse 1 ∷ tick ∷ []) is hung 0)
     -- no latch: a change of SCL takes the flag back
     ∷ (statusAfter (sdaLow 501 ++ lines 0 0 1 ∷ lines 1 0 1 ∷ []) is free 0)
     ∷ []
@@ -84,11 +84,8 @@ shownRows =
     ∷ (after sets 0 5 0x3F ++ sdaLow 501 on lines 0 0 1 is bytes 0 0 0 0x00)
     ∷ []
 
-abbrev pub RowsHold : List Row → Type 0
-RowsHold rows = map (λ (r : Row). r .found) rows ≡ map (λ (r : Row). r .paper) rows
-
 abbrev pub HungRowsHold : Type 0
-HungRowsHold = RowsHold longRows × RowsHold changedRows × RowsHold shownRows
+HungRowsHold = AsThePaper longRows × AsThePaper changedRows × AsThePaper shownRows
 
 -- the fan monitor: SDA stays low over 2,994 ticks of a clock that runs, and BUS_HUNG is shown at no time
 abbrev pub SlowClockNeverHung : Type 0

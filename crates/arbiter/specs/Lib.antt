@@ -17,3 +17,4 @@ pub mod Marks
 pub mod Witnesses
 pub mod Hung
 pub mod HungRows
+pub mod Answers

@@ -1,5 +1,5 @@
--- Document 01, "Marked examples", and beside them "Readings we have already paid for" and the winner table, as one table of what the
--- definitions give and what the paper says. proofs/Marks.antt proves it whole.
+-- Document 01, "Marked examples", as one table of what the definitions give and what the paper says; and in a second one "Readings we have
+-- already paid for" and the winner table seen from outside. proofs/Marks.antt proves each whole.
 -- Assumes nothing.
 use mathlib.Core.Path.{_≡_}
 use Prim.Native.Char.{code}
@@ -53,6 +53,12 @@ tick = raw 6 0 0 0
 
 abbrev pub pulse : ℕ → Raw
 pulse sda = raw 7 sda 0 0
+
+abbrev pub reset : Raw
+reset = raw 8 0 0 0
+
+abbrev pub generalCall : ℕ → ℕ → Raw
+generalCall m b = raw 9 m b 0
 
 -- m sets register p to v, from COMMAND to STOP; both have CONTR open for writing; an event so often
 abbrev pub sets : ℕ → ℕ → ℕ → List Raw
@@ -114,13 +120,9 @@ marked =
     -- M5 RT 0, idle timer on: owner after 100 idle ticks, lost at 101
     ∷ (after sets 0 1 0x21 ++ times 99 tick on tick is bytes 0 0 0x01 0x0C)
     ∷ (after sets 0 1 0x21 ++ times 100 tick on tick is bytes 0 0 0x00 0x0C)
-    -- M6 PAIR of 01h to both CONTR: 0 claims; of 81h: 1 claims. The claimant is granted at its own STOP, whichever comes first
+    -- M6 PAIR of 01h to both CONTR: 0 claims; of 81h: 1 claims
     ∷ (turnAfter (bothAtContr ++ pair 0x01 0x01 ∷ []) is turn (Claims Zero))
-    ∷ (after bothAtContr ++ pair 0x01 0x01 ∷ [] on stop 1 is bytes 0 0 0x00 0x0C)
-    ∷ (after bothAtContr ++ pair 0x01 0x01 ∷ stop 1 ∷ [] on stop 0 is bytes 0 0 0x01 0x0C)
     ∷ (turnAfter (bothAtContr ++ pair 0x81 0x81 ∷ []) is turn (Claims One))
-    ∷ (after bothAtContr ++ pair 0x81 0x81 ∷ [] on stop 0 is bytes 0 0 0x00 0x0C)
-    ∷ (after bothAtContr ++ pair 0x81 0x81 ∷ stop 0 ∷ [] on stop 1 is bytes 0 0 0x02 0x0C)
     -- M7 CONTR written FFh, read before the STOP: FDh
     ∷ (after command 0 1 ∷ write 0 0xFF ∷ [] on read 0 is bytes 0 0xFD 0x00 0x0C)
     -- M8 COMMAND 08h: outcome 1; 81h: outcome 0
@@ -151,6 +153,11 @@ paidFor =
     -- a grant is given at the STOP, not with the LOCK_REQ byte
     ∷ (after command 0 1 ∷ [] on write 0 0x01 is bytes 0 0 0x00 0x0C)
     ∷ (after command 0 1 ∷ write 0 0x01 ∷ times 3 tick on stop 0 is bytes 0 0 0x01 0x0C)
+    -- and to M6's claimant at its own STOP, whichever STOP comes first
+    ∷ (after bothAtContr ++ pair 0x01 0x01 ∷ [] on stop 1 is bytes 0 0 0x00 0x0C)
+    ∷ (after bothAtContr ++ pair 0x01 0x01 ∷ stop 1 ∷ [] on stop 0 is bytes 0 0 0x01 0x0C)
+    ∷ (after bothAtContr ++ pair 0x81 0x81 ∷ [] on stop 0 is bytes 0 0 0x00 0x0C)
+    ∷ (after bothAtContr ++ pair 0x81 0x81 ∷ stop 0 ∷ [] on stop 1 is bytes 0 0 0x02 0x0C)
     -- the idle timer does not cut an unexpired reserve
     ∷ (after sets 0 3 200 ++ sets 0 1 0x21 ++ times 198 tick on tick is bytes 0 0 0x01 0x0C)
     ∷ (after sets 0 3 200 ++ sets 0 1 0x21 ++ times 199 tick on tick is bytes 0 0 0x00 0x0C)
@@ -180,8 +187,8 @@ owner0 = bytes 0 0 0x01 0x0C
 abbrev pub owner1 : Shown
 owner1 = bytes 0 0 0x02 0x0C
 
-unfoldable pub winners : List Row
-winners =
+unfoldable pub contests : List Row
+contests =
     -- row 00: 0,1,0
     (contest never 0x01 0x01 is owner0)
     ∷ (contest (was 0) 0x01 0x01 is owner1)
@@ -200,10 +207,14 @@ winners =
     ∷ (contest (was 1) 0x81 0x81 is owner0)
     ∷ []
 
--- ---- the one statement: every row's finding is what the paper says
+-- ---- the two statements: every row's finding is what the paper says
 
-abbrev pub table : List Row
-table = marked ++ paidFor ++ winners
+abbrev pub AsThePaper : List Row → Type 0
+AsThePaper rows = map (λ (r : Row). r .found) rows ≡ map (λ (r : Row). r .paper) rows
 
+-- "M1 to M11 form a single table proved by one statement"
 abbrev pub MarksHold : Type 0
-MarksHold = map (λ (r : Row). r .found) table ≡ map (λ (r : Row). r .paper) table
+MarksHold = AsThePaper marked
+
+abbrev pub ReadingsHold : Type 0
+ReadingsHold = AsThePaper (paidFor ++ contests)

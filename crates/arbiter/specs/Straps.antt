@@ -90,3 +90,14 @@ strappedAddress Unlisted = 0
 abbrev pub strappingNumber : Strapping → ℕ
 strappingNumber (Straps p) = 0
 strappingNumber Outside = 11
+
+-- 0 and the address for pins that are listed, 8 and no address for all others
+abbrev pub addressNumber : Pins → ℕ
+addressNumber p = if listed p then 0 else 8
+
+abbrev pub addressValue : Pins → ℕ
+addressValue p = if listed p then firstAddress p + lowBits p else 0
+
+-- 0 for an address that has a strapping, 11 for all others
+abbrev pub strapsNumber : ℕ → ℕ
+strapsNumber a = if inRange a then 0 else 11

@@ -3,13 +3,14 @@
 -- among the premises of ReserveLasts and PartnerNext.
 -- Assumes nothing.
 use mathlib.Core.Path.{_≡_}
+use lib.Dec.{leb}
 use Rattle.arbiter.specs.Types.{ℕ, _+_, Bool, true, not, _&&_, List, [], _∷_, _++_, eqb, ltb, Master, Zero, One, Device, Raw}
 use Rattle.arbiter.specs.Words.{partner, of}
 use Rattle.arbiter.specs.State.{owns, connected, isIdle}
 use Rattle.arbiter.specs.Effects.{idleLimit}
 use Rattle.arbiter.specs.Steps.{step, runFrom, run}
 use Rattle.arbiter.specs.AuditWords.{next, requests, resting, reserveOf, idleTimerOn, isAccepted, reset, tick, withdrawalOf, stopOf, grantTaken, grantEnded, ticksIn, never, throughout}
-use Rattle.arbiter.specs.Marks.{raw, command, write, stop, pair, lines, tick as aTick, pulse, sets, times}
+use Rattle.arbiter.specs.Marks.{raw, command, write, stop, pair, lines, tick as aTick, pulse, reset as pinReset, generalCall, sets, times}
 
 -- ---- the premises of each statement, in its order, as tests
 
@@ -19,10 +20,34 @@ oneConnected m rs = connected m (run rs) ∷ []
 abbrev pub apartUnowned : List Raw → List Bool
 apartUnowned rs = not (owns Zero (run rs)) ∷ not (owns One (run rs)) ∷ []
 
+-- m owns, and r is a reset
+abbrev pub resetEnds : Master → Device → Raw → List Bool
+resetEnds m d r = owns m d ∷ reset r d ∷ []
+
 abbrev pub reserveLasts : Master → List Raw → Raw → List Raw → List Bool
 reserveLasts m rs r later =
     let d : Device = next (run rs) r in
     grantTaken m r (run rs) ∷ ltb (ticksIn d later) (reserveOf m d) ∷ never reset d later ∷ never (withdrawalOf m) d later ∷ []
+
+abbrev pub reserveEnds : Master → List Raw → Raw → List Raw → Raw → List Bool
+reserveEnds m rs r later t =
+    let d : Device = next (run rs) r in
+    grantTaken m r (run rs) ∷ eqb (ticksIn d later + 1) (reserveOf m d) ∷ tick t (runFrom d later) ∷ never reset d later
+    ∷ never (withdrawalOf m) d later ∷ isIdle ((next (runFrom d later) t) .bus) ∷ []
+
+abbrev pub reserveExact : Master → List Raw → Raw → List Raw → Raw → List Bool
+reserveExact m rs r later e =
+    let d : Device = next (run rs) r in
+    let x : Device = runFrom d later in
+    grantTaken m r (run rs) ∷ throughout (owns m) d later ∷ ltb 0 (reserveOf m d) ∷ leb (reserveOf m d) (ticksIn d (later ++ e ∷ []))
+    ∷ not (reset e x) ∷ not (withdrawalOf m e x) ∷ []
+
+-- with the bus idle after e, or not
+abbrev pub exactIdle : Master → List Raw → Raw → List Raw → Raw → List Bool
+exactIdle m rs r later e = isIdle ((next (runFrom (next (run rs) r) later) e) .bus) ∷ reserveExact m rs r later e
+
+abbrev pub exactBusy : Master → List Raw → Raw → List Raw → Raw → List Bool
+exactBusy m rs r later e = not (isIdle ((next (runFrom (next (run rs) r) later) e) .bus)) ∷ reserveExact m rs r later e
 
 abbrev pub partnerNext : Master → List Raw → Raw → List Bool
 partnerNext m rs r = grantEnded m r (run rs) ∷ not (reset r (run rs)) ∷ requests (partner m) (next (run rs) r) ∷ []
@@ -42,6 +67,13 @@ nextAtStop m rs r later t =
 
 abbrev pub partnerInTime : Master → List Raw → Raw → List Raw → Raw → List Bool
 partnerInTime m rs r later t =
+    let d : Device = next (run rs) r in
+    let end : Device = next (runFrom d later) t in
+    grantTaken m r (run rs) ∷ eqb (ticksIn d later + 1) (reserveOf m d) ∷ tick t (runFrom d later) ∷ never reset d later
+    ∷ never (withdrawalOf m) d later ∷ requests (partner m) end ∷ isIdle (end .bus) ∷ resting (partner m) end ∷ []
+
+abbrev pub partnerInTimeThroughout : Master → List Raw → Raw → List Raw → Raw → List Bool
+partnerInTimeThroughout m rs r later t =
     let d : Device = next (run rs) r in
     let end : Device = next (runFrom d later) t in
     grantTaken m r (run rs) ∷ eqb (ticksIn d later + 1) (reserveOf m d) ∷ tick t (runFrom d later) ∷ never reset d later
@@ -95,6 +127,10 @@ busStart = lines 1 0 1
 abbrev pub busStop : Raw
 busStop = lines 1 1 1
 
+-- of box14-rt50, what comes after the grant: a transfer, the partner p that sets its RT and asks, and so many ticks
+abbrev pub box14Waits : Master → ℕ → List Raw
+box14Waits p ticks = busStart ∷ busStop ∷ setsRt p 50 ++ setsContr p 0x05 ++ times ticks aTick
+
 -- ---- the rows
 
 abbrev pub bothMasters : (Master → List Bool) → List Bool
@@ -113,12 +149,26 @@ witnesses =
     ++ apartUnowned []
     ++ bothMasters (λ m. apartUnowned (setsContr m 0x05 ++ writesContr m 0x04))
     ++ bothMasters (λ m. apartUnowned (setsRt m 2 ++ setsContr m 0x0D ++ times 2 aTick))
+    -- the partner's soft reset and the pin reset, before an owner with RT 50 has had a tick
+    ++ bothMasters (λ m. resetEnds m (run (setsRt m 50 ++ setsContr m 0x05)) (generalCall (number (partner m)) 0x06))
+    ++ bothMasters (λ m. resetEnds m (run (setsRt m 50 ++ setsContr m 0x05)) pinReset)
     -- RT 50, 49 ticks: the partner asks, the bus is busy for a while, and an RT of 1 is written in vain
     ++ bothMasters
     (λ m. reserveLasts m (setsRt m 50 ++ writesContr m 0x01) (stopOn m) (setsContr (partner m) 0x81 ++ busStart ∷ times 20 aTick ++ busStop ∷ setsRt m 1 ++ times 29 aTick))
     -- RT 1, no tick but a refused STOP; RT 255, 254 ticks, timer on
     ++ bothMasters (λ m. reserveLasts m (setsRt m 1 ++ writesContr m 0x01) (stopOn m) (setsContr (partner m) 0x81 ++ stopOn m ∷ []))
     ++ bothMasters (λ m. reserveLasts m (setsRt m 255 ++ writesContr m 0x21) (stopOn m) (setsContr (partner m) 0x01 ++ times 254 aTick))
+    -- lost at the tick that makes as many as the reserve: box14-rt50's own; RT 1; RT 255, the bus busy for a while and nobody else asking
+    ++ bothMasters (λ m. reserveEnds m (setsRt m 50 ++ writesContr m 0x05) (stopOn m) (box14Waits (partner m) 49) aTick)
+    ++ bothMasters (λ m. reserveEnds m (setsRt m 1 ++ writesContr m 0x01) (stopOn m) [] aTick)
+    ++ bothMasters
+    (λ m. reserveEnds m (setsRt m 255 ++ writesContr m 0x21) (stopOn m) (busStart ∷ times 200 aTick ++ busStop ∷ times 54 aTick) aTick)
+    -- RT 2, a transfer over five ticks: kept at the second tick and at the fifth, lost in the LINES event that is the STOP; and lost at the
+    -- second tick on an idle bus
+    ++ bothMasters (λ m. exactBusy m (setsRt m 2 ++ writesContr m 0x05) (stopOn m) (aTick ∷ busStart ∷ []) aTick)
+    ++ bothMasters (λ m. exactBusy m (setsRt m 2 ++ writesContr m 0x05) (stopOn m) (aTick ∷ busStart ∷ times 3 aTick) aTick)
+    ++ bothMasters (λ m. exactIdle m (setsRt m 2 ++ writesContr m 0x05) (stopOn m) (aTick ∷ busStart ∷ times 4 aTick) busStop)
+    ++ bothMasters (λ m. exactIdle m (setsRt m 2 ++ writesContr m 0x05) (stopOn m) (aTick ∷ []) aTick)
     -- a loss, and a withdrawal, with the partner at rest
     ++ bothMasters (λ m. nextAtRest m (setsRt m 5 ++ setsContr m 0x01 ++ setsContr (partner m) 0x01 ++ times 4 aTick) aTick)
     ++ bothMasters (λ m. nextAtRest m (setsContr m 0x81 ++ setsContr (partner m) 0x01 ++ command (number m) 1 ∷ []) (write (number m) 0x00))
@@ -129,12 +179,21 @@ witnesses =
     -- a PAIR in which the owner withdraws and its partner asks
     ++ bothMasters
     (λ m. nextAtStop m (setsContr m 0x01 ++ command 0 1 ∷ command 1 1 ∷ []) (pair (of m 0x00 0x01) (of m 0x01 0x00)) (aTick ∷ []) (stopOn (partner m)))
+    -- traces/box14-rt50: RT 50, a transfer; then the partner sets its own RT and asks, and waits; t is the 50th tick
+    ++ bothMasters (λ m. partnerInTime m (setsRt m 50 ++ writesContr m 0x05) (stopOn m) (box14Waits (partner m) 49) aTick)
+    -- RT 3: the partner asks after the second tick, and its STOP is the last event before t
+    ++ bothMasters
+    (λ m. partnerInTime m (setsRt m 3 ++ writesContr m 0x01) (stopOn m) (times 2 aTick ++ writesContr (partner m) 0x81 ++ stopOn (partner m) ∷ []) aTick)
     -- RT 5, the partner asks before the grant: on an idle bus, and on one that is busy for a while
     ++ bothMasters
-    (λ m. partnerInTime m (setsRt m 5 ++ writesContr m 0x01 ++ setsContr (partner m) 0x01) (stopOn m) (times 4 aTick) aTick)
+    (λ m. partnerInTimeThroughout m (setsRt m 5 ++ writesContr m 0x01 ++ setsContr (partner m) 0x01) (stopOn m) (times 4 aTick) aTick)
     ++ bothMasters
-    (λ m. partnerInTime m (setsRt m 5 ++ writesContr m 0x01 ++ setsContr (partner m) 0x01) (stopOn m)
+    (λ m. partnerInTimeThroughout m (setsRt m 5 ++ writesContr m 0x01 ++ setsContr (partner m) 0x01) (stopOn m)
     (aTick ∷ busStart ∷ aTick ∷ aTick ∷ busStop ∷ aTick ∷ []) aTick)
+    -- and m withdraws after two ticks and asks again
+    ++ bothMasters
+    (λ m. partnerInTimeThroughout m (setsRt m 5 ++ writesContr m 0x01 ++ setsContr (partner m) 0x01) (stopOn m)
+    (times 2 aTick ++ setsContr m 0x00 ++ setsContr m 0x81 ++ times 2 aTick) aTick)
     -- RT 00h, timer off, the partner waits for 300 ticks
     ++ bothMasters (λ m. heldUntilLetGo m (writesContr m 0x01) (stopOn m) (setsContr (partner m) 0x81 ++ times 300 aTick))
     -- RT 00h, timer on: ticks 100 and 101 on an idle bus; and the timer turned on when the count has long been 101

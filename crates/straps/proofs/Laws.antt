@@ -8,6 +8,7 @@ use lib.Dec.{eqb, ltb}
 use borrow.Author.Tests.{ltb-true, ltb-false, eqb-true, not-true, eq-eqb}
 use Rattle.arbiter.specs.Words.{if_then_else_}
 use Rattle.arbiter.specs.Straps.{isTie, isCode, listed, firstAddress, lowBits, inRange, addressOf, hasAddress, pins, settings, strapsOf}
+use Rattle.arbiter.specs.Straps.{strappedNumber, strappedAddress, strappingNumber, addressNumber, addressValue, strapsNumber}
 use Rattle.arbiter.specs.declared.Pins.{Pins}
 use Rattle.arbiter.specs.declared.Strapped.{Strapped}
 use Rattle.arbiter.specs.declared.Strapped.the-variants.{Address, Unlisted}
@@ -121,6 +122,30 @@ back-to-address a h =
 pub none-outside : NoneOutside
 unfolding strapsOf
 none-outside a h = rw h
+
+-- ---- the paper's numbers: a call that answers by the map answers by its number and its value
+
+pub address-told : (p : Pins) (s : Strapped) → s ≡ addressOf p → (s ≡ addressOf p) × ((strappedNumber s ≡ addressNumber p) × (strappedAddress s ≡ addressValue p))
+unfolding addressOf
+address-told p s e = (e, (ap strappedNumber e ∙ number (listed p), ap strappedAddress e ∙ value (listed p)))
+  where
+    address : ℕ
+    address = firstAddress p + lowBits p
+
+    number : (b : Bool) → strappedNumber (if b then Address address else Unlisted) ≡ (if b then 0 else 8)
+    number true = refl
+    number false = refl
+
+    value : (b : Bool) → strappedAddress (if b then Address address else Unlisted) ≡ (if b then address else 0)
+    value true = refl
+    value false = refl
+
+pub straps-told : (a : ℕ) (s : Strapping) → s ≡ strapsOf a → (s ≡ strapsOf a) × (strappingNumber s ≡ strapsNumber a)
+straps-told a s e = (e, ap strappingNumber e ∙ number (inRange a) refl)
+  where
+    number : (b : Bool) → inRange a ≡ b → strappingNumber (strapsOf a) ≡ (if b then 0 else 11)
+    number true h = ap strappingNumber (back-to-address a h .1)
+    number false h = ap strappingNumber (none-outside a h)
 
 -- ---- what a search over the table needs
 

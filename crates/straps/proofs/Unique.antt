@@ -5,7 +5,7 @@ use Rattle.straps.proofs.address_of.Reads as address-of
 use Rattle.straps.proofs.straps_of.Reads as straps-of
 
 pub address-of-once : OneResult address-of.Post
-address-of-once κ a x y s t p q = once p q
+address-of-once κ a x y s t p q = once (p .0) (q .0)
 
 pub straps-of-once : OneResult straps-of.Post
-straps-of-once κ a x y s t p q = once p q
+straps-of-once κ a x y s t p q = once (p .0) (q .0)

@@ -1,7 +1,7 @@
 // The address straps: from the four pins to the address, and from the address to the pins.
 ghost use Prim.Native.Nat.{_<_};
 ghost use mathlib.Core.Path.{_≡_};
-ghost use Rattle.arbiter.specs.Straps.{addressOf, strapsOf};
+ghost use Rattle.arbiter.specs.Straps.{addressOf, strapsOf, strappedNumber, strappedAddress, strappingNumber, addressNumber, addressValue, strapsNumber};
 ghost use Rattle.straps.specs.Entries.{EntryAt, samePins};
 use arbiter::Pins;
 use arbiter::Strapped;
@@ -156,6 +156,7 @@ fn same_pins(p: Pins, q: Pins) -> bool
 // The address of four pins. Refusal 8, with no address: a code above 3, or an unlisted strapping.
 pub fn address_of(p: Pins) -> Strapped
     ensures { λ r. ⌜ r ≡ addressOf p ⌝ }
+    ensures { λ r. ⌜ (strappedNumber r ≡ addressNumber p) × (strappedAddress r ≡ addressValue p) ⌝ }
 {
     let mut k: usize = 0;
     while k < 112 {
@@ -172,6 +173,7 @@ pub fn address_of(p: Pins) -> Strapped
 // The four pins of an address. Refusal 11, with no strapping: an address outside 08h to 77h.
 pub fn straps_of(address: u8) -> Strapping
     ensures { λ r. ⌜ r ≡ strapsOf address ⌝ }
+    ensures { λ r. ⌜ strappingNumber r ≡ strapsNumber address ⌝ }
 {
     if address < 0x08 {
         return Strapping::Outside;

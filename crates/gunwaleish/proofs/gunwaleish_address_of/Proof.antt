@@ -23,10 +23,10 @@ enum-told : tie.Need-enum-told
 enum-told c = search needs
 
 returns : tie.Need-returns
-returns c = sym (zero-add _) ∙ ap packedAddress (sym (c .before .found .given .1) ∙ c .before .before .before .address-of .ensures)
+returns c = sym (zero-add _) ∙ ap packedAddress (sym (c .before .found .given .1) ∙ c .before .before .before .address-of .ensures .0)
 
 returns-2 : tie.Need-returns-2
-returns-2 c = ap packedAddress (sym (c .enum-told .given .1) ∙ c .before .before .address-of .ensures)
+returns-2 c = ap packedAddress (sym (c .enum-told .given .1) ∙ c .before .before .address-of .ensures .0)
 
 pub gunwaleish-address-of-spec : {M : Type 1} → statement M
 gunwaleish-address-of-spec =

@@ -19,10 +19,10 @@ enum-told : tie.Need-enum-told
 enum-told c = search needs
 
 returns : tie.Need-returns
-returns c = c .packed-pins .ensures ∙ ap packedPins (sym (c .before .before .found .given .1) ∙ c .before .before .before .before .straps-of .ensures)
+returns c = c .packed-pins .ensures ∙ ap packedPins (sym (c .before .before .found .given .1) ∙ c .before .before .before .before .straps-of .ensures .0)
 
 returns-2 : tie.Need-returns-2
-returns-2 c = ap packedPins (sym (c .enum-told .given .1) ∙ c .before .before .straps-of .ensures)
+returns-2 c = ap packedPins (sym (c .enum-told .given .1) ∙ c .before .before .straps-of .ensures .0)
 
 pub gunwaleish-pins-of-spec : {M : Type 1} → statement M
 gunwaleish-pins-of-spec =

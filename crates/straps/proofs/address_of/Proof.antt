@@ -7,7 +7,7 @@ use borrow.Author.Needs.{needs}
 use borrow.Author.Count.{below-more}
 use Rattle.arbiter.specs.Straps.{addressOf}
 use Rattle.arbiter.specs.declared.Strapped.the-variants.{Address}
-use Rattle.straps.proofs.Laws.{same-pins, other-pins, none-of-all}
+use Rattle.straps.proofs.Laws.{same-pins, other-pins, none-of-all, address-told}
 use Rattle.straps.proofs.address_of.Statement.{statement}
 use Rattle.straps.proofs.address_of.Tie as tie
 use Rattle.straps.proofs.address_of.Reads as reads
@@ -32,7 +32,7 @@ returns : tie.Need-returns Inv-loop μ-loop
 returns c =
     let e = c .before .before .before .entry-at in
     let same = same-pins _ _ (sym (c .before .same-pins .ensures) ∙ c .if1 .taken) in
-    sym (ap addressOf same ∙ e .ensures .by-class ∙ ap Address (sym (e .ensures .counted)))
+    address-told _ _ (sym (ap addressOf same ∙ e .ensures .by-class ∙ ap Address (sym (e .ensures .counted))))
 
 add-k : tie.Need-add-k Inv-loop μ-loop
 add-k c = search needs
@@ -51,7 +51,7 @@ loop-again c =
 returns-2 : tie.Need-returns-2 Inv-loop μ-loop
 returns-2 c =
     let loop = c .before .loop in
-    sym (none-of-all _ λ k h. loop .inv .1 k (omega arith))
+    address-told _ _ (sym (none-of-all _ λ k h. loop .inv .1 k (omega arith)))
 
 pub address-of-spec : {M : Type 1} → statement M
 address-of-spec =

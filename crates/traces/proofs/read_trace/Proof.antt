@@ -34,11 +34,11 @@ enum-told c = search needs
 
 returns-3 : tie.Need-returns-3
 unfolding readTrace readStrapped
-returns-3 c = simp (c .read-counted .ensures, c .before .before .strapped .given .1, ← c .before .before .before .before .address-of .ensures, ← c .before .before .before .before .before .pins-in .ensures, le-ltb _ _ (c .before .before .before .before .before .before .if3 .left), eq-eqb _ _ (c .before .before .before .before .before .before .before .if2 .taken), le-ltb _ _ (c .before .before .before .before .before .before .before .before .before .if1 .left))
+returns-3 c = simp (c .read-counted .ensures, c .before .before .strapped .given .1, ← c .before .before .before .before .address-of .ensures .0, ← c .before .before .before .before .before .pins-in .ensures, le-ltb _ _ (c .before .before .before .before .before .before .if3 .left), eq-eqb _ _ (c .before .before .before .before .before .before .before .if2 .taken), le-ltb _ _ (c .before .before .before .before .before .before .before .before .before .if1 .left))
 
 returns-4 : tie.Need-returns-4
 unfolding readTrace readStrapped
-returns-4 c = simp (c .enum-told .given .1, ← c .before .before .address-of .ensures, ← c .before .before .before .pins-in .ensures, le-ltb _ _ (c .before .before .before .before .if3 .left), eq-eqb _ _ (c .before .before .before .before .before .if2 .taken), le-ltb _ _ (c .before .before .before .before .before .before .before .if1 .left))
+returns-4 c = simp (c .enum-told .given .1, ← c .before .before .address-of .ensures .0, ← c .before .before .before .pins-in .ensures, le-ltb _ _ (c .before .before .before .before .if3 .left), eq-eqb _ _ (c .before .before .before .before .before .if2 .taken), le-ltb _ _ (c .before .before .before .before .before .before .before .if1 .left))
 
 returns-5 : tie.Need-returns-5
 unfolding readTrace readStrapped
