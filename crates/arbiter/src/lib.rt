@@ -1,5 +1,21 @@
 // The arbiter's types. What they mean is written in specs/, one file for each section of document 01; specs/Lib.antt lists them in its order.
 
+// ---- limits
+
+// The idle count stops here, and an owner with RT 00h and IDLE_TIMER_DIS then loses: idleLimit in specs/Effects.
+pub const IDLE_LIMIT: u8 = 101;
+
+// A low count stops here, and the bus is hung: sclHungLimit and sdaHungLimit in specs/State.
+pub const SCL_HUNG_LIMIT: u16 = 500;
+
+pub const SDA_HUNG_LIMIT: u16 = 501;
+
+// So many ticks a soft reset holds SCL low where SMBUS_SWRST asks for it: holdTicks in specs/Effects.
+pub const HOLD_TICKS: u8 = 35;
+
+// The tick that makes SCL low for so long cuts the owner off where SMBUS_DIS asks for it: cutTicks in specs/Order.
+pub const CUT_TICKS: u16 = 35;
+
 // ---- who
 
 // The two masters, each at its own upstream port.

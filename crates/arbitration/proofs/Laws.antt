@@ -18,7 +18,7 @@ use Rattle.arbiter.specs.declared.Last.the-variants.{Was}
 use Rattle.arbiter.specs.declared.Side.{Side}
 use Rattle.arbiter.specs.declared.Arbitration.{Arbitration}
 use Rattle.arbiter.specs.declared.Device.{Device}
-use Rattle.parts.specs.Whole.{arbWith, deviceWith}
+use Rattle.fields.specs.Whole.{arbWith, deviceWith}
 use Rattle.registers.proofs.Laws.{unraised}
 use Rattle.arbitration.specs.Cleared.{claimsTurn, contrUnless}
 

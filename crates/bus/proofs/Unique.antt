@@ -10,7 +10,6 @@ use Rattle.bus.proofs.ticked_bus.Reads as ticked-bus
 use Rattle.bus.proofs.settled_bus.Reads as settled-bus
 use Rattle.bus.proofs.released_if.Reads as released-if
 use Rattle.bus.proofs.idle_kept.Reads as idle-kept
-use Rattle.bus.proofs.fresh_bus.Reads as fresh-bus
 
 pub scl-high-once : OneResult scl-high.Post
 scl-high-once κ a x y s t p q = once p q
@@ -38,6 +37,3 @@ released-if-once κ a x y s t p q = once p q
 
 pub idle-kept-once : OneResult idle-kept.Post
 idle-kept-once κ a x y s t p q = once p q
-
-pub fresh-bus-once : OneResult fresh-bus.Post
-fresh-bus-once κ a x y s t p q = once p q

@@ -1,13 +1,16 @@
-// The downstream bus: what it shows, one tick of its counts, its levels after an event, its drives, and a fresh one.
+// The downstream bus: what it shows, one tick of its counts, its levels after an event, and its drives.
 ghost use mathlib.Core.Path.{_≡_};
 ghost use mathlib.Core.Bool.{false};
 ghost use Rattle.arbiter.specs.Words.{if_then_else_};
 ghost use Rattle.arbiter.specs.Parts.{withIdle};
 ghost use Rattle.arbiter.specs.State.{sclHigh, sdaHigh, isIdle, busHung};
 ghost use Rattle.arbiter.specs.Registers.{released};
-ghost use Rattle.arbiter.specs.Effects.{outside, tickedBus, freshBus};
+ghost use Rattle.arbiter.specs.Effects.{outside, tickedBus};
 ghost use Rattle.arbiter.specs.Order.{busyAfter, sclChanged, settledBus};
 use arbiter::Bus;
+use arbiter::IDLE_LIMIT;
+use arbiter::SCL_HUNG_LIMIT;
+use arbiter::SDA_HUNG_LIMIT;
 use bits::counted_u8;
 use bits::counted_u16;
 use bits::less_one;
@@ -35,7 +38,7 @@ pub fn is_idle(b: Bus) -> bool
 pub fn bus_hung(b: Bus) -> bool
     ensures { λ r. ⌜ r ≡ busHung b ⌝ }
 {
-    (b.lowscl == 500) | (b.lowsda == 501)
+    (b.lowscl == SCL_HUNG_LIMIT) | (b.lowsda == SDA_HUNG_LIMIT)
 }
 
 // New outside levels.
@@ -71,9 +74,9 @@ pub fn ticked_bus(b: Bus) -> Bus
         drivesda: b.drivesda,
         busy: b.busy,
         hold: less_one(b.hold),
-        idle: counted_u8(101, idle, b.idle),
-        lowscl: counted_u16(500, !scl, b.lowscl),
-        lowsda: counted_u16(501, !sda, b.lowsda),
+        idle: counted_u8(IDLE_LIMIT, idle, b.idle),
+        lowscl: counted_u16(SCL_HUNG_LIMIT, !scl, b.lowscl),
+        lowsda: counted_u16(SDA_HUNG_LIMIT, !sda, b.lowsda),
     }
 }
 
@@ -142,23 +145,5 @@ pub fn idle_kept(kept: bool, b: Bus) -> Bus
         idle: pick_u8(kept, b.idle, 0),
         lowscl: b.lowscl,
         lowsda: b.lowsda,
-    }
-}
-
-// After a reset: the outside levels alone are kept, and SCL is held for so many ticks.
-pub fn fresh_bus(hold: u8, b: Bus) -> Bus
-    ensures { λ r. ⌜ r ≡ freshBus hold b ⌝ }
-{
-    Bus {
-        outscl: b.outscl,
-        outsda: b.outsda,
-        intin: b.intin,
-        drivescl: true,
-        drivesda: true,
-        busy: false,
-        hold,
-        idle: 0,
-        lowscl: 0,
-        lowsda: 0,
     }
 }

@@ -19,7 +19,7 @@ use Rattle.arbiter.specs.declared.Clock.the-variants.{NoClock, ClockLow, ClockH
 use Rattle.arbiter.specs.declared.Arbitration.{Arbitration}
 use Rattle.arbiter.specs.declared.Side.{Side}
 use Rattle.arbiter.specs.declared.Device.{Device}
-use Rattle.parts.specs.Whole.{deviceWith}
+use Rattle.fields.specs.Whole.{deviceWith}
 use Rattle.connection.specs.Links.{still, joining, clocking, linking, linkOf, contrEnded, arbLinked}
 use Rattle.connection.specs.declared.Link.{Link}
 

@@ -1,7 +1,9 @@
-// Part 7 of a step: the switch, and the initialisation before it closes.
+// Part 7 of a step: the switch, and the initialisation before it closes; and when it has nothing to do.
 ghost use mathlib.Core.Path.{_≡_};
 ghost use Rattle.arbiter.specs.Parts.{withContr};
+ghost use Rattle.arbiter.specs.State.{isInitialising};
 ghost use Rattle.arbiter.specs.Order.{connect};
+ghost use Rattle.connection.specs.Quiet.{isApart, linked, switchStays};
 ghost use Rattle.connection.specs.Links.{still, joining, clocking, linking, linkOf, contrEnded, arbLinked};
 use arbiter::Arbitration;
 use arbiter::Clock;
@@ -11,16 +13,27 @@ use arbiter::Master;
 use arbiter::Side;
 use arbiter::Switch;
 use arbiter::Turn;
-use parts::arb_with;
-use parts::device_with;
-use parts::last_of;
-use parts::owns_turn;
-use parts::pointer_of;
-use parts::port_of;
-use parts::same_master;
-use parts::side_with;
-use parts::switch_of;
-use parts::turn_of;
+use fields::arb_with;
+use fields::device_with;
+use fields::last_of;
+use fields::owns_turn;
+use fields::pointer_of;
+use fields::port_of;
+use fields::same_master;
+use fields::side_with;
+use fields::switch_of;
+use fields::turn_of;
+
+// An initialisation runs.
+pub fn initialises(w: Switch) -> bool
+    ensures { λ r. ⌜ r ≡ isInitialising w ⌝ }
+{
+    match w {
+        Switch::Apart => false,
+        Switch::Initialising(_, _) => true,
+        Switch::Closed(_) => false,
+    }
+}
 
 // What becomes of the switch: an initialisation starts, ends, or ends in failure.
 pub struct Link {
@@ -183,4 +196,41 @@ pub fn connect_of(c: Clock, d: Device) -> Device
         d.bus,
         linked_arb(l, d.arb),
     )
+}
+
+// ---- when part 7 has nothing to do
+
+fn is_apart(w: Switch) -> bool
+    ensures { λ r. ⌜ r ≡ isApart w ⌝ }
+{
+    match w {
+        Switch::Apart => true,
+        Switch::Initialising(_, _) => false,
+        Switch::Closed(_) => false,
+    }
+}
+
+// The switch is as m's grant and its BUS_CONNECT have it.
+fn is_linked(m: Master, busconnect: bool, w: Switch) -> bool
+    ensures { λ r. ⌜ r ≡ linked m busconnect w ⌝ }
+{
+    match w {
+        Switch::Apart => !busconnect,
+        Switch::Initialising(k, _) => busconnect & same_master(m, k),
+        Switch::Closed(k) => busconnect & same_master(m, k),
+    }
+}
+
+// Part 7 has nothing to do, if the event is no clock: the switch is as the turn and BUS_CONNECT have it.
+pub fn switch_stays(t: Turn, d: Device) -> bool
+    ensures { λ r. ⌜ r ≡ switchStays t d ⌝ }
+{
+    match t {
+        Turn::Nobody => is_apart(switch_of(d.arb)),
+        Turn::Claims(_) => is_apart(switch_of(d.arb)),
+        Turn::Owns(m) => match m {
+            Master::Zero => is_linked(m, d.side0.contr.busconnect, switch_of(d.arb)),
+            Master::One => is_linked(m, d.side1.contr.busconnect, switch_of(d.arb)),
+        },
+    }
 }

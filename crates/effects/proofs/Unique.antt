@@ -2,14 +2,10 @@
 -- Assumes nothing.
 use Rattle.arbiter.proofs.Once.{OneResult, once}
 use Rattle.effects.proofs.did_so.Reads as did-so
-use Rattle.effects.proofs.fresh_device.Reads as fresh-device
 use Rattle.effects.proofs.effect_of.Reads as effect-of
 
 pub did-so-once : OneResult did-so.Post
 did-so-once κ a x y s t p q = once p q
-
-pub fresh-device-once : OneResult fresh-device.Post
-fresh-device-once κ a x y s t p q = once p q
 
 pub effect-of-once : OneResult effect-of.Post
 effect-of-once κ a x y s t p q = once p q

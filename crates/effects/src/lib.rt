@@ -1,44 +1,43 @@
-// Part 1 of a step: each event's own effect, with its outcome and the byte read. Out of sequence, outcome 4, changes nothing.
+// Part 1 of a step: each event's own effect, with its outcome and the byte read. An event out of sequence changes nothing.
 ghost use mathlib.Core.Path.{_≡_};
-ghost use Rattle.arbiter.specs.Words.{side};
-ghost use Rattle.arbiter.specs.Effects.{written, paired, wasReset, powerUp};
+ghost use Rattle.arbiter.specs.Effects.{tickedArb};
 ghost use Rattle.arbiter.specs.declared.Master.the-variants.{Zero, One};
 ghost use Rattle.arbiter.specs.declared.Event.the-variants.{Command, Write, Read, Stop, Pair, Lines, Tick, Pulse, Reset, GeneralCall};
 ghost use Rattle.effects.specs.Effect.{did, effectOf};
-use arbiter::Bus;
-use arbiter::Control;
+use arbiter::Arbitration;
 use arbiter::Device;
 use arbiter::Event;
 use arbiter::Master;
-use bits::worth_of;
-use bus::fresh_bus;
+use arbiter::Outcome;
+use bits::less_one;
 use bus::outside_of;
 use bus::ticked_bus;
-use parts::device_with;
-use parts::is_at_rest;
-use parts::owns_turn;
-use parts::pointer_of;
-use parts::port_of;
-use parts::switch_of;
-use parts::turn_of;
-use parts::with_turn;
-use registers::drives_written;
-use registers::mail_written;
+use connection::initialises;
+use events::acknowledged_number;
+use events::outcome_number;
+use fields::arb_with;
+use fields::device_with;
+use fields::last_of;
+use fields::owns_turn;
+use fields::pointer_of;
+use fields::port_of;
+use fields::switch_of;
+use fields::turn_of;
+use ports::commanded_side;
+use ports::is_at_rest;
+use ports::is_for_writing;
+use ports::stopped_side;
+use registers::empties_own;
+use registers::fallen_side;
+use registers::reader_side;
 use registers::register_byte;
-use registers::turn_written;
-use registers::writer_side;
-use sides::commanded_side;
-use sides::empties_own;
-use sides::fallen_side;
-use sides::fresh_arb;
-use sides::fresh_side;
-use sides::initialises;
-use sides::is_for_writing;
-use sides::reader_side;
-use sides::sender_side;
-use sides::stopped_side;
-use sides::ticked_arb;
-use sides::writable_at;
+use registers::sender_side;
+use resets::reset_device;
+use resets::soft_reset;
+use writing::paired_by;
+use writing::writable_at;
+use writing::written_by_0;
+use writing::written_by_1;
 
 pub struct Effect {
     pub device: Device,
@@ -61,7 +60,7 @@ pub fn did_so(d: Device, number: u8, byte: u8) -> Effect
 fn on_command(m: Master, c: u8, d: Device) -> Effect
     ensures { λ r. ⌜ r ≡ effectOf (Command m c) d ⌝ }
 {
-    let number = worth_of(1, !(c / 8 % 16 == 0));
+    let number = acknowledged_number(c / 8 % 16 == 0);
     match m {
         Master::Zero => did_so(
             device_with(commanded_side(c, d.side0), d.side1, d.bus, d.arb),
@@ -78,50 +77,14 @@ fn on_command(m: Master, c: u8, d: Device) -> Effect
 
 // ---- WRITE and PAIR
 
-fn is_connect(c: Control) -> bool
-    ensures { λ r. ⌜ r ≡ c .busconnect ⌝ }
-{
-    c.busconnect
-}
-
-fn written_by_0(v: u8, d: Device) -> Device
-    ensures { λ r. ⌜ r ≡ written Zero v d ⌝ }
-{
-    let at = pointer_of(d.side0);
-    let granted = owns_turn(Master::Zero, turn_of(d.arb));
-    let connect = is_connect(d.side0.contr);
-    let turn = turn_written(granted, at, v, turn_of(d.arb));
-    device_with(
-        writer_side(granted, v, d.side0),
-        mail_written(at, v, d.side1),
-        drives_written(granted, connect, at, v, d.bus),
-        with_turn(turn, d.arb),
-    )
-}
-
-fn written_by_1(v: u8, d: Device) -> Device
-    ensures { λ r. ⌜ r ≡ written One v d ⌝ }
-{
-    let at = pointer_of(d.side1);
-    let granted = owns_turn(Master::One, turn_of(d.arb));
-    let connect = is_connect(d.side1.contr);
-    let turn = turn_written(granted, at, v, turn_of(d.arb));
-    device_with(
-        mail_written(at, v, d.side0),
-        writer_side(granted, v, d.side1),
-        drives_written(granted, connect, at, v, d.bus),
-        with_turn(turn, d.arb),
-    )
-}
-
 fn on_write_0(v: u8, d: Device) -> Effect
     ensures { λ r. ⌜ r ≡ effectOf (Write Zero v) d ⌝ }
 {
     if is_for_writing(port_of(d.side0)) {
         let ok = writable_at(pointer_of(d.side0));
-        did_so(written_by_0(v, d), worth_of(1, !ok), 0)
+        did_so(written_by_0(v, d), acknowledged_number(ok), 0)
     } else {
-        did_so(d, 4, 0)
+        did_so(d, outcome_number(Outcome::OutOfSequence), 0)
     }
 }
 
@@ -130,9 +93,9 @@ fn on_write_1(v: u8, d: Device) -> Effect
 {
     if is_for_writing(port_of(d.side1)) {
         let ok = writable_at(pointer_of(d.side1));
-        did_so(written_by_1(v, d), worth_of(1, !ok), 0)
+        did_so(written_by_1(v, d), acknowledged_number(ok), 0)
     } else {
-        did_so(d, 4, 0)
+        did_so(d, outcome_number(Outcome::OutOfSequence), 0)
     }
 }
 
@@ -145,38 +108,14 @@ fn on_write(m: Master, v: u8, d: Device) -> Effect
     }
 }
 
-fn paired_by(v0: u8, v1: u8, d: Device) -> Device
-    ensures { λ r. ⌜ r ≡ paired v0 v1 d ⌝ }
-{
-    let at0 = pointer_of(d.side0);
-    let at1 = pointer_of(d.side1);
-    let owns0 = owns_turn(Master::Zero, turn_of(d.arb));
-    let owns1 = owns_turn(Master::One, turn_of(d.arb));
-    let connect0 = is_connect(d.side0.contr);
-    let connect1 = is_connect(d.side1.contr);
-    let turn = turn_written(owns1, at1, v1, turn_written(owns0, at0, v0, turn_of(d.arb)));
-    device_with(
-        mail_written(at1, v1, writer_side(owns0, v0, d.side0)),
-        mail_written(at0, v0, writer_side(owns1, v1, d.side1)),
-        drives_written(
-            owns1,
-            connect1,
-            at1,
-            v1,
-            drives_written(owns0, connect0, at0, v0, d.bus),
-        ),
-        with_turn(turn, d.arb),
-    )
-}
-
 fn on_pair(v0: u8, v1: u8, d: Device) -> Effect
     ensures { λ r. ⌜ r ≡ effectOf (Pair v0 v1) d ⌝ }
 {
     if is_for_writing(port_of(d.side0)) & is_for_writing(port_of(d.side1)) {
         let ok = writable_at(pointer_of(d.side0)) & writable_at(pointer_of(d.side1));
-        did_so(paired_by(v0, v1, d), worth_of(1, !ok), 0)
+        did_so(paired_by(v0, v1, d), acknowledged_number(ok), 0)
     } else {
-        did_so(d, 4, 0)
+        did_so(d, outcome_number(Outcome::OutOfSequence), 0)
     }
 }
 
@@ -195,7 +134,7 @@ fn on_read(m: Master, d: Device) -> Effect
                 d.bus,
                 d.arb,
             ),
-            0,
+            outcome_number(Outcome::Done),
             register_byte(owns0, owns1, d.side0, d.side1, d.bus, d.arb.initfail),
         ),
         Master::One => did_so(
@@ -205,7 +144,7 @@ fn on_read(m: Master, d: Device) -> Effect
                 d.bus,
                 d.arb,
             ),
-            0,
+            outcome_number(Outcome::Done),
             register_byte(owns1, owns0, d.side1, d.side0, d.bus, d.arb.initfail),
         ),
     }
@@ -217,11 +156,11 @@ fn stop_by_0(d: Device) -> Effect
     ensures { λ r. ⌜ r ≡ effectOf (Stop Zero) d ⌝ }
 {
     if is_at_rest(port_of(d.side0)) {
-        did_so(d, 4, 0)
+        did_so(d, outcome_number(Outcome::OutOfSequence), 0)
     } else {
         did_so(
             device_with(stopped_side(d.side0), d.side1, d.bus, d.arb),
-            0,
+            outcome_number(Outcome::Done),
             0,
         )
     }
@@ -231,11 +170,11 @@ fn stop_by_1(d: Device) -> Effect
     ensures { λ r. ⌜ r ≡ effectOf (Stop One) d ⌝ }
 {
     if is_at_rest(port_of(d.side1)) {
-        did_so(d, 4, 0)
+        did_so(d, outcome_number(Outcome::OutOfSequence), 0)
     } else {
         did_so(
             device_with(d.side0, stopped_side(d.side1), d.bus, d.arb),
-            0,
+            outcome_number(Outcome::Done),
             0,
         )
     }
@@ -263,8 +202,20 @@ fn on_lines(scl: bool, sda: bool, intin: bool, d: Device) -> Effect
             outside_of(scl, sda, intin, d.bus),
             d.arb,
         ),
+        outcome_number(Outcome::Done),
         0,
-        0,
+    )
+}
+
+fn ticked_arb(a: Arbitration) -> Arbitration
+    ensures { λ r. ⌜ r ≡ tickedArb a ⌝ }
+{
+    arb_with(
+        last_of(a),
+        a.initfail,
+        switch_of(a),
+        less_one(a.reserve),
+        turn_of(a),
     )
 }
 
@@ -273,7 +224,7 @@ fn on_tick(d: Device) -> Effect
 {
     did_so(
         device_with(d.side0, d.side1, ticked_bus(d.bus), ticked_arb(d.arb)),
-        0,
+        outcome_number(Outcome::Done),
         0,
     )
 }
@@ -282,71 +233,27 @@ fn on_pulse(sda: bool, d: Device) -> Effect
     ensures { λ r. ⌜ r ≡ effectOf (Pulse sda) d ⌝ }
 {
     if initialises(switch_of(d.arb)) {
-        did_so(d, 0, 0)
+        did_so(d, outcome_number(Outcome::Done), 0)
     } else {
-        did_so(d, 4, 0)
+        did_so(d, outcome_number(Outcome::OutOfSequence), 0)
     }
 }
 
 // ---- resets
 
-fn reset_device(hold: u8, d: Device) -> Device
-    ensures { λ r. ⌜ r ≡ wasReset hold d ⌝ }
-{
-    device_with(
-        fresh_side(),
-        fresh_side(),
-        fresh_bus(hold, d.bus),
-        fresh_arb(),
-    )
-}
-
-fn swrst_of(m: Master, d: Device) -> bool
-    ensures { λ r. ⌜ r ≡ (side m d) .contr .swrst ⌝ }
-{
-    match m {
-        Master::Zero => d.side0.contr.swrst,
-        Master::One => d.side1.contr.swrst,
-    }
-}
-
 fn on_reset(d: Device) -> Effect
     ensures { λ r. ⌜ r ≡ effectOf Reset d ⌝ }
 {
-    did_so(reset_device(0, d), 0, 0)
+    did_so(reset_device(0, d), outcome_number(Outcome::Done), 0)
 }
 
 fn on_general_call(m: Master, b: u8, d: Device) -> Effect
     ensures { λ r. ⌜ r ≡ effectOf (GeneralCall m b) d ⌝ }
 {
     if b == 0x06 {
-        let hold = worth_of(35, swrst_of(m, d));
-        did_so(reset_device(hold, d), 0, 0)
+        did_so(soft_reset(m, d), outcome_number(Outcome::Done), 0)
     } else {
-        did_so(d, 1, 0)
-    }
-}
-
-// A device after power-up.
-pub fn fresh_device() -> Device
-    ensures { λ r. ⌜ r ≡ powerUp ⌝ }
-{
-    Device {
-        side0: fresh_side(),
-        side1: fresh_side(),
-        bus: Bus {
-            outscl: true,
-            outsda: true,
-            intin: true,
-            drivescl: true,
-            drivesda: true,
-            busy: false,
-            hold: 0,
-            idle: 0,
-            lowscl: 0,
-            lowsda: 0,
-        },
-        arb: fresh_arb(),
+        did_so(d, outcome_number(Outcome::NotAcknowledged), 0)
     }
 }
 

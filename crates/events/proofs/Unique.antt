@@ -3,6 +3,8 @@
 use Rattle.arbiter.proofs.Once.{OneResult, once}
 use Rattle.events.proofs.decode_raw.Reads as decode-raw
 use Rattle.events.proofs.decoded_number.Reads as decoded-number
+use Rattle.events.proofs.outcome_number.Reads as outcome-number
+use Rattle.events.proofs.acknowledged_number.Reads as acknowledged-number
 use Rattle.events.proofs.is_tick.Reads as is-tick
 use Rattle.events.proofs.clock_of.Reads as clock-of
 
@@ -11,6 +13,12 @@ decode-raw-once κ a x y s t p q = once p q
 
 pub decoded-number-once : OneResult decoded-number.Post
 decoded-number-once κ a x y s t p q = once p q
+
+pub outcome-number-once : OneResult outcome-number.Post
+outcome-number-once κ a x y s t p q = once p q
+
+pub acknowledged-number-once : OneResult acknowledged-number.Post
+acknowledged-number-once κ a x y s t p q = once p q
 
 pub is-tick-once : OneResult is-tick.Post
 is-tick-once κ a x y s t p q = once p q

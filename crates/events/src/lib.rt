@@ -1,11 +1,14 @@
 // Four bytes as an event, and what the parts of a step ask of one.
 ghost use mathlib.Core.Path.{_≡_};
-ghost use Rattle.arbiter.specs.Events.{master, fitting, decode, decodedNumber};
+ghost use Rattle.arbiter.specs.Words.{if_then_else_};
+ghost use Rattle.arbiter.specs.Events.{master, fitting, decode, decodedNumber, outcomeNumber};
 ghost use Rattle.arbiter.specs.Order.{isTick, clockOf};
+ghost use Rattle.arbiter.specs.declared.Outcome.the-variants.{Done, NotAcknowledged};
 use arbiter::Clock;
 use arbiter::Decoded;
 use arbiter::Event;
 use arbiter::Master;
+use arbiter::Outcome;
 use arbiter::Raw;
 
 fn master_of(x: u8) -> Master
@@ -56,6 +59,27 @@ pub fn decoded_number(d: Decoded) -> u8
         Decoded::Reads(_) => 0,
         Decoded::UnknownKind => 2,
         Decoded::BadField => 3,
+    }
+}
+
+pub fn outcome_number(o: Outcome) -> u8
+    ensures { λ r. ⌜ r ≡ outcomeNumber o ⌝ }
+{
+    match o {
+        Outcome::Done => 0,
+        Outcome::NotAcknowledged => 1,
+        Outcome::OutOfSequence => 4,
+    }
+}
+
+// The number of an event in sequence.
+pub fn acknowledged_number(ok: bool) -> u8
+    ensures { λ r. ⌜ r ≡ outcomeNumber (if ok then Done else NotAcknowledged) ⌝ }
+{
+    if ok {
+        outcome_number(Outcome::Done)
+    } else {
+        outcome_number(Outcome::NotAcknowledged)
     }
 }
 

@@ -8,7 +8,7 @@ use native.Mathlib.Omega.{arith}
 use denote.Enum.Declared.{tagOf}
 use Rattle.arbiter.proofs.Decoded.{the-type}
 use Prim.Native.Nat.{ℕ}
-use Rattle.arbiter.specs.Words.{if_then_else_, worth, side}
+use Rattle.arbiter.specs.Words.{if_then_else_, side}
 use Rattle.arbiter.specs.Parts.{withBus}
 use Rattle.arbiter.specs.State.{sclHigh}
 use Rattle.arbiter.specs.Events.{softReset, decode, decodedNumber, inSequence, acknowledged, outcome, outcomeNumber}
@@ -22,10 +22,11 @@ use Rattle.arbiter.specs.declared.Event.{Event}
 use Rattle.arbiter.specs.declared.Event.the-variants.{Command, Write, Read, Stop, Pair, Lines, Tick, Pulse, Reset, GeneralCall}
 use Rattle.arbiter.specs.declared.Decoded.{Decoded}
 use Rattle.arbiter.specs.declared.Decoded.the-variants.{Reads, UnknownKind, BadField}
+use Rattle.arbiter.specs.declared.Outcome.{Outcome}
 use Rattle.arbiter.specs.declared.Outcome.the-variants.{Done, NotAcknowledged, OutOfSequence}
 use Rattle.effects.specs.declared.Effect.{Effect}
 use Rattle.effects.specs.Effect.{did, effectOf}
-use Rattle.step.specs.Settled.{settle, finished, moved, steppedWith}
+use Rattle.step.specs.Carried.{partsThreeToSeven, finished, moved, steppedWith}
 
 -- ---- part 2 at a reset
 
@@ -61,17 +62,25 @@ same-levels (GeneralCall m b) d = go (softReset b)
 
 -- ---- an event through all parts
 
-settle-parts : (e : Event) (d : Device) → settle (isTick e) (clockOf e) (levels false (d .bus) (effect e d)) ≡ parts e d
-unfolding settle parts
-settle-parts e d = ap (λ (x : Device). settle (isTick e) (clockOf e) x) (same-levels e d)
+through-parts : (e : Event) (d : Device) → partsThreeToSeven (isTick e) (clockOf e) (levels false (d .bus) (effect e d)) ≡ parts e d
+unfolding partsThreeToSeven parts
+through-parts e d = ap (λ (x : Device). partsThreeToSeven (isTick e) (clockOf e) x) (same-levels e d)
+
+-- the outcome by its two tests
+abbrev told : Bool → Bool → Outcome
+told seq ack = if seq then (if ack then Done else NotAcknowledged) else OutOfSequence
+
+-- the device that is carried on if the event is in sequence, with its outcome
+abbrev carried : Bool → Bool → Device → Event → Device → Effect
+carried seq ack x e d = if seq then did x (outcomeNumber (told seq ack)) (byteRead e d) else did d (outcomeNumber OutOfSequence) 0
 
 pub moved-law : (e : Event) (d : Device) → finished e (d .bus) (effectOf e d) ≡ moved (Reads e) d
 unfolding finished effectOf moved outcome
 moved-law e d = go (inSequence e d) (acknowledged e d)
   where
-    go : (seq ack : Bool) → finished e (d .bus) (if seq then did (effect e d) (worth 1 (not ack)) (byteRead e d) else did d 4 0) ≡ (if seq then did (parts e d) (outcomeNumber (if seq then (if ack then Done else NotAcknowledged) else OutOfSequence)) (byteRead e d) else did d 4 0)
-    go true true = ap (λ (x : Device). did x 0 (byteRead e d)) (settle-parts e d)
-    go true false = ap (λ (x : Device). did x 1 (byteRead e d)) (settle-parts e d)
+    go : (seq ack : Bool) → finished e (d .bus) (carried seq ack (effect e d) e d) ≡ carried seq ack (parts e d) e d
+    go true true = ap (λ (x : Device). did x (outcomeNumber Done) (byteRead e d)) (through-parts e d)
+    go true false = ap (λ (x : Device). did x (outcomeNumber NotAcknowledged) (byteRead e d)) (through-parts e d)
     go false ack = refl
 
 -- ---- four bytes that do not read as an event
@@ -92,9 +101,9 @@ stepped-from BadField d = refl
 stepped-from (Reads e) d = go (inSequence e d)
   where
     ways : Bool → Effect
-    ways seq = if seq then did (parts e d) (outcomeNumber (outcome e d)) (byteRead e d) else did d 4 0
+    ways seq = if seq then did (parts e d) (outcomeNumber (outcome e d)) (byteRead e d) else did d (outcomeNumber OutOfSequence) 0
 
-    go : (seq : Bool) → steppedWith (ways seq .device) (answer (ways seq .outcome) (ways seq .read) (ways seq .device)) ≡ (if seq then taken e d else refused 4 d)
+    go : (seq : Bool) → steppedWith (ways seq .device) (answer (ways seq .outcome) (ways seq .read) (ways seq .device)) ≡ (if seq then taken e d else refused (outcomeNumber OutOfSequence) d)
     go true = refl
     go false = refl
 

@@ -8,7 +8,7 @@ ghost use Rattle.arbiter.specs.Events.{decode};
 ghost use Rattle.arbiter.specs.Order.{levels};
 ghost use Rattle.arbiter.specs.Effects.{powerUp};
 ghost use Rattle.arbiter.specs.Steps.{masterNumber, ownerNumber, switchNumber, ownerByte, linesByte, answer, step};
-ghost use Rattle.step.specs.Settled.{settle, isApart, isSilent, waits, linked, keeps, isQuiet, finished, moved, steppedWith};
+ghost use Rattle.step.specs.Carried.{partsThreeToSeven, isSilent, isQuiet, finished, moved, steppedWith};
 use arbiter::Answer;
 use arbiter::Bus;
 use arbiter::Clock;
@@ -16,37 +16,39 @@ use arbiter::Decoded;
 use arbiter::Device;
 use arbiter::Event;
 use arbiter::Master;
+use arbiter::Outcome;
 use arbiter::Raw;
-use arbiter::Side;
 use arbiter::Stepped;
 use arbiter::Switch;
 use arbiter::Turn;
-use arbitration::claim_of;
-use arbitration::cut_at;
-use arbitration::grant_of;
-use arbitration::losses_of;
-use arbitration::runs_out;
+use arbitration::claims::claim_of;
+use arbitration::claims::grant_of;
+use arbitration::claims::no_claim;
+use arbitration::claims::no_grant;
+use arbitration::losses::cut_at;
+use arbitration::losses::losses_of;
+use arbitration::losses::no_cut;
+use arbitration::losses::no_loss;
 use bits::worth_of;
 use bus::bus_hung;
 use bus::scl_high;
 use bus::sda_high;
 use bus::settled_bus;
 use connection::connect_of;
+use connection::switch_stays;
 use effects::Effect;
 use effects::did_so;
 use effects::effect_of;
-use effects::fresh_device;
 use events::clock_of;
 use events::decode_raw;
 use events::decoded_number;
 use events::is_tick;
-use parts::device_with;
-use parts::is_at_rest;
-use parts::port_of;
-use parts::same_master;
-use parts::switch_of;
-use parts::turn_of;
+use events::outcome_number;
+use fields::device_with;
+use fields::switch_of;
+use fields::turn_of;
 use registers::is_asserted_by;
+use resets::fresh_device;
 
 // ---- parts 2 to 7
 
@@ -54,16 +56,6 @@ fn levelled(before: Bus, d: Device) -> Device
     ensures { λ r. ⌜ r ≡ levels false before d ⌝ }
 {
     device_with(d.side0, d.side1, settled_bus(before, d.bus), d.arb)
-}
-
-fn is_apart(w: Switch) -> bool
-    ensures { λ r. ⌜ r ≡ isApart w ⌝ }
-{
-    match w {
-        Switch::Apart => true,
-        Switch::Initialising(_, _) => false,
-        Switch::Closed(_) => false,
-    }
 }
 
 fn is_silent(c: Clock) -> bool
@@ -76,63 +68,30 @@ fn is_silent(c: Clock) -> bool
     }
 }
 
-fn claimant_waits(s: Side, b: Bus) -> bool
-    ensures { λ r. ⌜ r ≡ waits s b ⌝ }
-{
-    s.contr.lockreq & !(is_at_rest(port_of(s)) & (b.hold == 0))
-}
-
-fn is_linked(m: Master, busconnect: bool, w: Switch) -> bool
-    ensures { λ r. ⌜ r ≡ linked m busconnect w ⌝ }
-{
-    match w {
-        Switch::Apart => !busconnect,
-        Switch::Initialising(k, _) => busconnect & same_master(m, k),
-        Switch::Closed(k) => busconnect & same_master(m, k),
-    }
-}
-
-fn owner_keeps(m: Master, tick: bool, s: Side, reserve: u8, b: Bus, w: Switch) -> bool
-    ensures { λ r. ⌜ r ≡ keeps m tick s reserve b w ⌝ }
-{
-    !runs_out(s, reserve, b)
-        & !(tick & (b.lowscl == 35) & s.contr.smbusdis)
-        & is_linked(m, s.contr.busconnect, w)
-}
-
-// Parts 3 to 7 have nothing to do, the event being no clock.
+// Parts 3 to 7 have nothing to do, the event being no clock. Asked from the last part to the first, which was measured to run fastest.
 fn is_quiet(tick: bool, d: Device) -> bool
     ensures { λ r. ⌜ r ≡ isQuiet tick d ⌝ }
 {
-    let turn = turn_of(d.arb);
-    match turn {
-        Turn::Nobody => is_apart(switch_of(d.arb))
-            & !d.side0.contr.lockreq
-            & !d.side1.contr.lockreq,
-        Turn::Claims(m) => match m {
-            Master::Zero => is_apart(switch_of(d.arb)) & claimant_waits(d.side0, d.bus),
-            Master::One => is_apart(switch_of(d.arb)) & claimant_waits(d.side1, d.bus),
-        },
-        Turn::Owns(m) => match m {
-            Master::Zero => owner_keeps(m, tick, d.side0, d.arb.reserve, d.bus, switch_of(d.arb)),
-            Master::One => owner_keeps(m, tick, d.side1, d.arb.reserve, d.bus, switch_of(d.arb)),
-        },
-    }
+    switch_stays(turn_of(d.arb), d)
+        & no_grant(turn_of(d.arb), d)
+        & no_claim(turn_of(d.arb), d)
+        & no_cut(tick, turn_of(d.arb), d)
+        & no_loss(turn_of(d.arb), d)
 }
 
-fn settled_in_full(tick: bool, c: Clock, d: Device) -> Device
-    ensures { λ r. ⌜ r ≡ settle tick c d ⌝ }
+fn parts_3_to_7_in_full(tick: bool, c: Clock, d: Device) -> Device
+    ensures { λ r. ⌜ r ≡ partsThreeToSeven tick c d ⌝ }
 {
     connect_of(c, grant_of(claim_of(cut_at(tick, losses_of(d)))))
 }
 
-fn settled_by(tick: bool, c: Clock, d: Device) -> Device
-    ensures { λ r. ⌜ r ≡ settle tick c d ⌝ }
+fn parts_3_to_7(tick: bool, c: Clock, d: Device) -> Device
+    ensures { λ r. ⌜ r ≡ partsThreeToSeven tick c d ⌝ }
 {
     if is_silent(c) & is_quiet(tick, d) {
         d
     } else {
-        settled_in_full(tick, c, d)
+        parts_3_to_7_in_full(tick, c, d)
     }
 }
 
@@ -205,11 +164,11 @@ fn answered(number: u8, byte: u8, d: Device) -> Answer
 fn finish(e: Event, before: Bus, f: Effect) -> Effect
     ensures { λ r. ⌜ r ≡ finished e before f ⌝ }
 {
-    if f.outcome == 4 {
+    if f.outcome == outcome_number(Outcome::OutOfSequence) {
         f
     } else {
         did_so(
-            settled_by(is_tick(e), clock_of(e), levelled(before, f.device)),
+            parts_3_to_7(is_tick(e), clock_of(e), levelled(before, f.device)),
             f.outcome,
             f.read,
         )

@@ -52,7 +52,17 @@ add-result-7 c = search needs
 
 returns : tie.Need-returns
 unfolding byteOf
-returns c = simp (c .worth-of8 .ensures .0, c .before .worth-of7 .ensures .0, c .before .before .worth-of6 .ensures .0, c .before .before .before .worth-of5 .ensures .0, c .before .before .before .before .worth-of4 .ensures .0, c .before .before .before .before .before .worth-of3 .ensures .0, c .before .before .before .before .before .before .worth-of2 .ensures .0, c .before .before .before .before .before .before .before .worth-of .ensures .0)
+returns c =
+    simp (
+      c .worth-of8 .ensures .0,
+      c .before .worth-of7 .ensures .0,
+      c .before .before .worth-of6 .ensures .0,
+      c .before .before .before .worth-of5 .ensures .0,
+      c .before .before .before .before .worth-of4 .ensures .0,
+      c .before .before .before .before .before .worth-of3 .ensures .0,
+      c .before .before .before .before .before .before .worth-of2 .ensures .0,
+      c .before .before .before .before .before .before .before .worth-of .ensures .0,
+    )
 
 pub byte-of-spec : {M : Type 1} → statement M
 byte-of-spec =

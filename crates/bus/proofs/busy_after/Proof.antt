@@ -17,7 +17,13 @@ sda-high-requires-2 : tie.Need-sda-high-requires-2
 sda-high-requires-2 c κs = search needs
 
 returns : tie.Need-returns
-returns c = simp (c .before .sda-high2 .ensures, c .before .before .sda-high .ensures, c .before .before .before .scl-high2 .ensures, c .before .before .before .before .scl-high .ensures)
+returns c =
+    simp (
+      c .before .sda-high2 .ensures,
+      c .before .before .sda-high .ensures,
+      c .before .before .before .scl-high2 .ensures,
+      c .before .before .before .before .scl-high .ensures,
+    )
 
 pub busy-after-spec : {M : Type 1} → statement M
 busy-after-spec =

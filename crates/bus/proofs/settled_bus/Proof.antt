@@ -26,7 +26,16 @@ pick-u16-requires-2 : tie.Need-pick-u16-requires-2
 pick-u16-requires-2 c κs = search needs
 
 returns : tie.Need-returns
-returns c = simp (c .pick-u162 .ensures, c .before .pick-u16 .ensures, c .before .before .pick-u8 .ensures, c .before .before .before .busy-after .ensures, c .before .before .before .before .scl-high2 .ensures, c .before .before .before .before .before .sda-high .ensures, c .before .before .before .before .before .before .scl-high .ensures)
+returns c =
+    simp (
+      c .pick-u162 .ensures,
+      c .before .pick-u16 .ensures,
+      c .before .before .pick-u8 .ensures,
+      c .before .before .before .busy-after .ensures,
+      c .before .before .before .before .scl-high2 .ensures,
+      c .before .before .before .before .before .sda-high .ensures,
+      c .before .before .before .before .before .before .scl-high .ensures,
+    )
 
 pub settled-bus-spec : {M : Type 1} → statement M
 settled-bus-spec =

@@ -26,7 +26,16 @@ counted-u16-requires-2 : tie.Need-counted-u16-requires-2
 counted-u16-requires-2 c κs = search needs
 
 returns : tie.Need-returns
-returns c = simp (c .counted-u162 .ensures, c .before .counted-u16 .ensures, c .before .before .counted-u8 .ensures, c .before .before .before .less-one .ensures, c .before .before .before .before .is-idle .ensures, c .before .before .before .before .before .sda-high .ensures, c .before .before .before .before .before .before .scl-high .ensures)
+returns c =
+    simp (
+      c .counted-u162 .ensures,
+      c .before .counted-u16 .ensures,
+      c .before .before .counted-u8 .ensures,
+      c .before .before .before .less-one .ensures,
+      c .before .before .before .before .is-idle .ensures,
+      c .before .before .before .before .before .sda-high .ensures,
+      c .before .before .before .before .before .before .scl-high .ensures,
+    )
 
 pub ticked-bus-spec : {M : Type 1} → statement M
 ticked-bus-spec =

@@ -53,7 +53,13 @@ returns-4 c = simp (← c .still-at .ensures, c .before .if2 .taken, ← c .befo
 
 returns-5 : tie.Need-returns-5
 unfolding linking
-returns-5 c = simp (← c .joining-by3 .ensures, c .before .if2 .left, ← c .before .before .same-master2 .ensures, c .before .before .before .before .w2 .given .1)
+returns-5 c =
+    simp (
+      ← c .joining-by3 .ensures,
+      c .before .if2 .left,
+      ← c .before .before .same-master2 .ensures,
+      c .before .before .before .before .w2 .given .1,
+    )
 
 pub linking-by-spec : {M : Type 1} → statement M
 linking-by-spec =

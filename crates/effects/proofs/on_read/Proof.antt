@@ -37,6 +37,9 @@ sender-side-requires c κs = search needs
 device-with-requires : tie.Need-device-with-requires
 device-with-requires c κs = search needs
 
+outcome-number-requires : tie.Need-outcome-number-requires
+outcome-number-requires c κs = search needs
+
 register-byte-requires : tie.Need-register-byte-requires
 register-byte-requires c κs = search needs
 
@@ -58,6 +61,9 @@ reader-side-requires-2 c κs = search needs
 device-with-requires-2 : tie.Need-device-with-requires-2
 device-with-requires-2 c κs = search needs
 
+outcome-number-requires-2 : tie.Need-outcome-number-requires-2
+outcome-number-requires-2 c κs = search needs
+
 register-byte-requires-2 : tie.Need-register-byte-requires-2
 register-byte-requires-2 c κs = search needs
 
@@ -65,10 +71,42 @@ did-so-requires-2 : tie.Need-did-so-requires-2
 did-so-requires-2 c κs = search needs
 
 returns : tie.Need-returns
-returns c = simp (c .did-so .ensures, c .before .register-byte .ensures, c .before .before .device-with .ensures, c .before .before .before .sender-side .ensures, c .before .before .before .before .empties-own .ensures, c .before .before .before .before .before .reader-side .ensures, c .before .before .before .before .before .before .before .before .owns-turn2 .ensures, c .before .before .before .before .before .before .before .before .before .turn-of2 .ensures, c .before .before .before .before .before .before .before .before .before .before .owns-turn .ensures, c .before .before .before .before .before .before .before .before .before .before .before .turn-of .ensures) (read-law Zero (c .before .before .before .before .before .before .before .before .before .before .before .before .args .d) ∙ ap (λ (m : Master). effectOf (Read m) (c .before .before .before .before .before .before .before .before .before .before .before .before .args .d)) (sym (c .before .before .before .before .before .before .enum-told .given .1)))
+returns c =
+    let chosen = c .before .before .before .before .before .before .before in
+    let start = chosen .before .before .before .before .before .before in
+    simp (
+      c .did-so .ensures,
+      c .before .register-byte .ensures,
+      c .before .before .outcome-number .ensures,
+      c .before .before .before .device-with .ensures,
+      c .before .before .before .before .sender-side .ensures,
+      c .before .before .before .before .before .empties-own .ensures,
+      c .before .before .before .before .before .before .reader-side .ensures,
+      c .before .before .before .before .before .before .before .before .before .owns-turn2 .ensures,
+      c .before .before .before .before .before .before .before .before .before .before .turn-of2 .ensures,
+      c .before .before .before .before .before .before .before .before .before .before .before .owns-turn .ensures,
+      c .before .before .before .before .before .before .before .before .before .before .before .before .turn-of .ensures,
+    )
+    (read-law Zero (start .args .d) ∙ ap (λ (m : Master). effectOf (Read m) (start .args .d)) (sym (chosen .enum-told .given .1)))
 
 returns-2 : tie.Need-returns-2
-returns-2 c = simp (c .did-so2 .ensures, c .before .register-byte2 .ensures, c .before .before .device-with2 .ensures, c .before .before .before .reader-side2 .ensures, c .before .before .before .before .sender-side2 .ensures, c .before .before .before .before .before .empties-own2 .ensures, c .before .before .before .before .before .before .before .before .owns-turn2 .ensures, c .before .before .before .before .before .before .before .before .before .turn-of2 .ensures, c .before .before .before .before .before .before .before .before .before .before .owns-turn .ensures, c .before .before .before .before .before .before .before .before .before .before .before .turn-of .ensures) (read-law One (c .before .before .before .before .before .before .before .before .before .before .before .before .args .d) ∙ ap (λ (m : Master). effectOf (Read m) (c .before .before .before .before .before .before .before .before .before .before .before .before .args .d)) (sym (c .before .before .before .before .before .before .enum-told2 .given .1)))
+returns-2 c =
+    let chosen = c .before .before .before .before .before .before .before in
+    let start = chosen .before .before .before .before .before .before in
+    simp (
+      c .did-so2 .ensures,
+      c .before .register-byte2 .ensures,
+      c .before .before .outcome-number2 .ensures,
+      c .before .before .before .device-with2 .ensures,
+      c .before .before .before .before .reader-side2 .ensures,
+      c .before .before .before .before .before .sender-side2 .ensures,
+      c .before .before .before .before .before .before .empties-own2 .ensures,
+      c .before .before .before .before .before .before .before .before .before .owns-turn2 .ensures,
+      c .before .before .before .before .before .before .before .before .before .before .turn-of2 .ensures,
+      c .before .before .before .before .before .before .before .before .before .before .before .owns-turn .ensures,
+      c .before .before .before .before .before .before .before .before .before .before .before .before .turn-of .ensures,
+    )
+    (read-law One (start .args .d) ∙ ap (λ (m : Master). effectOf (Read m) (start .args .d)) (sym (chosen .enum-told2 .given .1)))
 
 pub on-read-spec : {M : Type 1} → statement M
 on-read-spec =
@@ -83,6 +121,7 @@ on-read-spec =
     empties-own-requires
     sender-side-requires
     device-with-requires
+    outcome-number-requires
     register-byte-requires
     did-so-requires
     enum-told-2
@@ -90,6 +129,7 @@ on-read-spec =
     sender-side-requires-2
     reader-side-requires-2
     device-with-requires-2
+    outcome-number-requires-2
     register-byte-requires-2
     did-so-requires-2
     returns

@@ -1,7 +1,7 @@
 -- `effects::on_tick` meets its contract.
 -- Assumes nothing.
 use Rattle.arbiter.specs.Effects.{effect, lined, ticked, wasRead}
-use Rattle.arbiter.specs.Events.{acknowledged, inSequence}
+use Rattle.arbiter.specs.Events.{acknowledged, inSequence, outcome}
 use Rattle.arbiter.specs.Steps.{byteRead}
 use Rattle.effects.specs.Effect.{effectOf}
 use borrow.Author.Needs.{needs}
@@ -17,14 +17,30 @@ ticked-arb-requires c κs = search needs
 device-with-requires : tie.Need-device-with-requires
 device-with-requires c κs = search needs
 
+outcome-number-requires : tie.Need-outcome-number-requires
+outcome-number-requires c κs = search needs
+
 did-so-requires : tie.Need-did-so-requires
 did-so-requires c κs = search needs
 
 returns : tie.Need-returns
-unfolding effectOf wasRead lined ticked effect byteRead inSequence acknowledged
-returns c = simp (c .did-so .ensures, c .before .device-with .ensures, c .before .before .ticked-arb .ensures, c .before .before .before .ticked-bus .ensures)
+unfolding effectOf wasRead lined ticked effect byteRead inSequence acknowledged outcome
+returns c =
+    simp (
+      c .did-so .ensures,
+      c .before .outcome-number .ensures,
+      c .before .before .device-with .ensures,
+      c .before .before .before .ticked-arb .ensures,
+      c .before .before .before .before .ticked-bus .ensures,
+    )
 
 pub on-tick-spec : {M : Type 1} → statement M
 on-tick-spec =
     tie.close
-    (tie.spec ticked-bus-requires ticked-arb-requires device-with-requires did-so-requires returns)
+    (tie.spec
+    ticked-bus-requires
+    ticked-arb-requires
+    device-with-requires
+    outcome-number-requires
+    did-so-requires
+    returns)

@@ -1,7 +1,7 @@
 -- `effects::on_write_1` meets its contract.
 -- Assumes nothing.
 use Rattle.arbiter.specs.Effects.{effect, lined, ticked, wasRead}
-use Rattle.arbiter.specs.Events.{acknowledged, inSequence}
+use Rattle.arbiter.specs.Events.{acknowledged, inSequence, outcome}
 use Rattle.arbiter.specs.Steps.{byteRead}
 use Rattle.effects.specs.Effect.{effectOf}
 use borrow.Author.Needs.{needs}
@@ -23,22 +23,42 @@ writable-at-requires c κs = search needs
 written-by-1-requires : tie.Need-written-by-1-requires
 written-by-1-requires c κs = search needs
 
-worth-of-requires : tie.Need-worth-of-requires
-worth-of-requires c κs = search needs
+acknowledged-number-requires : tie.Need-acknowledged-number-requires
+acknowledged-number-requires c κs = search needs
 
 did-so-requires : tie.Need-did-so-requires
 did-so-requires c κs = search needs
+
+outcome-number-requires : tie.Need-outcome-number-requires
+outcome-number-requires c κs = search needs
 
 did-so-requires-2 : tie.Need-did-so-requires-2
 did-so-requires-2 c κs = search needs
 
 returns : tie.Need-returns
-unfolding effectOf wasRead lined ticked effect byteRead inSequence acknowledged
-returns c = simp (← c .did-so .ensures, ← c .before .worth-of .ensures .0, ← c .before .before .written-by-1 .ensures, ← c .before .before .before .writable-at .ensures, ← c .before .before .before .before .pointer-of .ensures, c .before .before .before .before .before .if1 .taken, ← c .before .before .before .before .before .before .is-for-writing .ensures, ← c .before .before .before .before .before .before .before .port-of .ensures)
+unfolding effectOf wasRead lined ticked effect byteRead inSequence acknowledged outcome
+returns c =
+    simp (
+      ← c .did-so .ensures,
+      ← c .before .acknowledged-number .ensures,
+      ← c .before .before .written-by-1 .ensures,
+      ← c .before .before .before .writable-at .ensures,
+      ← c .before .before .before .before .pointer-of .ensures,
+      c .before .before .before .before .before .if1 .taken,
+      ← c .before .before .before .before .before .before .is-for-writing .ensures,
+      ← c .before .before .before .before .before .before .before .port-of .ensures,
+    )
 
 returns-2 : tie.Need-returns-2
-unfolding effectOf wasRead lined ticked effect byteRead inSequence acknowledged
-returns-2 c = simp (← c .did-so2 .ensures, c .before .if1 .left, ← c .before .before .is-for-writing .ensures, ← c .before .before .before .port-of .ensures)
+unfolding effectOf wasRead lined ticked effect byteRead inSequence acknowledged outcome
+returns-2 c =
+    simp (
+      c .did-so2 .ensures,
+      c .before .outcome-number .ensures,
+      c .before .before .if1 .left,
+      ← c .before .before .before .is-for-writing .ensures,
+      ← c .before .before .before .before .port-of .ensures,
+    )
 
 pub on-write-1-spec : {M : Type 1} → statement M
 on-write-1-spec =
@@ -49,8 +69,9 @@ on-write-1-spec =
     pointer-of-requires
     writable-at-requires
     written-by-1-requires
-    worth-of-requires
+    acknowledged-number-requires
     did-so-requires
+    outcome-number-requires
     did-so-requires-2
     returns
     returns-2)

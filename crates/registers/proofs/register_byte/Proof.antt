@@ -62,7 +62,13 @@ returns-4 c = simp (c .enum-told4 .given .1, ← c .before .before .pointer-of .
 
 returns-5 : tie.Need-returns-5
 unfolding registerByte
-returns-5 c = simp (← c .int-status-byte .ensures, ← c .before .bus-hung .ensures, c .before .before .enum-told5 .given .1, ← c .before .before .before .before .pointer-of .ensures)
+returns-5 c =
+    simp (
+      ← c .int-status-byte .ensures,
+      ← c .before .bus-hung .ensures,
+      c .before .before .enum-told5 .given .1,
+      ← c .before .before .before .before .pointer-of .ensures,
+    )
 
 returns-6 : tie.Need-returns-6
 unfolding registerByte

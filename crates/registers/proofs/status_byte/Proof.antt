@@ -25,7 +25,15 @@ byte-of-requires c κs = search needs
 
 returns : tie.Need-returns
 unfolding statusByte
-returns c = simp (c .byte-of .ensures, c .before .is-full2 .ensures, c .before .before .is-full .ensures, c .before .before .before .bus-hung .ensures, c .before .before .before .before .scl-high .ensures, c .before .before .before .before .before .sda-high .ensures)
+returns c =
+    simp (
+      c .byte-of .ensures,
+      c .before .is-full2 .ensures,
+      c .before .before .is-full .ensures,
+      c .before .before .before .bus-hung .ensures,
+      c .before .before .before .before .scl-high .ensures,
+      c .before .before .before .before .before .sda-high .ensures,
+    )
 
 pub status-byte-spec : {M : Type 1} → statement M
 status-byte-spec =

@@ -43,7 +43,18 @@ add-result-3 c = search needs
 
 returns : tie.Need-returns
 unfolding linesByte
-returns c = simp (c .worth-of4 .ensures .0, c .before .sda-high .ensures, c .before .before .worth-of3 .ensures .0, c .before .before .before .scl-high .ensures, c .before .before .before .before .worth-of2 .ensures .0, c .before .before .before .before .before .worth-of .ensures .0, c .before .before .before .before .before .before .is-asserted-by2 .ensures, c .before .before .before .before .before .before .before .is-asserted-by .ensures, c .before .before .before .before .before .before .before .before .bus-hung .ensures)
+returns c =
+    simp (
+      c .worth-of4 .ensures .0,
+      c .before .sda-high .ensures,
+      c .before .before .worth-of3 .ensures .0,
+      c .before .before .before .scl-high .ensures,
+      c .before .before .before .before .worth-of2 .ensures .0,
+      c .before .before .before .before .before .worth-of .ensures .0,
+      c .before .before .before .before .before .before .is-asserted-by2 .ensures,
+      c .before .before .before .before .before .before .before .is-asserted-by .ensures,
+      c .before .before .before .before .before .before .before .before .bus-hung .ensures,
+    )
 
 pub lines-byte-spec : {M : Type 1} → statement M
 lines-byte-spec =

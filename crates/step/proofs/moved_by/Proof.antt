@@ -1,6 +1,6 @@
 -- `step::moved_by` meets its contract.
 -- Assumes nothing.
-use Rattle.step.specs.Settled.{moved}
+use Rattle.step.specs.Carried.{moved}
 use borrow.Author.Needs.{needs}
 use mathlib.Core.Path.{sym, ap, _∙_}
 use Rattle.arbiter.specs.declared.Decoded.{Decoded}

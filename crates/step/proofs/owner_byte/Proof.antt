@@ -24,7 +24,14 @@ add-result c = search needs
 
 returns : tie.Need-returns
 unfolding ownerByte
-returns c = simp (c .switch-bits .ensures .0, c .before .switch-of .ensures, c .before .before .owner-number .ensures .0, c .before .before .before .turn-of .ensures) (sym (add-assoc _ _ _))
+returns c =
+    simp (
+      c .switch-bits .ensures .0,
+      c .before .switch-of .ensures,
+      c .before .before .owner-number .ensures .0,
+      c .before .before .before .turn-of .ensures,
+    )
+    (sym (add-assoc _ _ _))
 
 pub owner-byte-spec : {M : Type 1} → statement M
 owner-byte-spec =

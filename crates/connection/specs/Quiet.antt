@@ -1,0 +1,26 @@
+-- When part 7 has nothing to do, by the turn, at an event that is no clock.
+-- Assumes nothing.
+use mathlib.Core.Bool.{Bool, true, false, not, _&&_}
+use Rattle.arbiter.specs.Words.{sameMaster, side}
+use Rattle.arbiter.specs.declared.Master.{Master}
+use Rattle.arbiter.specs.declared.Turn.{Turn}
+use Rattle.arbiter.specs.declared.Turn.the-variants.{Nobody, Claims, Owns}
+use Rattle.arbiter.specs.declared.Switch.{Switch}
+use Rattle.arbiter.specs.declared.Switch.the-variants.{Apart, Initialising, Closed}
+use Rattle.arbiter.specs.declared.Device.{Device}
+
+abbrev pub isApart : Switch → Bool
+isApart Apart = true
+isApart (Initialising m n) = false
+isApart (Closed m) = false
+
+-- the switch is as m's grant and BUS_CONNECT have it
+abbrev pub linked : Master → Bool → Switch → Bool
+linked m busconnect Apart = not busconnect
+linked m busconnect (Initialising k n) = busconnect && sameMaster m k
+linked m busconnect (Closed k) = busconnect && sameMaster m k
+
+abbrev pub switchStays : Turn → Device → Bool
+switchStays Nobody d = isApart (d .arb .switch)
+switchStays (Claims m) d = isApart (d .arb .switch)
+switchStays (Owns m) d = linked m ((side m d) .contr .busconnect) (d .arb .switch)

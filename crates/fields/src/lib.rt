@@ -1,0 +1,169 @@
+// The fields of a device: taken out, put together, one replaced; and what belongs to one of the two masters.
+//
+// Structs are passed on as they stand and built by one call, never through a local copy: the step runs half as fast otherwise, since
+// the compiler then packs neighbouring fields into one word and takes them apart again at every step.
+ghost use mathlib.Core.Path.{_≡_};
+ghost use Rattle.arbiter.specs.Words.{if_then_else_, sameMaster};
+ghost use Rattle.arbiter.specs.State.{ownsTurn};
+ghost use Rattle.arbiter.specs.Parts.{withTurn};
+ghost use Rattle.fields.specs.Whole.{sideWith, arbWith, deviceWith};
+use arbiter::Arbitration;
+use arbiter::Bus;
+use arbiter::Control;
+use arbiter::Device;
+use arbiter::Last;
+use arbiter::Mailbox;
+use arbiter::Master;
+use arbiter::Port;
+use arbiter::Register;
+use arbiter::Side;
+use arbiter::Switch;
+use arbiter::Turn;
+
+// ---- taken out
+
+pub fn pointer_of(s: Side) -> Register
+    ensures { λ r. ⌜ r ≡ s .pointer ⌝ }
+{
+    let p = s.pointer;
+    p
+}
+
+pub fn port_of(s: Side) -> Port
+    ensures { λ r. ⌜ r ≡ s .port ⌝ }
+{
+    let p = s.port;
+    p
+}
+
+pub fn turn_of(a: Arbitration) -> Turn
+    ensures { λ r. ⌜ r ≡ a .turn ⌝ }
+{
+    let t = a.turn;
+    t
+}
+
+pub fn last_of(a: Arbitration) -> Last
+    ensures { λ r. ⌜ r ≡ a .last ⌝ }
+{
+    let l = a.last;
+    l
+}
+
+pub fn switch_of(a: Arbitration) -> Switch
+    ensures { λ r. ⌜ r ≡ a .switch ⌝ }
+{
+    let w = a.switch;
+    w
+}
+
+// ---- put together
+
+pub fn side_with(
+    pointer: Register,
+    rt: u8,
+    contr: Control,
+    ints: u8,
+    mail: Mailbox,
+    auto: bool,
+    port: Port,
+    mask: u8,
+) -> Side
+    ensures { λ r. ⌜ r ≡ sideWith pointer rt contr ints mail auto port mask ⌝ }
+{
+    Side {
+        pointer,
+        rt,
+        contr,
+        ints,
+        mail,
+        auto,
+        port,
+        mask,
+    }
+}
+
+pub fn arb_with(last: Last, initfail: bool, switch: Switch, reserve: u8, turn: Turn) -> Arbitration
+    ensures { λ r. ⌜ r ≡ arbWith last initfail switch reserve turn ⌝ }
+{
+    Arbitration {
+        last,
+        initfail,
+        switch,
+        reserve,
+        turn,
+    }
+}
+
+pub fn device_with(side0: Side, side1: Side, bus: Bus, arb: Arbitration) -> Device
+    ensures { λ r. ⌜ r ≡ deviceWith side0 side1 bus arb ⌝ }
+{
+    Device {
+        side0,
+        side1,
+        bus,
+        arb,
+    }
+}
+
+// ---- one field replaced
+
+pub fn with_turn(turn: Turn, a: Arbitration) -> Arbitration
+    ensures { λ r. ⌜ r ≡ withTurn turn a ⌝ }
+{
+    arb_with(last_of(a), a.initfail, switch_of(a), a.reserve, turn)
+}
+
+// ---- chosen by a test
+
+pub fn pick_turn(test: bool, x: Turn, y: Turn) -> Turn
+    ensures { λ r. ⌜ r ≡ (if test then x else y) ⌝ }
+{
+    if test { x } else { y }
+}
+
+pub fn pick_register(test: bool, x: Register, y: Register) -> Register
+    ensures { λ r. ⌜ r ≡ (if test then x else y) ⌝ }
+{
+    if test { x } else { y }
+}
+
+// ---- what they show
+
+fn is_zero(m: Master) -> bool
+    ensures { λ r. ⌜ r ≡ sameMaster Master.Zero m ⌝ }
+{
+    match m {
+        Master::Zero => true,
+        Master::One => false,
+    }
+}
+
+fn is_one(m: Master) -> bool
+    ensures { λ r. ⌜ r ≡ sameMaster Master.One m ⌝ }
+{
+    match m {
+        Master::Zero => false,
+        Master::One => true,
+    }
+}
+
+pub fn same_master(m: Master, k: Master) -> bool
+    ensures { λ r. ⌜ r ≡ sameMaster m k ⌝ }
+{
+    match m {
+        Master::Zero => is_zero(k),
+        Master::One => is_one(k),
+    }
+}
+
+// m is granted.
+pub fn owns_turn(m: Master, t: Turn) -> bool
+    ensures { λ r. ⌜ r ≡ ownsTurn m t ⌝ }
+{
+    match t {
+        Turn::Nobody => false,
+        Turn::Claims(_) => false,
+        Turn::Owns(k) => same_master(m, k),
+    }
+}

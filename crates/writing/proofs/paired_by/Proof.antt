@@ -1,0 +1,113 @@
+-- `writing::paired_by` meets its contract.
+-- Assumes nothing.
+use Rattle.arbiter.specs.Effects.{paired}
+use borrow.Author.Needs.{needs}
+use Rattle.writing.proofs.paired_by.Statement.{statement}
+use Rattle.writing.proofs.paired_by.Tie as tie
+
+pointer-of-requires : tie.Need-pointer-of-requires
+pointer-of-requires c κs = search needs
+
+pointer-of-requires-2 : tie.Need-pointer-of-requires-2
+pointer-of-requires-2 c κs = search needs
+
+turn-of-requires : tie.Need-turn-of-requires
+turn-of-requires c κs = search needs
+
+owns-turn-requires : tie.Need-owns-turn-requires
+owns-turn-requires c κs = search needs
+
+turn-of-requires-2 : tie.Need-turn-of-requires-2
+turn-of-requires-2 c κs = search needs
+
+owns-turn-requires-2 : tie.Need-owns-turn-requires-2
+owns-turn-requires-2 c κs = search needs
+
+is-connect-requires : tie.Need-is-connect-requires
+is-connect-requires c κs = search needs
+
+is-connect-requires-2 : tie.Need-is-connect-requires-2
+is-connect-requires-2 c κs = search needs
+
+turn-of-requires-3 : tie.Need-turn-of-requires-3
+turn-of-requires-3 c κs = search needs
+
+turn-written-requires : tie.Need-turn-written-requires
+turn-written-requires c κs = search needs
+
+turn-written-requires-2 : tie.Need-turn-written-requires-2
+turn-written-requires-2 c κs = search needs
+
+writer-side-requires : tie.Need-writer-side-requires
+writer-side-requires c κs = search needs
+
+mail-written-requires : tie.Need-mail-written-requires
+mail-written-requires c κs = search needs
+
+writer-side-requires-2 : tie.Need-writer-side-requires-2
+writer-side-requires-2 c κs = search needs
+
+mail-written-requires-2 : tie.Need-mail-written-requires-2
+mail-written-requires-2 c κs = search needs
+
+drives-written-requires : tie.Need-drives-written-requires
+drives-written-requires c κs = search needs
+
+drives-written-requires-2 : tie.Need-drives-written-requires-2
+drives-written-requires-2 c κs = search needs
+
+with-turn-requires : tie.Need-with-turn-requires
+with-turn-requires c κs = search needs
+
+device-with-requires : tie.Need-device-with-requires
+device-with-requires c κs = search needs
+
+returns : tie.Need-returns
+unfolding paired
+returns c =
+    simp (
+      c .device-with .ensures,
+      c .before .with-turn .ensures,
+      c .before .before .drives-written2 .ensures,
+      c .before .before .before .drives-written .ensures,
+      c .before .before .before .before .mail-written2 .ensures,
+      c .before .before .before .before .before .writer-side2 .ensures,
+      c .before .before .before .before .before .before .mail-written .ensures,
+      c .before .before .before .before .before .before .before .writer-side .ensures,
+      c .before .before .before .before .before .before .before .before .turn-written2 .ensures,
+      c .before .before .before .before .before .before .before .before .before .turn-written .ensures,
+      c .before .before .before .before .before .before .before .before .before .before .turn-of3 .ensures,
+      c .before .before .before .before .before .before .before .before .before .before .before .is-connect2 .ensures,
+      c .before .before .before .before .before .before .before .before .before .before .before .before .is-connect .ensures,
+      c .before .before .before .before .before .before .before .before .before .before .before .before .before .owns-turn2 .ensures,
+      c .before .before .before .before .before .before .before .before .before .before .before .before .before .before .turn-of2 .ensures,
+      c .before .before .before .before .before .before .before .before .before .before .before .before .before .before .before .owns-turn .ensures,
+      c .before .before .before .before .before .before .before .before .before .before .before .before .before .before .before .before .turn-of .ensures,
+      c .before .before .before .before .before .before .before .before .before .before .before .before .before .before .before .before .before .pointer-of2 .ensures,
+      c .before .before .before .before .before .before .before .before .before .before .before .before .before .before .before .before .before .before .pointer-of .ensures,
+    )
+
+pub paired-by-spec : {M : Type 1} → statement M
+paired-by-spec =
+    tie.close
+    (tie.spec
+    pointer-of-requires
+    pointer-of-requires-2
+    turn-of-requires
+    owns-turn-requires
+    turn-of-requires-2
+    owns-turn-requires-2
+    is-connect-requires
+    is-connect-requires-2
+    turn-of-requires-3
+    turn-written-requires
+    turn-written-requires-2
+    writer-side-requires
+    mail-written-requires
+    writer-side-requires-2
+    mail-written-requires-2
+    drives-written-requires
+    drives-written-requires-2
+    with-turn-requires
+    device-with-requires
+    returns)
