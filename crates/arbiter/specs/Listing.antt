@@ -2,7 +2,7 @@
 -- Assumes nothing.
 use Rattle.arbiter.specs.Types.{ℕ, _+_, _*_, _/_, _%_, List, [], _∷_, _++_, ltb, Answer, TraceRead, Accepted, Refused}
 use Rattle.arbiter.specs.Words.{if_then_else_}
-use Rattle.arbiter.specs.Traces.{mostEvents, refusalNumber, readTrace, answersIn}
+use Rattle.arbiter.specs.Traces.{mostEvents, answerRoom, refusalNumber, readTrace, answersIn}
 
 -- ---- numbers as text
 
@@ -38,6 +38,16 @@ abbrev pub answerLines : List Answer → List ℕ
 answerLines [] = []
 answerLines (a ∷ rest) = answerLine a ++ answerLines rest
 
+-- the lengths of the two, their ends counted, and of the longest listing
+abbrev pub headChars : ℕ
+headChars = 8
+
+abbrev pub lineChars : ℕ
+lineChars = 9
+
+abbrev pub mostChars : ℕ
+mostChars = headChars + lineChars * mostEvents
+
 -- "A refused trace prints one line only, R and its number"; R is 52h
 unfoldable pub listingOf : TraceRead → List ℕ → List ℕ
 listingOf (Accepted address n) t = headLine address n ++ answerLines (answersIn n t)
@@ -45,4 +55,4 @@ listingOf (Refused r) t = 0x52 ∷ decimal (refusalNumber r) ++ newline
 
 -- the listing program has room for the answers of any trace
 unfoldable pub listing : List ℕ → List ℕ
-listing t = listingOf (readTrace t (4 * mostEvents)) t
+listing t = listingOf (readTrace t answerRoom) t

@@ -1,18 +1,41 @@
 -- Document 01, "Answers and the trace": how bytes read as a trace, the refusals in their order, and what a trace's run leaves.
 -- Assumes nothing.
-use Rattle.arbiter.specs.Types.{ℕ, zero, suc, _+_, _*_, not, List, [], _∷_, _++_, eqb, ltb, length, drop, getD, Raw, Answer, Pins, Strapped, Address, Unlisted, Refusal, TraceCut, TooManyEvents, BytesAfterEnd, BadStraps, NoRoom, BadCount, TraceRead, Accepted, Refused, Report}
+use Rattle.arbiter.specs.Types.{ℕ, zero, suc, _+_, _*_, _/_, _%_, not, List, [], _∷_, _++_, eqb, ltb, length, drop, getD, Device, Raw, Answer, Pins, Strapped, Address, Unlisted, Refusal, TraceCut, TooManyEvents, BytesAfterEnd, BadStraps, NoRoom, BadCount, TraceRead, Accepted, Refused, Report}
+use Rattle.arbiter.specs.declared.Ran.{Ran}
 use Rattle.arbiter.specs.Words.{if_then_else_}
 use Rattle.arbiter.specs.Straps.{pins, addressOf}
 use Rattle.arbiter.specs.Effects.{powerUp}
-use Rattle.arbiter.specs.Steps.{answersFrom, run}
+use Rattle.arbiter.specs.Steps.{runFrom, answersFrom, run}
 
 -- ---- the parts of a trace: "a count byte 4 and the pins AD3 to AD0; then a two-byte low-first count n up to 4,096, and n events"
 
 abbrev pub pinCount : ℕ
 pinCount = 4
 
+-- the count byte and the pins; then these and the count of events, after which the events start
+abbrev pub pinBytes : ℕ
+pinBytes = 5
+
+abbrev pub headBytes : ℕ
+headBytes = 7
+
+-- "Four bytes: kind and three fields"; "An event answers four bytes"
+abbrev pub eventBytes : ℕ
+eventBytes = 4
+
 abbrev pub mostEvents : ℕ
 mostEvents = 4096
+
+-- the length of a trace of n events, and of the longest
+abbrev pub wholeBytes : ℕ → ℕ
+wholeBytes n = headBytes + eventBytes * n
+
+abbrev pub mostBytes : ℕ
+mostBytes = wholeBytes mostEvents
+
+-- "The answers need 4n bytes": room for those of any trace
+abbrev pub answerRoom : ℕ
+answerRoom = eventBytes * mostEvents
 
 abbrev pub byteAt : ℕ → List ℕ → ℕ
 byteAt i t = getD t i 0
@@ -23,20 +46,13 @@ pinsIn t = pins (byteAt 1 t) (byteAt 2 t) (byteAt 3 t) (byteAt 4 t)
 abbrev pub countIn : List ℕ → ℕ
 countIn t = byteAt 5 t + 256 * byteAt 6 t
 
--- where the events start, and where n of them end
-abbrev pub headBytes : ℕ
-headBytes = 7
-
-abbrev pub wholeBytes : ℕ → ℕ
-wholeBytes n = headBytes + 4 * n
-
 -- the first n events of these bytes
 abbrev pub rawIn : List ℕ → Raw
 rawIn t = record { kind = byteAt 0 t; x = byteAt 1 t; y = byteAt 2 t; z = byteAt 3 t }
 
 unfoldable pub rawsIn : ℕ → List ℕ → List Raw
 rawsIn zero t = []
-rawsIn (suc n) t = rawIn t ∷ rawsIn n (drop 4 t)
+rawsIn (suc n) t = rawIn t ∷ rawsIn n (drop eventBytes t)
 
 abbrev pub eventsIn : ℕ → List ℕ → List Raw
 eventsIn n t = rawsIn n (drop headBytes t)
@@ -50,7 +66,7 @@ readCounted address t room =
     else if ltb mostEvents (countIn t) then Refused TooManyEvents
     else if ltb (length t) (wholeBytes (countIn t)) then Refused TraceCut
     else if ltb (wholeBytes (countIn t)) (length t) then Refused BytesAfterEnd
-    else if ltb room (4 * countIn t) then Refused NoRoom
+    else if ltb room (eventBytes * countIn t) then Refused NoRoom
     else Accepted address (countIn t)
 
 unfoldable pub readStrapped : Strapped → List ℕ → ℕ → TraceRead
@@ -61,7 +77,7 @@ unfoldable pub readTrace : List ℕ → ℕ → TraceRead
 readTrace t room =
     if ltb (length t) 1 then Refused TraceCut
     else if not (eqb (byteAt 0 t) pinCount) then Refused BadCount
-    else if ltb (length t) 5 then Refused TraceCut
+    else if ltb (length t) pinBytes then Refused TraceCut
     else readStrapped (addressOf (pinsIn t)) t room
 
 -- ---- the paper's numbers: "5 / 6 / 7 trace cut / n above 4,096 / bytes after the end", "8 pin code above 3 or unlisted strapping",
@@ -75,11 +91,16 @@ refusalNumber BadStraps = 8
 refusalNumber NoRoom = 9
 refusalNumber BadCount = 10
 
+-- an accepted trace's is "0 .. done"
+abbrev pub readNumber : TraceRead → ℕ
+readNumber (Accepted address n) = 0
+readNumber (Refused r) = refusalNumber r
+
 -- ---- what a run of a trace leaves: "an accepted trace reports n events"; a refused one "answers untouched, 0 events, fresh device"
 
 unfoldable pub reportOf : TraceRead → List ℕ → Report
-reportOf (Accepted address n) t = record { number = 0; address = address; events = n; device = run (eventsIn n t) }
-reportOf (Refused r) t = record { number = refusalNumber r; address = 0; events = 0; device = powerUp }
+reportOf (Accepted address n) t = record { number = readNumber (Accepted address n); address = address; events = n; device = run (eventsIn n t) }
+reportOf (Refused r) t = record { number = readNumber (Refused r); address = 0; events = 0; device = powerUp }
 
 abbrev pub bytesOf : List Answer → List ℕ
 bytesOf [] = []
@@ -90,7 +111,7 @@ answersIn n t = answersFrom powerUp (eventsIn n t)
 
 -- "Answer bytes past 4n stay."
 unfoldable pub bufferOf : TraceRead → List ℕ → List ℕ → List ℕ
-bufferOf (Accepted address n) t buffer = bytesOf (answersIn n t) ++ drop (4 * n) buffer
+bufferOf (Accepted address n) t buffer = bytesOf (answersIn n t) ++ drop (eventBytes * n) buffer
 bufferOf (Refused r) t buffer = buffer
 
 -- the report of a trace, and the answer buffer after it
@@ -99,3 +120,31 @@ report t buffer = reportOf (readTrace t (length buffer)) t
 
 unfoldable pub bufferAfter : List ℕ → List ℕ → List ℕ
 bufferAfter t buffer = bufferOf (readTrace t (length buffer)) t buffer
+
+-- ---- raw events alone, from any device: the run of a trace without the trace around it
+
+-- how many events these bytes hold
+abbrev pub eventCount : List ℕ → ℕ
+eventCount events = length events / eventBytes
+
+-- the number of such a run: 5 where the bytes are not in fours, then 9 where the answers have no room
+unfoldable pub ranNumber : List ℕ → ℕ → ℕ
+ranNumber events room =
+    if not (eqb (length events % eventBytes) 0) then refusalNumber TraceCut
+    else if ltb room (eventBytes * eventCount events) then refusalNumber NoRoom
+    else 0
+
+-- a refused call runs none of them
+unfoldable pub ranCount : List ℕ → ℕ → ℕ
+ranCount events room = if eqb (ranNumber events room) 0 then eventCount events else 0
+
+-- what the run reports, and the answer buffer after it
+unfoldable pub ran : Device → List ℕ → List ℕ → Ran
+ran d events buffer =
+    let n = ranCount events (length buffer) in
+    record { number = ranNumber events (length buffer); events = n; device = runFrom d (rawsIn n events) }
+
+unfoldable pub bufferRan : Device → List ℕ → List ℕ → List ℕ
+bufferRan d events buffer =
+    let n = ranCount events (length buffer) in
+    bytesOf (answersFrom d (rawsIn n events)) ++ drop (eventBytes * n) buffer

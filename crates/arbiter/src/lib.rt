@@ -231,3 +231,10 @@ pub struct Report {
     pub events: usize,
     pub device: Device,
 }
+
+// What a run of raw events from any device reports beside the answers.
+pub struct Ran {
+    pub number: u8,
+    pub events: usize,
+    pub device: Device,
+}

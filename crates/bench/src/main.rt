@@ -1,14 +1,15 @@
 // The bench: one standing device, lent to each event of the trace on standard input. It prints what the listing does.
-ghost use Prim.Native.Nat.{_+_, _*_, _≤_};
+ghost use Prim.Native.Nat.{_≤_};
 ghost use mathlib.Core.Path.{_≡_};
-ghost use lib.ListN.{length};
 ghost use Rattle.arbiter.specs.Steps.{run};
-ghost use Rattle.arbiter.specs.Traces.{eventsIn};
-ghost use Rattle.traces.specs.Bodies.{rawAt};
+ghost use Rattle.arbiter.specs.Traces.{mostEvents, rawsIn, eventCount};
 use arbiter::Answer;
 use arbiter::Device;
-use arbiter::Raw;
 use arbiter::TraceRead;
+use format::ANSWER_ROOM;
+use format::MOST_BYTES;
+use format::event_at;
+use format::events_in;
 use lent::step_lent;
 use libc::STDIN_FILENO;
 use libc::STDOUT_FILENO;
@@ -23,7 +24,7 @@ const NAME: [u8; 5] = [b'b', b'e', b'n', b'c', b'h'];
 // ---- printing
 
 fn print_head(address: u8, n: usize)
-    requires { ⌜ n ≤ 4096 ⌝ }
+    requires { ⌜ n ≤ mostEvents ⌝ }
 {
     let h = (n / 256) as u8;
     let l = (n % 256) as u8;
@@ -57,30 +58,16 @@ fn print_answer(a: Answer) {
 
 // ---- the standing device
 
-// The four bytes of event i.
-fn event_at(t: &[u8], i: usize) -> Raw
-    requires { ⌜ 7 + 4 * i + 4 ≤ length (now t) ⌝ }
-    ensures { λ r. ⌜ r ≡ rawAt (now (t .entry)) (7 + 4 * i) ⌝ }
-{
-    let at = 7 + 4 * i;
-    Raw {
-        kind: t[at],
-        x: t[at + 1],
-        y: t[at + 2],
-        z: t[at + 3],
-    }
-}
-
-// The n events of a trace, each answered by a line. The device stands here from power-up on: each step has it lent, and leaves the new
-// state in it.
-fn drive(t: &[u8], n: usize) -> Device
-    requires { ⌜ 7 + 4 * n ≤ length (now t) ⌝ }
-    ensures { λ r. ⌜ r ≡ run (eventsIn n (now (t .entry))) ⌝ }
+// The first n events of these bytes, each answered by a line. The device stands here from power-up on: each step has it lent, and leaves
+// the new state in it.
+fn drive(events: &[u8], n: usize) -> Device
+    requires { ⌜ n ≤ eventCount (now events) ⌝ }
+    ensures { λ r. ⌜ r ≡ run (rawsIn n (now (events .entry))) ⌝ }
 {
     let mut standing = fresh();
     let mut i: usize = 0;
     while i < n {
-        let r = event_at(t, i);
+        let r = event_at(events, i);
         let a = step_lent(&mut standing, r);
         print_answer(a);
         i += 1;
@@ -90,27 +77,27 @@ fn drive(t: &[u8], n: usize) -> Device
 
 // ---- the program
 
-fn print_accepted(t: &[u8], address: u8, n: usize)
-    requires { ⌜ (7 + 4 * n ≤ length (now t)) × (n ≤ 4096) ⌝ }
+fn print_accepted(events: &[u8], address: u8, n: usize)
+    requires { ⌜ (n ≤ eventCount (now events)) × (n ≤ mostEvents) ⌝ }
 {
     print_head(address, n);
-    drive(t, n);
+    drive(events, n);
 }
 
 // A refused trace has no events to drive: its listing is its number.
 fn print_trace(t: &[u8]) {
-    let read = read_trace(t, 16384);
+    let read = read_trace(t, ANSWER_ROOM);
     match read {
         TraceRead::Refused(_) => {
             print_listing(t);
         }
-        TraceRead::Accepted(address, n) => print_accepted(t, address, n),
+        TraceRead::Accepted(address, n) => print_accepted(events_in(t), address, n),
     }
 }
 
 fn main() {
-    // A trace has at most 7 + 4 * 4096 bytes; one more tells a longer input.
-    let mut input = [0u8; 16392];
+    // One byte more than the longest trace tells a longer input.
+    let mut input = [0u8; MOST_BYTES + 1];
     let n = io::read_full(STDIN_FILENO, &mut input);
     // errno is 0 when a program starts, and reads and writes that succeed leave it so.
     if os::errno() != 0 {

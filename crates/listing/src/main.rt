@@ -2,6 +2,8 @@
 mod why;
 
 use arbiter::TraceRead;
+use format::ANSWER_ROOM;
+use format::MOST_BYTES;
 use libc::STDIN_FILENO;
 use printing::print_listing;
 use traces::read_trace;
@@ -15,8 +17,8 @@ fn say_if_refused(read: TraceRead) {
 }
 
 fn main() {
-    // A trace has at most 7 + 4 * 4096 bytes. A longer input lists as its first 7 + 4 * 4096 + 1 do (text/proofs/Long.antt).
-    let mut input = [0u8; 16392];
+    // One byte more than the longest trace tells a longer input, which lists as this beginning does (text/proofs/Long.antt).
+    let mut input = [0u8; MOST_BYTES + 1];
     let n = io::read_full(STDIN_FILENO, &mut input);
     // errno is 0 when a program starts, and reads that succeed leave it so.
     if os::errno() != 0 {
@@ -27,5 +29,5 @@ fn main() {
         os::fail(&NAME);
         return;
     }
-    say_if_refused(read_trace(&input[..n], 16384));
+    say_if_refused(read_trace(&input[..n], ANSWER_ROOM));
 }

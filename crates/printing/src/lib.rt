@@ -2,18 +2,20 @@
 ghost use mathlib.Core.Path.{_≡_};
 ghost use Prim.Native.Nat.{_≤_};
 ghost use lib.ListN.{length};
+ghost use Rattle.arbiter.specs.Listing.{mostChars};
 use libc::STDOUT_FILENO;
+use text::LISTING_ROOM;
 use text::list_trace;
 
-// Room for any listing: 8 + 9 * 4096 bytes.
-fn text_room() -> [u8; 36872]
-    ensures { λ r. ⌜ 36872 ≡ length r ⌝ }
+// Room for any listing.
+fn text_room() -> [u8; LISTING_ROOM]
+    ensures { λ r. ⌜ mostChars ≡ length r ⌝ }
 {
-    [0; 36872]
+    [0; LISTING_ROOM]
 }
 
 fn print_by(trace: &[u8], text: &mut [u8]) -> bool
-    requires { ⌜ 36872 ≤ length (now text) ⌝ }
+    requires { ⌜ mostChars ≤ length (now text) ⌝ }
 {
     let n = list_trace(trace, text);
     io::write_all(STDOUT_FILENO, &text[..n])

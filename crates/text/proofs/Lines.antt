@@ -11,7 +11,8 @@ use lib.ListN.{length, drop, getD, set}
 use lib.Seq.{sets, drop-drop, getD-drop}
 use borrow.Author.Tests.{le-ltb, lt-ltb}
 use Rattle.arbiter.specs.Words.{if_then_else_}
-use Rattle.arbiter.specs.Listing.{newline, hex2, headLine}
+use Rattle.arbiter.specs.Traces.{eventBytes}
+use Rattle.arbiter.specs.Listing.{newline, hex2, headLine, headChars, lineChars}
 use Rattle.text.specs.Written.{lineIn, linesIn, refusalLine}
 use Rattle.text.proofs.Stores.{sets-on}
 
@@ -35,24 +36,24 @@ line-at b from = simp (getD-drop, add-zero)
 
 -- ---- lines after lines
 
-pub lines-more : (k : ℕ) (b : List ℕ) → linesIn (k + 1) b ≡ linesIn k b ++ lineIn (drop (4 * k) b)
+pub lines-more : (k : ℕ) (b : List ℕ) → linesIn (k + 1) b ≡ linesIn k b ++ lineIn (drop (eventBytes * k) b)
 unfolding linesIn
 lines-more k b = ap (λ (n : ℕ). linesIn n b) (add-one k) ∙ go k b
   where
-    go : (j : ℕ) (l : List ℕ) → linesIn (suc j) l ≡ linesIn j l ++ lineIn (drop (4 * j) l)
+    go : (j : ℕ) (l : List ℕ) → linesIn (suc j) l ≡ linesIn j l ++ lineIn (drop (eventBytes * j) l)
     go zero l = refl
     go (suc j) l =
-        let e : 4 + 4 * j ≡ 4 * suc j = omega arith in
-        ap (λ (r : List ℕ). lineIn l ++ r) (go j (drop 4 l))
-        ∙ sym (append-assoc (lineIn l) (linesIn j (drop 4 l)) (lineIn (drop (4 * j) (drop 4 l))))
-        ∙ ap (λ (m : List ℕ). linesIn (suc j) l ++ lineIn m) (drop-drop (4 * j) 4 l ∙ ap (λ (n : ℕ). drop n l) e)
+        let e : eventBytes + eventBytes * j ≡ eventBytes * suc j = omega arith in
+        ap (λ (r : List ℕ). lineIn l ++ r) (go j (drop eventBytes l))
+        ∙ sym (append-assoc (lineIn l) (linesIn j (drop eventBytes l)) (lineIn (drop (eventBytes * j) (drop eventBytes l))))
+        ∙ ap (λ (m : List ℕ). linesIn (suc j) l ++ lineIn m) (drop-drop (eventBytes * j) eventBytes l ∙ ap (λ (n : ℕ). drop n l) e)
 
-pub lines-length : (k : ℕ) (b : List ℕ) → length (linesIn k b) ≡ 9 * k
+pub lines-length : (k : ℕ) (b : List ℕ) → length (linesIn k b) ≡ lineChars * k
 unfolding linesIn
 lines-length zero b = refl
-lines-length (suc k) b = let h = lines-length k (drop 4 b) in omega (arith, h)
+lines-length (suc k) b = let h = lines-length k (drop eventBytes b) in omega (arith, h)
 
-pub listed-length : (a n : ℕ) (b : List ℕ) → 8 + 9 * n ≡ length (headLine a n ++ linesIn n b)
+pub listed-length : (a n : ℕ) (b : List ℕ) → headChars + lineChars * n ≡ length (headLine a n ++ linesIn n b)
 listed-length a n b = let h = lines-length n b in omega (arith, h)
 
 -- ---- the line of a refusal

@@ -7,8 +7,8 @@ use native.Mathlib.Omega.{arith}
 use lib.ListN.{length, drop}
 use Rattle.arbiter.specs.Effects.{powerUp}
 use Rattle.arbiter.specs.Steps.{step, answersFrom}
-use Rattle.arbiter.specs.Traces.{mostEvents, rawIn, rawsIn, answersIn, bytesOf, readTrace, refusalNumber, reportOf, bufferOf, report, bufferAfter}
-use Rattle.arbiter.specs.Listing.{headLine, answerLine, answerLines, listingOf, listing}
+use Rattle.arbiter.specs.Traces.{headBytes, eventBytes, mostEvents, answerRoom, rawIn, rawsIn, answersIn, bytesOf, readTrace, refusalNumber, reportOf, bufferOf, report, bufferAfter}
+use Rattle.arbiter.specs.Listing.{headLine, answerLine, answerLines, mostChars, listingOf, listing}
 use Rattle.traces.specs.declared.Head.{Head}
 use Rattle.traces.specs.Bodies.{headOf}
 use Rattle.arbiter.specs.declared.Device.{Device}
@@ -31,11 +31,11 @@ lines-of (a ∷ l) rest = ap (λ (r : List ℕ). answerLine a ++ r) (lines-of l 
 answers-count : (d : Device) (k : ℕ) (l : List ℕ) → length (answersFrom d (rawsIn k l)) ≡ k
 unfolding answersFrom rawsIn
 answers-count d zero l = refl
-answers-count d (suc k) l = ap suc (answers-count (step d (rawIn l) .device) k (drop 4 l))
+answers-count d (suc k) l = ap suc (answers-count (step d (rawIn l) .device) k (drop eventBytes l))
 
 lines-in : (n : ℕ) (t rest : List ℕ) → answerLines (answersIn n t) ≡ linesIn n (bytesOf (answersIn n t) ++ rest)
 lines-in n t rest =
-    sym (lines-of (answersIn n t) rest) ∙ ap (λ (k : ℕ). linesIn k (bytesOf (answersIn n t) ++ rest)) (answers-count powerUp n (drop 7 t))
+    sym (lines-of (answersIn n t) rest) ∙ ap (λ (k : ℕ). linesIn k (bytesOf (answersIn n t) ++ rest)) (answers-count powerUp n (drop headBytes t))
 
 -- ---- a refusal's number is 5 to 10
 
@@ -65,20 +65,20 @@ refusal-short BadCount = omega arith
 
 -- ---- no listing is longer than that of 4,096 events
 
-pub listing-short : (t : List ℕ) → length (listing t) ≤ 36872
+pub listing-short : (t : List ℕ) → length (listing t) ≤ mostChars
 unfolding listing listingOf
-listing-short t = go (readTrace t 16384) refl
+listing-short t = go (readTrace t answerRoom) refl
   where
-    go : (x : TraceRead) → readTrace t 16384 ≡ x → length (listingOf x t) ≤ 36872
+    go : (x : TraceRead) → readTrace t answerRoom ≡ x → length (listingOf x t) ≤ mostChars
     go (Accepted a n) h =
-        let few = accepted-fits t 16384 a n h .2 in
+        let few = accepted-fits t answerRoom a n h .2 in
         let l = ap length (ap (λ (l : List ℕ). headLine a n ++ l) (lines-in n t [])) ∙ sym (listed-length a n (bytesOf (answersIn n t) ++ [])) in
         omega (arith, few, l)
     go (Refused r) h = omega (arith, refusal-short r)
 
 -- ---- a trace run with room for the answers of any
 
-module _ (t room : List ℕ) (e : 16384 ≡ length room) where
+module _ (t room : List ℕ) (e : answerRoom ≡ length room) where
   same-reading : listing t ≡ listingOf (readTrace t (length room)) t
   unfolding listing
   same-reading = ap (λ (k : ℕ). listingOf (readTrace t k) t) e
@@ -88,14 +88,14 @@ module _ (t room : List ℕ) (e : 16384 ≡ length room) where
   accepted-listing h = go (readTrace t (length room)) h ∙ sym same-reading
     where
       go : (x : TraceRead) → reportOf x t .number ≡ 0 → headLine (reportOf x t .address) (reportOf x t .events) ++ linesIn (reportOf x t .events) (bufferOf x t room) ≡ listingOf x t
-      go (Accepted a n) z = ap (λ (l : List ℕ). headLine a n ++ l) (sym (lines-in n t (drop (4 * n) room)))
+      go (Accepted a n) z = ap (λ (l : List ℕ). headLine a n ++ l) (sym (lines-in n t (drop (eventBytes * n) room)))
       go (Refused r) z = absurd (some-number r z)
 
-  answers-fit : (4 * report t room .events ≤ length room) × (report t room .events ≤ mostEvents)
+  answers-fit : (eventBytes * report t room .events ≤ length room) × (report t room .events ≤ mostEvents)
   unfolding report reportOf
   answers-fit = go (readTrace t (length room)) refl
     where
-      go : (x : TraceRead) → readTrace t (length room) ≡ x → (4 * reportOf x t .events ≤ length room) × (reportOf x t .events ≤ mostEvents)
+      go : (x : TraceRead) → readTrace t (length room) ≡ x → (eventBytes * reportOf x t .events ≤ length room) × (reportOf x t .events ≤ mostEvents)
       go (Accepted a n) h = let fits = accepted-fits t (length room) a n h in (fits .1, fits .2)
       go (Refused r) h = (omega arith, omega arith)
 
@@ -116,8 +116,8 @@ module _ (t room : List ℕ) (e : 16384 ≡ length room) where
         ∙ ap (λ (x : Head). headLine (x .address) (x .events) ++ linesIn (x .events) (bufferAfter t room)) same
         ∙ accepted-listing (sym (ap (λ (x : Head). x .number) same) ∙ z)
 
-    pub told-fits : (4 * r .events ≤ length room) × (r .events ≤ mostEvents)
-    told-fits = subst (λ (x : Head). (4 * x .events ≤ length room) × (x .events ≤ mostEvents)) (sym same) answers-fit
+    pub told-fits : (eventBytes * r .events ≤ length room) × (r .events ≤ mostEvents)
+    told-fits = subst (λ (x : Head). (eventBytes * x .events ≤ length room) × (x .events ≤ mostEvents)) (sym same) answers-fit
 
     pub told-refused : (r .number ≡ 0 → ⊥) → (refusalLine (r .number) ≡ listing t) × (r .number < 100)
     told-refused = subst (λ (x : Head). (x .number ≡ 0 → ⊥) → (refusalLine (x .number) ≡ listing t) × (x .number < 100)) (sym same) refused-listing

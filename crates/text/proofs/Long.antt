@@ -1,4 +1,4 @@
--- An input longer than any trace lists as its first 7 + 4 * 4096 + 1 bytes do, so a program need not read further.
+-- An input longer than any trace lists as its beginning does, one byte more than the longest trace, so a program need not read further.
 -- Assumes nothing.
 use mathlib.Core.Path.{_≡_, refl, sym, ap, subst, _∙_}
 use mathlib.Core.Bool.{Bool, true, false, not}
@@ -12,7 +12,7 @@ use lib.Seq.{getD-take, length-take-le}
 use borrow.Author.Tests.{ltb-false, le-ltb, lt-ltb}
 use Rattle.arbiter.specs.Words.{if_then_else_}
 use Rattle.arbiter.specs.Straps.{addressOf}
-use Rattle.arbiter.specs.Traces.{pinCount, mostEvents, byteAt, pinsIn, countIn, wholeBytes, readCounted, readStrapped, readTrace}
+use Rattle.arbiter.specs.Traces.{pinCount, pinBytes, headBytes, eventBytes, mostEvents, wholeBytes, mostBytes, answerRoom, byteAt, pinsIn, countIn, readCounted, readStrapped, readTrace}
 use Rattle.arbiter.specs.Listing.{listingOf, listing}
 use Rattle.arbiter.specs.declared.Pins.{Pins}
 use Rattle.arbiter.specs.declared.Refusal.{Refusal}
@@ -22,6 +22,10 @@ use Rattle.arbiter.specs.declared.Strapped.the-variants.{Address, Unlisted}
 use Rattle.arbiter.specs.declared.TraceRead.{TraceRead}
 use Rattle.arbiter.specs.declared.TraceRead.the-variants.{Accepted, Refused}
 
+-- what a program reads at most
+abbrev pub enough : ℕ
+enough = mostBytes + 1
+
 -- why it is refused: its first byte is not 4, its pins are unlisted, its count of events is above 4,096, or there is more than its events
 abbrev whyLong : Bool → Strapped → Bool → Refusal
 whyLong true s many = BadCount
@@ -29,15 +33,15 @@ whyLong false Unlisted many = BadStraps
 whyLong false (Address a) true = TooManyEvents
 whyLong false (Address a) false = BytesAfterEnd
 
-module _ (t : List ℕ) (room : ℕ) (long : 16392 ≤ length t) where
+module _ (t : List ℕ) (room : ℕ) (long : enough ≤ length t) where
   counted : (a : ℕ) → readCounted a t room ≡ Refused (whyLong false (Address a) (ltb mostEvents (countIn t)))
   unfolding readCounted
-  counted a = simp (le-ltb (length t) 7 (omega arith)) (go (ltb mostEvents (countIn t)) refl)
+  counted a = simp (le-ltb (length t) headBytes (omega arith)) (go (ltb mostEvents (countIn t)) refl)
     where
       n : ℕ
       n = countIn t
 
-      go : (many : Bool) → ltb mostEvents n ≡ many → (if many then Refused TooManyEvents else if ltb (length t) (wholeBytes n) then Refused TraceCut else if ltb (wholeBytes n) (length t) then Refused BytesAfterEnd else if ltb room (4 * n) then Refused NoRoom else Accepted a n) ≡ Refused (whyLong false (Address a) many)
+      go : (many : Bool) → ltb mostEvents n ≡ many → (if many then Refused TooManyEvents else if ltb (length t) (wholeBytes n) then Refused TraceCut else if ltb (wholeBytes n) (length t) then Refused BytesAfterEnd else if ltb room (eventBytes * n) then Refused NoRoom else Accepted a n) ≡ Refused (whyLong false (Address a) many)
       go true h = refl
       go false h =
           let few = ltb-false mostEvents n h in
@@ -46,25 +50,25 @@ module _ (t : List ℕ) (room : ℕ) (long : 16392 ≤ length t) where
   read : readTrace t room ≡ Refused (whyLong (not (eqb (byteAt 0 t) pinCount)) (addressOf (pinsIn t)) (ltb mostEvents (countIn t)))
   unfolding readTrace readStrapped
   read =
-      simp (le-ltb (length t) 1 (omega arith), le-ltb (length t) 5 (omega arith)) (go (not (eqb (byteAt 0 t) pinCount)) (addressOf (pinsIn t)))
+      simp (le-ltb (length t) 1 (omega arith), le-ltb (length t) pinBytes (omega arith)) (go (not (eqb (byteAt 0 t) pinCount)) (addressOf (pinsIn t)))
     where
       go : (b : Bool) (s : Strapped) → (if b then Refused BadCount else readStrapped s t room) ≡ Refused (whyLong b s (ltb mostEvents (countIn t)))
       go true s = refl
       go false Unlisted = refl
       go false (Address a) = counted a
 
-byte-kept : (t : List ℕ) (i : ℕ) → i < 16392 → byteAt i (take 16392 t) ≡ byteAt i t
-byte-kept t i h = getD-take 16392 t i 0 h
+byte-kept : (t : List ℕ) (i : ℕ) → i < enough → byteAt i (take enough t) ≡ byteAt i t
+byte-kept t i h = getD-take enough t i 0 h
 
-pub long-listing : (t : List ℕ) → 16392 ≤ length t → listing (take 16392 t) ≡ listing t
+pub long-listing : (t : List ℕ) → enough ≤ length t → listing (take enough t) ≡ listing t
 unfolding listing listingOf
 long-listing t long =
-    let k : List ℕ = take 16392 t in
-    let whole : 16392 ≤ length k = subst (λ (n : ℕ). 16392 ≤ n) (sym (length-take-le 16392 t long)) (le-refl 16392) in
+    let k : List ℕ = take enough t in
+    let whole : enough ≤ length k = subst (λ (n : ℕ). enough ≤ n) (sym (length-take-le enough t long)) (le-refl enough) in
     let pins : pinsIn k ≡ pinsIn t = λ j. record { ad3 = byte-kept t 1 (lit< tt) j; ad2 = byte-kept t 2 (lit< tt) j; ad1 = byte-kept t 3 (lit< tt) j; ad0 = byte-kept t 4 (lit< tt) j } in
     let count : countIn k ≡ countIn t = λ j. byte-kept t 5 (lit< tt) j + 256 * byte-kept t 6 (lit< tt) j in
-    ap (λ (x : TraceRead). listingOf x k) (read k 16384 whole)
+    ap (λ (x : TraceRead). listingOf x k) (read k answerRoom whole)
     ∙ ap (λ (b : ℕ). listingOf (Refused (whyLong (not (eqb b pinCount)) (addressOf (pinsIn k)) (ltb mostEvents (countIn k)))) t) (byte-kept t 0 (lit< tt))
     ∙ ap (λ (p : Pins). listingOf (Refused (whyLong (not (eqb (byteAt 0 t) pinCount)) (addressOf p) (ltb mostEvents (countIn k)))) t) pins
     ∙ ap (λ (n : ℕ). listingOf (Refused (whyLong (not (eqb (byteAt 0 t) pinCount)) (addressOf (pinsIn t)) (ltb mostEvents n))) t) count
-    ∙ sym (ap (λ (x : TraceRead). listingOf x t) (read t 16384 long))
+    ∙ sym (ap (λ (x : TraceRead). listingOf x t) (read t answerRoom long))

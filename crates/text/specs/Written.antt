@@ -5,7 +5,7 @@ use mathlib.Core.List.{List, [], _∷_, _++_}
 use lib.Dec.{ltb}
 use lib.ListN.{length, drop}
 use Rattle.arbiter.specs.Words.{if_then_else_}
-use Rattle.arbiter.specs.Traces.{byteAt}
+use Rattle.arbiter.specs.Traces.{eventBytes, byteAt}
 use Rattle.arbiter.specs.Listing.{newline, hex2, decimal, listing}
 
 -- `buffer` with the text w at its start, if it has room for it; bytes after the text stay
@@ -24,7 +24,7 @@ lineIn b = hex2 (byteAt 0 b) ++ hex2 (byteAt 1 b) ++ hex2 (byteAt 2 b) ++ hex2 (
 
 unfoldable pub linesIn : ℕ → List ℕ → List ℕ
 linesIn zero b = []
-linesIn (suc n) b = lineIn b ++ linesIn n (drop 4 b)
+linesIn (suc n) b = lineIn b ++ linesIn n (drop eventBytes b)
 
 -- the line of a refusal with this number
 abbrev pub refusalLine : ℕ → List ℕ

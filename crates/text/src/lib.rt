@@ -4,9 +4,21 @@ ghost use mathlib.Core.Path.{_≡_};
 ghost use mathlib.Core.List.{_++_};
 ghost use lib.ListN.{length, drop};
 ghost use lib.Seq.{sets};
-ghost use Rattle.arbiter.specs.Listing.{hexDigit, hex2, headLine, listing};
+ghost use Rattle.arbiter.specs.Traces.{eventBytes, mostEvents, answerRoom};
+ghost use Rattle.arbiter.specs.Listing.{hexDigit, hex2, headLine, headChars, lineChars, mostChars, listing};
 ghost use Rattle.text.specs.Written.{fitted, textAfter, lineIn, linesIn, refusalLine};
+use format::ANSWER_ROOM;
+use format::EVENT_BYTES;
+use format::MOST_EVENTS;
 use traces::answer_trace;
+
+// The lengths of the first line and of an answer's line, their ends counted.
+const HEAD_CHARS: usize = 8;
+
+const LINE_CHARS: usize = 9;
+
+// Room for any listing.
+pub const LISTING_ROOM: usize = HEAD_CHARS + LINE_CHARS * MOST_EVENTS;
 
 const NEWLINE: u8 = 0x0A;
 
@@ -45,7 +57,7 @@ fn put_hex(text: &mut [u8], at: usize, v: u8)
 // ---- lines
 
 fn put_head(text: &mut [u8], address: u8, n: usize)
-    requires { ⌜ (8 ≤ length (now text)) × (n ≤ 4096) ⌝ }
+    requires { ⌜ (headChars ≤ length (now text)) × (n ≤ mostEvents) ⌝ }
     ensures { λ _. ⌜ now (text .exit) ≡ sets (now (text .entry)) 0 (headLine address n) ⌝ }
 {
     put_hex(text, 0, address);
@@ -57,7 +69,7 @@ fn put_head(text: &mut [u8], address: u8, n: usize)
 
 // The line of the answer at `from`.
 fn put_line(text: &mut [u8], at: usize, answers: &[u8], from: usize)
-    requires { ⌜ (at + 9 ≤ length (now text)) × (from + 4 ≤ length (now answers)) ⌝ }
+    requires { ⌜ (at + lineChars ≤ length (now text)) × (from + eventBytes ≤ length (now answers)) ⌝ }
     ensures { λ _. ⌜ now (text .exit) ≡ sets (now (text .entry)) at (lineIn (drop from (now (answers .entry)))) ⌝ }
 {
     put_hex(text, at, answers[from]);
@@ -69,12 +81,12 @@ fn put_line(text: &mut [u8], at: usize, answers: &[u8], from: usize)
 
 // The lines of n answers after the head's.
 fn put_lines(text: &mut [u8], answers: &[u8], n: usize)
-    requires { ⌜ (8 + 9 * n ≤ length (now text)) × (4 * n ≤ length (now answers)) ⌝ }
-    ensures { λ _. ⌜ now (text .exit) ≡ sets (now (text .entry)) 8 (linesIn n (now (answers .entry))) ⌝ }
+    requires { ⌜ (headChars + lineChars * n ≤ length (now text)) × (eventBytes * n ≤ length (now answers)) ⌝ }
+    ensures { λ _. ⌜ now (text .exit) ≡ sets (now (text .entry)) headChars (linesIn n (now (answers .entry))) ⌝ }
 {
     let mut i: usize = 0;
     while i < n {
-        put_line(text, 8 + 9 * i, answers, 4 * i);
+        put_line(text, HEAD_CHARS + LINE_CHARS * i, answers, EVENT_BYTES * i);
         i += 1;
     }
 }
@@ -82,10 +94,10 @@ fn put_lines(text: &mut [u8], answers: &[u8], n: usize)
 // ---- the two kinds of listing
 
 fn list_accepted(address: u8, n: usize, answers: &[u8], text: &mut [u8]) -> usize
-    requires { ⌜ (n ≤ 4096) × (4 * n ≤ length (now answers)) ⌝ }
+    requires { ⌜ (n ≤ mostEvents) × (eventBytes * n ≤ length (now answers)) ⌝ }
     ensures { λ r. ⌜ (r ≡ length (headLine address n ++ linesIn n (now (answers .entry)))) × (now (text .exit) ≡ fitted (headLine address n ++ linesIn n (now (answers .entry))) (now (text .entry))) ⌝ }
 {
-    let needed = 8 + 9 * n;
+    let needed = HEAD_CHARS + LINE_CHARS * n;
     if text.len() < needed {
         return needed;
     }
@@ -133,15 +145,15 @@ fn list_refused(number: u8, text: &mut [u8]) -> usize
 }
 
 // Room for the answers of any trace.
-fn answer_room() -> [u8; 16384]
-    ensures { λ r. ⌜ 16384 ≡ length r ⌝ }
+fn answer_room() -> [u8; ANSWER_ROOM]
+    ensures { λ r. ⌜ answerRoom ≡ length r ⌝ }
 {
-    [0; 16384]
+    [0; ANSWER_ROOM]
 }
 
 // The listing, by way of a buffer that holds the answers.
 fn list_by(t: &[u8], answers: &mut [u8], text: &mut [u8]) -> usize
-    requires { ⌜ 16384 ≡ length (now answers) ⌝ }
+    requires { ⌜ answerRoom ≡ length (now answers) ⌝ }
     ensures { λ r. ⌜ (r ≡ length (listing (now (t .entry)))) × (now (text .exit) ≡ textAfter (now (t .entry)) (now (text .entry))) ⌝ }
 {
     let report = answer_trace(t, answers);
@@ -152,10 +164,10 @@ fn list_by(t: &[u8], answers: &mut [u8], text: &mut [u8]) -> usize
     }
 }
 
-// The listing of any byte sequence. The result is its length, at most 8 + 9 * 4096; it is written if it fits into the lent buffer, and else
+// The listing of any byte sequence. The result is its length, at most LISTING_ROOM; it is written if it fits into the lent buffer, and else
 // the buffer stays.
 pub fn list_trace(t: &[u8], text: &mut [u8]) -> usize
-    ensures { λ r. ⌜ r ≤ 36872 ⌝ }
+    ensures { λ r. ⌜ r ≤ mostChars ⌝ }
     ensures { λ r. ⌜ (r ≡ length (listing (now (t .entry)))) × (now (text .exit) ≡ textAfter (now (t .entry)) (now (text .entry))) ⌝ }
 {
     let mut answers = answer_room();

@@ -1,20 +1,25 @@
--- One event more at the end of a run: the events, the device after them, their answers, and the answer bytes stored in the buffer.
+-- One event more at the end of a run: the events, the device after them, their answers, and the answer bytes stored in the buffer. Then
+-- what a whole run leaves, accepted or refused.
 -- Assumes nothing.
 use mathlib.Core.Path.{_≡_, _∙_, refl, sym, ap}
-use mathlib.Core.List.{List, [], _∷_, _++_, append-assoc}
-use Prim.Native.Nat.{ℕ, zero, suc, _+_, _*_, _≤_, _<_}
+use mathlib.Core.Bool.{false}
+use mathlib.Core.List.{List, [], _∷_, _++_, append-assoc, append-nil}
+use Prim.Native.Nat.{ℕ, zero, suc, _+_, _*_, _/_, _%_, _≤_, _<_}
+use native.Mathlib.Nat.{le-of-eq}
 use native.Mathlib.Numerals.{add-one}
 use native.Mathlib.Omega.{arith}
-use lib.ListN.{length, getD, set, drop, length-append}
-use lib.Seq.{drop-cons, set-at, drop-drop, getD-drop}
-use Rattle.arbiter.specs.Effects.{powerUp}
-use Rattle.arbiter.specs.Steps.{step, runFrom, answersFrom, run}
-use Rattle.arbiter.specs.Traces.{rawIn, rawsIn, eventsIn, bytesOf, answersIn}
+use lib.Dec.{ltb}
+use lib.ListN.{length, getD, set, take, drop, length-append, drop-of-length-le}
+use lib.Seq.{drop-cons, set-at, drop-drop, length-take-le}
+use borrow.Author.Tests.{eq-eqb, ne-eqb, lt-ltb, le-ltb}
+use Rattle.arbiter.specs.Steps.{step, runFrom, answersFrom}
+use Rattle.arbiter.specs.Traces.{eventBytes, rawIn, rawsIn, bytesOf, eventCount, ranNumber, ranCount, ran, bufferRan}
 use Rattle.arbiter.specs.declared.Device.{Device}
 use Rattle.arbiter.specs.declared.Raw.{Raw}
 use Rattle.arbiter.specs.declared.Answer.{Answer}
 use Rattle.arbiter.specs.declared.Stepped.{Stepped}
-use Rattle.traces.specs.Bodies.{rawAt, putAt}
+use Rattle.format.specs.Places.{eventAt, putAt, withAnswer}
+use Rattle.traces.specs.Bodies.{ranWith}
 
 -- ---- lists with one element more
 
@@ -35,37 +40,25 @@ bytes-more : (l : List Answer) (a : Answer) → bytesOf (l ++ a ∷ []) ≡ byte
 bytes-more [] a = refl
 bytes-more (x ∷ l) a = ap (λ (m : List ℕ). x .outcome ∷ x .read ∷ x .owner ∷ x .lines ∷ m) (bytes-more l a)
 
-raws-more : (k : ℕ) (l : List ℕ) → rawsIn (suc k) l ≡ rawsIn k l ++ (rawIn (drop (4 * k) l) ∷ [])
+raws-more : (k : ℕ) (l : List ℕ) → rawsIn (suc k) l ≡ rawsIn k l ++ (rawIn (drop (eventBytes * k) l) ∷ [])
 unfolding rawsIn
 raws-more zero l = refl
 raws-more (suc k) l =
-    ap (λ (rs : List Raw). rawIn l ∷ rs) (raws-more k (drop 4 l))
-    ∙ ap (λ (m : List ℕ). rawIn l ∷ (rawsIn k (drop 4 l) ++ (rawIn m ∷ []))) (drop-drop (4 * k) 4 l ∙ ap (λ (n : ℕ). drop n l) e)
+    let rest : List ℕ = drop eventBytes l in
+    ap (λ (rs : List Raw). rawIn l ∷ rs) (raws-more k rest)
+    ∙ ap (λ (m : List ℕ). rawIn l ∷ (rawsIn k rest ++ (rawIn m ∷ []))) (drop-drop (eventBytes * k) eventBytes l ∙ ap (λ (n : ℕ). drop n l) e)
   where
-    e : 4 + 4 * k ≡ 4 * suc k
+    e : eventBytes + eventBytes * k ≡ eventBytes * suc k
     e = omega arith
 
-answers-length : (d : Device) (k : ℕ) (l : List ℕ) → length (bytesOf (answersFrom d (rawsIn k l))) ≡ 4 * k
+events-more : (b : List ℕ) (k : ℕ) → k < eventCount b → rawsIn (k + 1) b ≡ rawsIn k b ++ (eventAt k b ∷ [])
+unfolding eventAt
+events-more b k h = ap (λ (n : ℕ). rawsIn n b) (add-one k) ∙ raws-more k b ∙ simp (lt-ltb k (eventCount b) h)
+
+answers-length : (d : Device) (k : ℕ) (l : List ℕ) → length (bytesOf (answersFrom d (rawsIn k l))) ≡ eventBytes * k
 unfolding answersFrom rawsIn
 answers-length d zero l = refl
-answers-length d (suc k) l = let h = answers-length (step d (rawIn l) .device) k (drop 4 l) in omega (arith, h)
-
--- ---- the event at a place of the trace
-
-byte-at : (t : List ℕ) (k i n : ℕ) → 7 + (4 * k + i) ≡ n → getD (drop (4 * k) (drop 7 t)) i 0 ≡ getD t n 0
-byte-at t k i n e = getD-drop (4 * k) (drop 7 t) i 0 ∙ getD-drop 7 t (4 * k + i) 0 ∙ ap (λ (m : ℕ). getD t m 0) e
-
-raw-at : (t : List ℕ) (k : ℕ) → rawIn (drop (4 * k) (drop 7 t)) ≡ rawAt t (7 + 4 * k)
-raw-at t k =
-    let a = byte-at t k 0 (7 + 4 * k) (omega arith) in
-    let b = byte-at t k 1 (7 + 4 * k + 1) (omega arith) in
-    let c = byte-at t k 2 (7 + 4 * k + 2) (omega arith) in
-    let d = byte-at t k 3 (7 + 4 * k + 3) (omega arith) in
-    λ j. record { kind = a j; x = b j; y = c j; z = d j }
-
-events-more : (t : List ℕ) (k : ℕ) → eventsIn (k + 1) t ≡ eventsIn k t ++ (rawAt t (7 + 4 * k) ∷ [])
-events-more t k =
-    ap (λ (n : ℕ). eventsIn n t) (add-one k) ∙ raws-more k (drop 7 t) ∙ ap (λ (r : Raw). eventsIn k t ++ (r ∷ [])) (raw-at t k)
+answers-length d (suc k) l = let h = answers-length (step d (rawIn l) .device) k (drop eventBytes l) in omega (arith, h)
 
 -- ---- four bytes stored right after what was written
 
@@ -94,31 +87,80 @@ put-four p l n a e h =
     ∙ put-one p3 l (n + 3) (n + 4) (a .lines) l3 (omega arith) (omega arith)
     ∙ simp append-assoc
 
+-- the same at the place of event k, which the buffer l has
+put-next : (p l out : List ℕ) (k : ℕ) (a : Answer) → length p ≡ eventBytes * k → out ≡ p ++ drop (eventBytes * k) l → length out ≡ length l → eventBytes * (k + 1) ≤ length l
+    → withAnswer out k a ≡ (p ++ four a) ++ drop (eventBytes * (k + 1)) l
+unfolding withAnswer
+put-next p l out k a e o same h =
+    let place : k < eventCount out = omega arith in
+    let next : eventBytes * k + 4 ≡ eventBytes * (k + 1) = omega arith in
+    simp (lt-ltb k (eventCount out) place)
+    (ap (λ (r : List ℕ). putAt r (eventBytes * k) a) o
+    ∙ put-four p l (eventBytes * k) a e (omega arith)
+    ∙ ap (λ (n : ℕ). (p ++ four a) ++ drop n l) next)
+
 -- ---- one turn of the loop: the step's result s at the device d, which is the one after k events
 
-module _ (t : List ℕ) (k : ℕ) (d : Device) (s : Stepped) (at-k : d ≡ run (eventsIn k t)) (stepped : s ≡ step d (rawAt t (7 + 4 * k))) where
-  same-step : s ≡ step (run (eventsIn k t)) (rawAt t (7 + 4 * k))
-  same-step = stepped ∙ ap (λ (x : Device). step x (rawAt t (7 + 4 * k))) at-k
+module _ (from : Device) (b : List ℕ) (k : ℕ) (d : Device) (s : Stepped) (more : k < eventCount b) (at-k : d ≡ runFrom from (rawsIn k b)) (stepped : s ≡ step d (eventAt k b)) where
+  same-step : s ≡ step (runFrom from (rawsIn k b)) (eventAt k b)
+  same-step = stepped ∙ ap (λ (x : Device). step x (eventAt k b)) at-k
 
-  pub again-device : s .device ≡ run (eventsIn (k + 1) t)
-  unfolding run
+  pub again-device : s .device ≡ runFrom from (rawsIn (k + 1) b)
   again-device =
       ap (λ (x : Stepped). x .device) same-step
-      ∙ sym (ap (runFrom powerUp) (events-more t k) ∙ run-more powerUp (eventsIn k t) (rawAt t (7 + 4 * k)))
+      ∙ sym (ap (runFrom from) (events-more b k more) ∙ run-more from (rawsIn k b) (eventAt k b))
 
-  answers-again : bytesOf (answersIn (k + 1) t) ≡ bytesOf (answersIn k t) ++ four (s .answer)
-  unfolding run
+  answers-again : bytesOf (answersFrom from (rawsIn (k + 1) b)) ≡ bytesOf (answersFrom from (rawsIn k b)) ++ four (s .answer)
   answers-again =
-      ap (λ (rs : List Raw). bytesOf (answersFrom powerUp rs)) (events-more t k)
-      ∙ ap bytesOf (answers-more powerUp (eventsIn k t) (rawAt t (7 + 4 * k)))
-      ∙ bytes-more (answersIn k t) (step (runFrom powerUp (eventsIn k t)) (rawAt t (7 + 4 * k)) .answer)
-      ∙ ap (λ (x : Stepped). bytesOf (answersIn k t) ++ four (x .answer)) (sym same-step)
+      ap (λ (rs : List Raw). bytesOf (answersFrom from rs)) (events-more b k more)
+      ∙ ap bytesOf (answers-more from (rawsIn k b) (eventAt k b))
+      ∙ bytes-more (answersFrom from (rawsIn k b)) (step (runFrom from (rawsIn k b)) (eventAt k b) .answer)
+      ∙ ap (λ (x : Stepped). bytesOf (answersFrom from (rawsIn k b)) ++ four (x .answer)) (sym same-step)
 
-  pub again-out : (l out last : List ℕ) → out ≡ bytesOf (answersIn k t) ++ drop (4 * k) l → last ≡ putAt out (4 * k) (s .answer) → 4 * k + 4 ≤ length l → last ≡ bytesOf (answersIn (k + 1) t) ++ drop (4 * (k + 1)) l
-  again-out l out last o p h =
-      let e : 4 * k + 4 ≡ 4 * (k + 1) = omega arith in
+  pub again-out : (l out last : List ℕ) → out ≡ bytesOf (answersFrom from (rawsIn k b)) ++ drop (eventBytes * k) l → length out ≡ length l → last ≡ withAnswer out k (s .answer) → eventBytes * (k + 1) ≤ length l
+      → last ≡ bytesOf (answersFrom from (rawsIn (k + 1) b)) ++ drop (eventBytes * (k + 1)) l
+  again-out l out last o same p h =
       p
-      ∙ ap (λ (x : List ℕ). putAt x (4 * k) (s .answer)) o
-      ∙ put-four (bytesOf (answersIn k t)) l (4 * k) (s .answer) (answers-length powerUp k (drop 7 t)) h
-      ∙ ap (λ (n : ℕ). (bytesOf (answersIn k t) ++ four (s .answer)) ++ drop n l) e
-      ∙ ap (λ (x : List ℕ). x ++ drop (4 * (k + 1)) l) (sym answers-again)
+      ∙ put-next (bytesOf (answersFrom from (rawsIn k b))) l out k (s .answer) (answers-length from k b) o same h
+      ∙ ap (λ (x : List ℕ). x ++ drop (eventBytes * (k + 1)) l) (sym answers-again)
+
+-- ---- what a whole run leaves: refused for its bytes, refused for the room, or run to the end
+
+module _ (d : Device) (events buffer : List ℕ) where
+  pub odd-ran : (length events % eventBytes ≡ 0 → ⊥) → (ranWith 5 0 d ≡ ran d events buffer) × (buffer ≡ bufferRan d events buffer)
+  unfolding ran bufferRan ranNumber ranCount runFrom answersFrom rawsIn
+  odd-ran odd = (simp (ne-eqb _ _ odd), simp (ne-eqb _ _ odd))
+
+  pub short-ran : length events % eventBytes ≡ 0 → length buffer / eventBytes < eventCount events → (ranWith 9 0 d ≡ ran d events buffer) × (buffer ≡ bufferRan d events buffer)
+  unfolding ran bufferRan ranNumber ranCount runFrom answersFrom rawsIn
+  short-ran fours short =
+      let room = lt-ltb (length buffer) (eventBytes * eventCount events) (omega arith) in
+      (simp (eq-eqb _ _ fours, room), simp (eq-eqb _ _ fours, room))
+
+  module _ (n : ℕ) (whole : length events ≡ eventBytes * n) (fits : eventBytes * n ≤ length buffer) where
+    counted : ranCount events (length buffer) ≡ n
+    unfolding ranCount ranNumber
+    counted =
+        let fours : length events % eventBytes ≡ 0 = omega arith in
+        let count : eventCount events ≡ n = omega arith in
+        simp (eq-eqb _ _ fours, le-ltb (length buffer) (eventBytes * eventCount events) (omega arith)) count
+
+    unrefused : ranNumber events (length buffer) ≡ 0
+    unfolding ranNumber
+    unrefused =
+        let fours : length events % eventBytes ≡ 0 = omega arith in
+        simp (eq-eqb _ _ fours, le-ltb (length buffer) (eventBytes * eventCount events) (omega arith))
+
+    pub all-ran : ranWith 0 n (runFrom d (rawsIn n events)) ≡ ran d events buffer
+    unfolding ran
+    all-ran = simp (unrefused, counted)
+
+    pub all-answered : bytesOf (answersFrom d (rawsIn n events)) ++ drop (eventBytes * n) buffer ≡ bufferRan d events buffer
+    unfolding bufferRan
+    all-answered = simp counted
+
+    -- the answers fill the part of the buffer that is theirs, and the rest stays
+    pub part-answered : (part : List ℕ) → part ≡ bytesOf (answersFrom d (rawsIn n events)) ++ drop (eventBytes * n) (take (eventBytes * n) buffer) → part ++ drop (eventBytes * n) buffer ≡ bufferRan d events buffer
+    part-answered part e =
+        let none : drop (eventBytes * n) (take (eventBytes * n) buffer) ≡ [] = drop-of-length-le (take (eventBytes * n) buffer) (le-of-eq (length-take-le (eventBytes * n) buffer fits)) in
+        ap (λ (l : List ℕ). l ++ drop (eventBytes * n) buffer) (e ∙ ap (λ (l : List ℕ). bytesOf (answersFrom d (rawsIn n events)) ++ l) none ∙ append-nil (bytesOf (answersFrom d (rawsIn n events)))) ∙ all-answered

@@ -1,20 +1,30 @@
 // A trace: read from its bytes, or refused by number, and run event by event into a lent answer buffer.
-ghost use Prim.Native.Nat.{_+_, _*_, _≤_, _<_};
+ghost use Prim.Native.Nat.{ℕ, _*_, _≤_};
 ghost use mathlib.Core.Path.{_≡_};
-ghost use mathlib.Core.List.{_++_};
+ghost use mathlib.Core.List.{List, _++_};
 ghost use lib.ListN.{length, drop};
-ghost use Rattle.arbiter.specs.Steps.{step, run};
-ghost use Rattle.arbiter.specs.Traces.{pinsIn, countIn, eventsIn, readCounted, readTrace, refusalNumber, bytesOf, answersIn, report, bufferAfter};
-ghost use Rattle.traces.specs.Bodies.{bodyRead, rawAt, putAt, reportWith, headOf};
-use arbiter::Answer;
+ghost use Rattle.arbiter.specs.Steps.{step, runFrom, answersFrom};
+ghost use Rattle.arbiter.specs.Traces.{eventBytes, rawsIn, readCounted, readTrace, refusalNumber, readNumber, bytesOf, report, bufferAfter, ran, bufferRan};
+ghost use Rattle.traces.specs.Bodies.{bodyRead, ranWith, reportWith, headOf};
 use arbiter::Device;
-use arbiter::Pins;
+use arbiter::Ran;
 use arbiter::Raw;
 use arbiter::Refusal;
 use arbiter::Report;
 use arbiter::Stepped;
 use arbiter::Strapped;
 use arbiter::TraceRead;
+use format::EVENT_BYTES;
+use format::HEAD_BYTES;
+use format::MOST_EVENTS;
+use format::PIN_BYTES;
+use format::PIN_COUNT;
+use format::count_in;
+use format::event_at;
+use format::events_in;
+use format::pins_in;
+use format::put_answer;
+use format::whole_bytes;
 use step::fresh;
 use step::step_device;
 use straps::address_of;
@@ -28,70 +38,43 @@ pub struct Head {
 
 // ---- reading
 
-fn wide(x: u8) -> usize
-    ensures { λ r. ⌜ (r ≡ x) × (r < 256) ⌝ }
-{
-    x as usize
-}
-
-// The two-byte count of events.
-fn count_in(t: &[u8]) -> usize
-    requires { ⌜ 7 ≤ length (now t) ⌝ }
-    ensures { λ r. ⌜ (r ≡ countIn (now (t .entry))) × (r < 65536) ⌝ }
-{
-    wide(t[5]) + 256 * wide(t[6])
-}
-
-fn body_read(address: u8, len: usize, n: usize, room: usize) -> TraceRead
-    requires { ⌜ n < 65536 ⌝ }
+fn body_read(address: u8, len: usize, n: u16, room: usize) -> TraceRead
     ensures { λ r. ⌜ r ≡ bodyRead address len n room ⌝ }
 {
-    if 4096 < n {
+    let events = n as usize;
+    if MOST_EVENTS < events {
         return TraceRead::Refused(Refusal::TooManyEvents);
     }
-    if len < 7 + 4 * n {
+    if len < whole_bytes(n) {
         return TraceRead::Refused(Refusal::TraceCut);
     }
-    if 7 + 4 * n < len {
+    if whole_bytes(n) < len {
         return TraceRead::Refused(Refusal::BytesAfterEnd);
     }
-    if room < 4 * n {
+    if room < EVENT_BYTES * events {
         return TraceRead::Refused(Refusal::NoRoom);
     }
-    TraceRead::Accepted(address, n)
+    TraceRead::Accepted(address, events)
 }
 
 fn read_counted(address: u8, t: &[u8], room: usize) -> TraceRead
     ensures { λ r. ⌜ r ≡ readCounted address (now (t .entry)) room ⌝ }
 {
-    if t.len() < 7 {
+    if t.len() < HEAD_BYTES {
         return TraceRead::Refused(Refusal::TraceCut);
     }
-    let n = count_in(t);
-    body_read(address, t.len(), n, room)
-}
-
-fn pins_in(t: &[u8]) -> Pins
-    requires { ⌜ 5 ≤ length (now t) ⌝ }
-    ensures { λ r. ⌜ r ≡ pinsIn (now (t .entry)) ⌝ }
-{
-    Pins {
-        ad3: t[1],
-        ad2: t[2],
-        ad1: t[3],
-        ad0: t[4],
-    }
+    body_read(address, t.len(), count_in(t), room)
 }
 
 // A trace and the room for its answers: accepted, or refused in the order of document 01.
 pub fn read_trace(t: &[u8], room: usize) -> TraceRead
-    ensures { λ r. ⌜ r ≡ readTrace (now (t .entry)) room ⌝ }
+    ensures { λ r. ⌜ (r ≡ readTrace (now (t .entry)) room) × ((buffer : List ℕ) → length buffer ≡ room → readNumber r ≡ report (now (t .entry)) buffer .number) ⌝ }
 {
     if t.len() < 1 {
         return TraceRead::Refused(Refusal::TraceCut);
     }
-    if t[0] == 4 {
-        if t.len() < 5 {
+    if t[0] == PIN_COUNT {
+        if t.len() < PIN_BYTES {
             return TraceRead::Refused(Refusal::TraceCut);
         }
         let strapped = address_of(pins_in(t));
@@ -106,45 +89,56 @@ pub fn read_trace(t: &[u8], room: usize) -> TraceRead
 
 // ---- running
 
-fn step_at(d: Device, t: &[u8], at: usize) -> Stepped
-    requires { ⌜ at + 4 ≤ length (now t) ⌝ }
-    ensures { λ r. ⌜ r ≡ step d (rawAt (now (t .entry)) at) ⌝ }
+// The one place here that steps a device: a function as large as a step is inlined only where a single place calls it.
+fn step_one(d: Device, r: Raw) -> Stepped
+    ensures { λ s. ⌜ s ≡ step d r ⌝ }
 {
-    step_device(
-        d,
-        Raw {
-            kind: t[at],
-            x: t[at + 1],
-            y: t[at + 2],
-            z: t[at + 3],
-        },
-    )
+    step_device(d, r)
 }
 
-fn put_at(out: &mut [u8], at: usize, a: Answer)
-    requires { ⌜ at + 4 ≤ length (now out) ⌝ }
-    ensures { λ r. ⌜ now (out .exit) ≡ putAt (now (out .entry)) at a ⌝ }
+// The first n events of these bytes, each answered at its place.
+fn play(from: Device, events: &[u8], answers: &mut [u8], n: usize) -> Device
+    requires { ⌜ (eventBytes * n ≤ length (now events)) × (eventBytes * n ≤ length (now answers)) ⌝ }
+    ensures { λ r. ⌜ (r ≡ runFrom from (rawsIn n (now (events .entry)))) × (now (answers .exit) ≡ bytesOf (answersFrom from (rawsIn n (now (events .entry)))) ++ drop (eventBytes * n) (now (answers .entry))) ⌝ }
 {
-    out[at] = a.outcome;
-    out[at + 1] = a.read;
-    out[at + 2] = a.owner;
-    out[at + 3] = a.lines;
-}
-
-// The n events of a trace from power-up, each answered at its place.
-fn play(t: &[u8], out: &mut [u8], n: usize) -> Device
-    requires { ⌜ (7 + 4 * n ≤ length (now t)) × (4 * n ≤ length (now out)) ⌝ }
-    ensures { λ r. ⌜ (r ≡ run (eventsIn n (now (t .entry)))) × (now (out .exit) ≡ bytesOf (answersIn n (now (t .entry))) ++ drop (4 * n) (now (out .entry))) ⌝ }
-{
-    let mut d = fresh();
+    let mut d = from;
     let mut i: usize = 0;
     while i < n {
-        let s = step_at(d, t, 7 + 4 * i);
-        put_at(out, 4 * i, s.answer);
+        let s = step_one(d, event_at(events, i));
+        put_answer(answers, i, s.answer);
         d = s.device;
         i += 1;
     }
     d
+}
+
+fn ran_with(number: u8, events: usize, device: Device) -> Ran
+    ensures { λ r. ⌜ r ≡ ranWith number events device ⌝ }
+{
+    Ran {
+        number,
+        events,
+        device,
+    }
+}
+
+// Raw events from any device, each answered in the lent buffer: the count of them and the device after them. Bytes that are not in fours,
+// and a buffer without room for the answers, are refused by number and leave device and buffer as they were.
+pub fn run_events(d: Device, events: &[u8], answers: &mut [u8]) -> Ran
+    ensures { λ r. ⌜ (r ≡ ran d (now (events .entry)) (now (answers .entry))) × (now (answers .exit) ≡ bufferRan d (now (events .entry)) (now (answers .entry))) ⌝ }
+{
+    let n = events.len() / EVENT_BYTES;
+    if events.len() % EVENT_BYTES == 0 {
+        if answers.len() / EVENT_BYTES < n {
+            return ran_with(9, 0, d);
+        }
+        // The part of the buffer that the answers fill: so each answer's place is known to be there without a test.
+        let end = EVENT_BYTES * n;
+        let last = play(d, events, &mut answers[..end], n);
+        ran_with(0, n, last)
+    } else {
+        ran_with(5, 0, d)
+    }
 }
 
 fn refusal_number(r: Refusal) -> u8
@@ -182,9 +176,9 @@ pub fn run_trace(t: &[u8], out: &mut [u8]) -> Report
             let number = refusal_number(why);
             reported(number, 0, 0, fresh())
         }
-        TraceRead::Accepted(address, n) => {
-            let d = play(t, out, n);
-            reported(0, address, n, d)
+        TraceRead::Accepted(address, _) => {
+            let r = run_events(fresh(), events_in(t), out);
+            reported(r.number, address, r.events, r.device)
         }
     }
 }

@@ -50,7 +50,7 @@ use denote.Triple.Walked.{says, needs, Stays, stay-none, stay-none-slice, walkOf
 use denote.Exit.{yes}
 use Rattle.arbiter.specs.Effects.{powerUp}
 use Rattle.arbiter.specs.Steps.{step, runFrom, run}
-use Rattle.arbiter.specs.Traces.{rawsIn, eventsIn}
+use Rattle.arbiter.specs.Traces.{rawsIn, eventCount}
 use Rattle.arbiter.specs.declared.Device.{Device}
 use Rattle.arbiter.specs.declared.Answer.{Answer}
 use Rattle.arbiter.specs.declared.Raw.{Raw}
@@ -60,7 +60,7 @@ use Rattle.arbiter.proofs.Raw as E
 use Rattle.arbiter.proofs.Raw.Laws as E′
 use Rattle.arbiter.proofs.Answer as U
 use Rattle.arbiter.proofs.Answer.Laws as U′
-use Rattle.traces.specs.Bodies.{rawAt}
+use Rattle.format.specs.Places.{eventAt}
 use Rattle.traces.proofs.Runs.{again-device}
 use Rattle.step.proofs.fresh as fr
 use Rattle.step.proofs.fresh.Symbol as fr-def
@@ -70,10 +70,10 @@ use Rattle.lent.proofs.step_lent as sl
 use Rattle.lent.proofs.step_lent.Symbol as sl-def
 use Rattle.lent.proofs.step_lent.Symbol.{name as #sl}
 use Rattle.lent.proofs.step_lent.Met as sl-thm
-use Rattle.bench.proofs.event_at as ea
-use Rattle.bench.proofs.event_at.Symbol as ea-def
-use Rattle.bench.proofs.event_at.Symbol.{name as #ea}
-use Rattle.bench.proofs.event_at.Met as ea-thm
+use Rattle.format.proofs.event_at as ea
+use Rattle.format.proofs.event_at.Symbol as ea-def
+use Rattle.format.proofs.event_at.Symbol.{name as #ea}
+use Rattle.format.proofs.event_at.Met as ea-thm
 use Rattle.bench.proofs.print_answer as pa
 use Rattle.bench.proofs.print_answer.Symbol as pa-def
 use Rattle.bench.proofs.print_answer.Symbol.{name as #pa}
@@ -151,16 +151,23 @@ module _ {M : Type 1} (𝓤 : URA M) (H : Heap 𝓤) (A : Atoms 𝓤) (at-mem : 
   fr-of : (d : Device) → ent 𝓤 (ensured 𝓤 H A fr.ended (fr.clauses 𝓤 H A at-mem run″) tt tt tt d) (fact 𝓤 (d ≡ powerUp))
   fr-of d = exE 𝓤 _ (λ ws. snd∗ 𝓤 (sem 𝓤 H A (lasts fr.ended tt tt ws)) (fact 𝓤 (d ≡ powerUp)))
 
-  ea-of : (κ : Lft) (s : RefT (List ℕ)) (i : ℕ) (r : Raw) → ent 𝓤 (ensured 𝓤 H A ea.ended (ea.clauses 𝓤 H A at-mem run″) (κ, tt) (s, (i, tt)) tt r) (fact 𝓤 (r ≡ rawAt (now s) (7 + 4 * i)))
-  ea-of κ s i r = exE 𝓤 _ (λ ws. snd∗ 𝓤 (sem 𝓤 H A (lasts ea.ended (κ, tt) (s, (i, tt)) ws)) (fact 𝓤 (r ≡ rawAt (now s) (7 + 4 * i))))
+  ea-of : (κ : Lft) (s : RefT (List ℕ)) (i : ℕ) (r : Raw) → ent 𝓤 (ensured 𝓤 H A ea.ended (ea.clauses 𝓤 H A at-mem run″) (κ, tt) (s, (i, tt)) tt r) (fact 𝓤 (r ≡ eventAt i (now s)))
+  ea-of κ s i r = exE 𝓤 _ (λ ws. snd∗ 𝓤 (sem 𝓤 H A (lasts ea.ended (κ, tt) (s, (i, tt)) ws)) (fact 𝓤 (r ≡ eventAt i (now s))))
 
-module _ {M : Type 1} (𝓤 : URA M) (H : Heap 𝓤) (A : Atoms 𝓤) (W : Given 𝓤 H A) (at-mem : Memory → SProp 𝓤) (run″ : Routine → Fun 𝓤) (κ : Lft) (q : Share) (s : RefT (List ℕ)) (n : ℕ) (s-is : Is (ShrSlice (named 0) κ u8) s (sliceVal (s .ptr) (length (s .now)) ∷ [])) (n-fits : n < 2 ^ 64) (holds : 7 + 4 * n ≤ length (s .now)) where
-  -- the trace, and the machine value of the slice
-  abbrev t : List ℕ
-  t = s .now
+module _ {M : Type 1} (𝓤 : URA M) (H : Heap 𝓤) (A : Atoms 𝓤) (W : Given 𝓤 H A) (at-mem : Memory → SProp 𝓤) (run″ : Routine → Fun 𝓤) (κ : Lft) (q : Share) (s : RefT (List ℕ)) (n : ℕ) (s-is : Is (ShrSlice (named 0) κ u8) s (sliceVal (s .ptr) (length (s .now)) ∷ [])) (n-fits : n < 2 ^ 64) (holds : n ≤ eventCount (s .now)) where
+  -- the events' bytes, the device after the first i of them, and the machine value of the slice
+  abbrev events : List ℕ
+  events = s .now
+
+  abbrev after : ℕ → Device
+  after i = runFrom powerUp (rawsIn i events)
+
+  after-run : after n ≡ run (rawsIn n events)
+  unfolding run
+  after-run = refl
 
   abbrev v : Val
-  v = sliceVal (s .ptr) (length t)
+  v = sliceVal (s .ptr) (length events)
 
   abbrev Own : Fml
   Own = ShrSlice (named 0) κ u8 .own s (v ∷ [])
@@ -177,13 +184,16 @@ module _ {M : Type 1} (𝓤 : URA M) (H : Heap 𝓤) (A : Atoms 𝓤) (W : Given
   abbrev Post : Val → SProp 𝓤
   Post = walkOf 𝓤 H A self.ended stayed (self.clauses 𝓤 H A at-mem run″) .post (((κ, tt), (q, tt), tt, a, at), tt)
 
-  exits : (d : Device) → DevIs d → d ≡ run (eventsIn n t) → ent 𝓤 (⋆ 𝓤 H A (‵ (flft κ q) ∷ ‵ Own ∷ [])) (Post (devVal d))
+  exits : (d : Device) → DevIs d → d ≡ after n → ent 𝓤 (⋆ 𝓤 H A (‵ (flft κ q) ∷ ‵ Own ∷ [])) (Post (devVal d))
   unfolding DevIs
   exits d g e =
       qed W (‵ (flft κ q) ∷ ‵ Own ∷ []) ∵
-      suffices ! _ (ends-at 𝓤 H A self.ended stayed (self.clauses 𝓤 H A at-mem run″) W (((κ, tt), (q, tt), tt, a, at), tt) (devVal d) d (tt, (tt, tt)) (tt, (tt, tt))) $ says ! e $
+      suffices ! _ (ends-at 𝓤 H A self.ended stayed (self.clauses 𝓤 H A at-mem run″) W (((κ, tt), (q, tt), tt, a, at), tt) (devVal d) d (tt, (tt, tt)) (tt, (tt, tt))) $ says ! (e ∙ after-run) $
       nothing ! $ move ! (1 ∷ 0 ∷ []) $ join ! $ frame ! $ nothing ! $ owned ! usize (Is usize) (uint-makes 𝓤 H A W w64) n _ (refl, n-fits) $ fjoin ! $ move ! (1 ∷ 0 ∷ []) $ fjoin ! $ frame ! $
       owned ! T.the-row (Is T.the-row) (LL.makes T.the-type T′.the-plain 𝓤 H A) d _ g $ done !
+
+  has-event : (i : ℕ) → i < n → i < eventCount events
+  has-event i small = let f : n ≤ eventCount events = holds in omega arith
 
   dev-has : (d : Device) → DevIs d → Holds (hasTy T′.mir (devVal d)) × WT (devVal d)
   unfolding DevIs
@@ -199,10 +209,10 @@ module _ {M : Type 1} (𝓤 : URA M) (H : Heap 𝓤) (A : Atoms 𝓤) (W : Given
   abbrev to-ea : ℕ → Ea 𝓤 H A at-mem run″ .Ghost
   to-ea i = (((κ, tt), (q, tt), tt, (s, (i, tt)), (v ∷ [], (vint w64 i ∷ [], tt))), tt)
 
-  goes-ea : (i : ℕ) → i < 2 ^ 64 → 7 + 4 * i + 4 ≤ length t → ent 𝓤 (sep 𝓤 (A .lft κ q) (sem 𝓤 H A Own)) (Ea 𝓤 H A at-mem run″ .pre (to-ea i))
-  goes-ea i i-fits within =
-      qed W (‵ (flft κ q) ∷ ‵ Own ∷ []) ∵ says ! within $ nothing ! $ move ! (1 ∷ 0 ∷ []) $ join ! $ frame ! $
-      nothing ! $ owned ! usize (Is usize) (uint-makes 𝓤 H A W w64) i _ (refl, i-fits) $ fjoin ! $ move ! (1 ∷ 0 ∷ []) $ fjoin ! $ done !
+  goes-ea : (i : ℕ) → i < 2 ^ 64 → ent 𝓤 (sep 𝓤 (A .lft κ q) (sem 𝓤 H A Own)) (Ea 𝓤 H A at-mem run″ .pre (to-ea i))
+  goes-ea i i-fits =
+      qed W (‵ (flft κ q) ∷ ‵ Own ∷ []) ∵ nothing ! $ owned ! usize (Is usize) (uint-makes 𝓤 H A W w64) i _ (refl, i-fits) $ join ! $
+      move ! (2 ∷ 0 ∷ []) $ join ! $ nothing ! $ move ! (2 ∷ 0 ∷ []) $ join ! $ join ! $ frame ! $ done !
 
   -- the reference that is lent for the lifetime ν, under the name γ, to the local at l
   abbrev x : ℕ → GName → Device → RefT Device
@@ -234,7 +244,7 @@ module _ {M : Type 1} (𝓤 : URA M) (H : Heap 𝓤) (A : Atoms 𝓤) (W : Given
 
     -- where the loop is: how many events were stepped, and the device after them
     abbrev X : Type 0
-    X = (i : ℕ) × ((d : Device) × ((i ≤ n) × ((d ≡ run (eventsIn i t)) × DevIs d)))
+    X = (i : ℕ) × ((d : Device) × ((i ≤ n) × ((d ≡ after i) × DevIs d)))
 
     abbrev left : X → ℕ
     left y = n - y .0
@@ -264,7 +274,7 @@ module _ {M : Type 1} (𝓤 : URA M) (H : Heap 𝓤) (A : Atoms 𝓤) (W : Given
     abbrev Printing : ℕ → Device → Val → Answer → Val → Val → List (Item 𝓤)
     Printing i d ev c z p = ‵ (fat fullShare T′.mir l₃ 0 (devVal d)) ∷ ‵ (fat fullShare (tyInt w64) l₄ 0 (vint w64 i)) ∷ ‵ (fat fullShare E′.mir l₅ 0 ev) ∷ ‵ (fat fullShare U′.mir l₆ 0 (ansVal c)) ∷ ‵ (fat fullShare tyBool l₈ 0 z) ∷ ‵ (fat fullShare lent l₉ 0 p) ∷ ‵ (froom tyUnit l₁₀ 0) ∷ Kept
 
-    third : (y : X) (d : Device) (ev : Val) (c : Answer) (z p : Val) → y .0 < n → DevIs d → AnsIs c → d ≡ run (eventsIn (y .0 + 1) t) → Sq W (Printing (y .0) d ev c z p) (runs C Λ En prints (anyQ (afterTurn 𝓤 H (Below 𝓤 H A ≺ Inv y) Left)))
+    third : (y : X) (d : Device) (ev : Val) (c : Answer) (z p : Val) → y .0 < n → DevIs d → AnsIs c → d ≡ after (y .0 + 1) → Sq W (Printing (y .0) d ev c z p) (runs C Λ En prints (anyQ (afterTurn 𝓤 H (Below 𝓤 H A ≺ Inv y) Left)))
     unfolding afterTurn
     third y d ev c z p small g c-is e =
         use0 W (raw (Pa 𝓤 H A at-mem run″ .pre (to-pa c))) (goes-pa c c-is) $
@@ -289,7 +299,7 @@ module _ {M : Type 1} (𝓤 : URA M) (H : Heap 𝓤) (A : Atoms 𝓤) (W : Given
     abbrev Lending : ℕ → Device → Raw → Val → List (Item 𝓤)
     Lending i d r z = ‵ (fat fullShare T′.mir l₃ 0 (devVal d)) ∷ ‵ (fat fullShare (tyInt w64) l₄ 0 (vint w64 i)) ∷ ‵ (fat fullShare E′.mir l₅ 0 (evVal r)) ∷ ‵ (froom U′.mir l₆ 0) ∷ ‵ (fat fullShare tyBool l₈ 0 z) ∷ ‵ (froom lent l₉ 0) ∷ ‵ (froom tyUnit l₁₀ 0) ∷ Kept
 
-    second : (y : X) (d : Device) (r : Raw) (z : Val) → y .0 < n → DevIs d → EvIs r → d ≡ run (eventsIn (y .0) t) → r ≡ rawAt t (7 + 4 * y .0) → Sq W (Lending (y .0) d r z) (runs C Λ En lends (anyQ (afterTurn 𝓤 H (Below 𝓤 H A ≺ Inv y) Left)))
+    second : (y : X) (d : Device) (r : Raw) (z : Val) → y .0 < n → DevIs d → EvIs r → d ≡ after (y .0) → r ≡ eventAt (y .0) events → Sq W (Lending (y .0) d r z) (runs C Λ En lends (anyQ (afterTurn 𝓤 H (Below 𝓤 H A ≺ Inv y) Left)))
     unfolding partOf DevIs
     second y d r z small g r-is d-eq r-eq =
         assigns ! (addr ! (from ! (stop !))) (from ! (stop !)) (init ! 5 refl (tt, tt)) $
@@ -313,7 +323,7 @@ module _ {M : Type 1} (𝓤 : URA M) (H : Heap 𝓤) (A : Atoms 𝓤) (W : Given
         move ! (1 ∷ []) $ peeks ! T.the-row (Is T.the-row) (shows 𝓤 H A T.the-row) (ws .0) (devVal (ws .0) ∷ []) (λ g′. drop ! $
         use1 W (‵ (fat fullShare T′.mir l₃ 0 (devVal (ws .0)))) (W .laws .raw-at fullShare T′.mir l₃ 0 (devVal (ws .0))) $
         keep ! (0 ∷ 3 ∷ 4 ∷ 5 ∷ 6 ∷ 7 ∷ 8 ∷ 9 ∷ 10 ∷ 11 ∷ 12 ∷ 13 ∷ 14 ∷ 15 ∷ 16 ∷ 17 ∷ 18 ∷ 19 ∷ 20 ∷ 21 ∷ 22 ∷ 23 ∷ 24 ∷ 25 ∷ []) $
-        third y (ws .0) (evVal r) c z (vptr l₃ 0) small g′ (ans-is c w is) (did .0 ∙ ap (λ (e : Raw). step d e .device) r-eq ∙ again-device t (y .0) d (step d (rawAt t (7 + 4 * y .0))) d-eq refl))))))))))
+        third y (ws .0) (evVal r) c z (vptr l₃ 0) small g′ (ans-is c w is) (did .0 ∙ ap (λ (e : Raw). step d e .device) r-eq ∙ again-device powerUp events (y .0) d (step d (eventAt (y .0) events)) (has-event (y .0) small) d-eq refl))))))))))
 
     -- a turn, from its start: there is an event left, and it is read
     more : (y : X) → ltb (y .0) n ≡ true → ent 𝓤 (⋆ 𝓤 H A (Inv y)) (Wp 𝓤 H C Λ En pieces.turn-1 (afterTurn 𝓤 H (Below 𝓤 H A ≺ Inv y) Left))
@@ -322,11 +332,11 @@ module _ {M : Type 1} (𝓤 : URA M) (H : Heap 𝓤) (A : Atoms 𝓤) (W : Given
         assigns ! (bin ! (load ! (from ! (stop !)) (look ! 1 refl)) (load ! (from ! (stop !)) (look ! 10 refl)) tt) (from ! (stop !)) (init ! 4 refl (tt, tt)) $
         rewrite ! 4 (λ (z : Bool). ‵ (fat fullShare tyBool l₈ 0 (vbool z))) e refl $ stays ! (load ! (from ! (stop !)) (look ! 4 refl)) $
         move ! (8 ∷ []) $ use1 W (‵ Own ⊛ ‵ Own) (shr-slice-copy 𝓤 H A W (named 0) κ u8 .twice s (v ∷ [])) $ split ! $
-        move ! (9 ∷ 0 ∷ []) $ use2 W (raw (Ea 𝓤 H A at-mem run″ .pre (to-ea i))) (goes-ea i i-fits within) $
+        move ! (9 ∷ 0 ∷ []) $ use2 W (raw (Ea 𝓤 H A at-mem run″ .pre (to-ea i))) (goes-ea i i-fits) $
         -- [what `event_at` asks; the slice's; the device; i at 3; room for r, a; the test; room; room; t at 9; …]
         calls-at ! (fmOf 𝓤 H (W .laws) 𝓣) (Ea 𝓤 H A at-mem run″) known-ea (to-ea i) (and-then ! (load ! (from ! (stop !)) (look ! 9 refl)) (and-then ! (load ! (from ! (stop !)) (look ! 3 refl)) (no-more !))) (λ u.
         use1 W (later (some (λ (r : Raw). ((‵ (flft κ q) ⊛ ‵ ftrue) ⊛ ‵ (E.the-row .own r (u ∷ []))) ⊛ raw (ensured 𝓤 H A ea.ended (ea.clauses 𝓤 H A at-mem run″) (κ, tt) (s, (i, tt)) tt r)))) (id⊢ 𝓤 _) $ await ! tt $ pick ! (λ r.
-        split ! $ move ! (1 ∷ []) $ use1 W (raw (fact 𝓤 (r ≡ rawAt t (7 + 4 * i)))) (ea-of 𝓤 H A at-mem run″ κ s i r) $ heard ! (r ≡ rawAt t (7 + 4 * i)) (λ r-eq. split ! $ move ! (1 ∷ []) $
+        split ! $ move ! (1 ∷ []) $ use1 W (raw (fact 𝓤 (r ≡ eventAt i events))) (ea-of 𝓤 H A at-mem run″ κ s i r) $ heard ! (r ≡ eventAt i events) (λ r-eq. split ! $ move ! (1 ∷ []) $
         peeks ! E.the-row (Is E.the-row) (shows 𝓤 H A E.the-row) r (u ∷ []) (λ is. drop ! $ split ! $
         -- [the token; true; the slice's; the device at 3; i; room for r at 5; …]
         land ! (from ! (stop !)) (init ! 5 refl (LL.lawful E.the-type E′.the-laws 𝓤 H A W .typed r _ is .0)) $ rewrite ! 5 (λ (w : Val). ‵ (fat fullShare E′.mir l₅ 0 w)) (ap only (LL.tells E.the-type E′.the-laws r _ is)) refl $
@@ -342,11 +352,8 @@ module _ {M : Type 1} (𝓤 : URA M) (H : Heap 𝓤) (A : Atoms 𝓤) (W : Given
         i-fits : i < 2 ^ 64
         i-fits = let f : n < 2 ^ 64 = n-fits in let h : i < n = small in omega arith
 
-        within : 7 + 4 * i + 4 ≤ length t
-        within = let f : 7 + 4 * n ≤ length t = holds in let h : i < n = small in omega arith
-
     -- the turn that leaves the loop, and the rest of the body
-    ends : (P : SProp 𝓤) (d : Device) → DevIs d → d ≡ run (eventsIn n t) → ltb n n ≡ false → ent 𝓤 (⋆ 𝓤 H A (At n d)) (Wp 𝓤 H C Λ En pieces.turn-1 (afterTurn 𝓤 H P Left))
+    ends : (P : SProp 𝓤) (d : Device) → DevIs d → d ≡ after n → ltb n n ≡ false → ent 𝓤 (⋆ 𝓤 H A (At n d)) (Wp 𝓤 H C Λ En pieces.turn-1 (afterTurn 𝓤 H P Left))
     unfolding afterTurn
     ends P d g d-eq e =
         qed W (At n d) ∵ exec ! C Λ En pieces.turn-1 (anyQ (afterTurn 𝓤 H P Left)) $
@@ -354,7 +361,8 @@ module _ {M : Type 1} (𝓤 : URA M) (H : Heap 𝓤) (A : Atoms 𝓤) (W : Given
         rewrite ! 4 (λ (z : Bool). ‵ (fat fullShare tyBool l₈ 0 (vbool z))) e refl $ leaves-loop ! (load ! (from ! (stop !)) (look ! 4 refl)) $
         exec ! C Λ En pieces.t-5 (atRet En Post) $ assigns ! (of-opd ! (load ! (from ! (stop !)) (look ! 0 refl))) (from ! (stop !)) (init ! 12 refl (dev-has d g)) $
         returns ! (look ! 12 refl) $ forget ! 0 refl $ forget ! 1 refl $ forget ! 4 refl $ forget ! 9 refl $ forget ! 10 refl $ forget ! 12 refl $
-        move ! (12 ∷ 13 ∷ []) $ free1 ! $ move ! (9 ∷ 12 ∷ []) $ free1 ! $ move ! (9 ∷ 11 ∷ []) $ free1 ! $ move ! (0 ∷ 10 ∷ []) $ free1 ! $ move ! (0 ∷ 9 ∷ []) $ free1 ! $ move ! (0 ∷ 8 ∷ []) $ free1 ! $ move ! (0 ∷ 7 ∷ []) $ free1 ! $ move ! (5 ∷ 6 ∷ []) $ free1 ! $ move ! (0 ∷ 5 ∷ []) $ free1 ! $ move ! (0 ∷ 4 ∷ []) $ free1 ! $ move ! (0 ∷ 3 ∷ []) $ free1 ! $ free0 ! $
+        move ! (12 ∷ 13 ∷ []) $ free1 ! $ move ! (9 ∷ 12 ∷ []) $ free1 ! $ move ! (9 ∷ 11 ∷ []) $ free1 ! $
+        move ! (0 ∷ 10 ∷ []) $ free1 ! $ move ! (0 ∷ 9 ∷ []) $ free1 ! $ move ! (0 ∷ 8 ∷ []) $ free1 ! $ move ! (0 ∷ 7 ∷ []) $ free1 ! $ move ! (5 ∷ 6 ∷ []) $ free1 ! $ move ! (0 ∷ 5 ∷ []) $ free1 ! $ move ! (0 ∷ 4 ∷ []) $ free1 ! $ move ! (0 ∷ 3 ∷ []) $ free1 ! $ free0 ! $
         by ! (exits d g d-eq)
 
     turn-by : (y : X) (z : Bool) → ltb (y .0) n ≡ z → ent 𝓤 (⋆ 𝓤 H A (Inv y)) (Wp 𝓤 H C Λ En pieces.turn-1 (afterTurn 𝓤 H (Below 𝓤 H A ≺ Inv y) Left))
@@ -362,16 +370,16 @@ module _ {M : Type 1} (𝓤 : URA M) (H : Heap 𝓤) (A : Atoms 𝓤) (W : Given
     turn-by y false e =
         let last : y .0 ≡ n = omega (arith, y .1 .1 .0, over) in
         subst (λ (k : ℕ). ent 𝓤 (⋆ 𝓤 H A (At k (y .1 .0))) (Wp 𝓤 H C Λ En pieces.turn-1 (afterTurn 𝓤 H (Below 𝓤 H A ≺ Inv y) Left))) (sym last)
-        (ends (Below 𝓤 H A ≺ Inv y) (y .1 .0) (y .1 .1 .1 .1) (subst (λ (k : ℕ). y .1 .0 ≡ run (eventsIn k t)) last (y .1 .1 .1 .0)) (subst (λ (k : ℕ). ltb k n ≡ false) last e))
+        (ends (Below 𝓤 H A ≺ Inv y) (y .1 .0) (y .1 .1 .1 .1) (subst (λ (k : ℕ). y .1 .0 ≡ after k) last (y .1 .1 .1 .0)) (subst (λ (k : ℕ). ltb k n ≡ false) last e))
       where
         over : y .0 < n → ⊥
         over h = subst Holds e (lt→ltb (y .0) n h)
 
-    loops : (d : Device) → DevIs d → d ≡ run (eventsIn 0 t) → Sq W (At 0 d) (runs C Λ En pieces.t-4 (atRet En Post))
+    loops : (d : Device) → DevIs d → d ≡ after 0 → Sq W (At 0 d) (runs C Λ En pieces.t-4 (atRet En Post))
     loops d g e = record { prf = loop-rule 𝓤 H (W .laws) 𝓣 ≺ wf En pieces.turn-1 Left (λ y. ⋆ 𝓤 H A (Inv y)) (λ y. turn-by y (ltb (y .0) n) refl) (0, (d, (omega arith, (e, g)))) }
 
-  start : powerUp ≡ run (eventsIn 0 t)
-  unfolding run runFrom rawsIn
+  start : powerUp ≡ after 0
+  unfolding runFrom rawsIn
   start = refl
 
   -- the MIR up to the loop
@@ -394,10 +402,11 @@ module _ {M : Type 1} (𝓤 : URA M) (H : Heap 𝓤) (A : Atoms 𝓤) (W : Given
       keep ! (18 ∷ 16 ∷ 14 ∷ 12 ∷ 8 ∷ 6 ∷ 4 ∷ 0 ∷ 2 ∷ 22 ∷ 20 ∷ 10 ∷ 24 ∷ 25 ∷ 23 ∷ 21 ∷ 19 ∷ 17 ∷ 15 ∷ 13 ∷ 11 ∷ 9 ∷ 7 ∷ 5 ∷ []) $
       loops 𝓣 known-ea known-sl known-pa l₀ l₁ l₂ l₃ l₄ l₅ l₆ l₇ l₈ l₉ l₁₀ d (dev-is d w is) (e ∙ start))))))))))))))))
 
-module _ {M : Type 1} (𝓤 : URA M) (H : Heap 𝓤) (A : Atoms 𝓤) (W : Given 𝓤 H A) (at-mem : Memory → SProp 𝓤) (run″ : Routine → Fun 𝓤) (𝓣 : Tables 𝓤 H) (known-fr : Triple 𝓤 (𝓣 .C #fr) (Fr 𝓤 H A at-mem run″)) (known-ea : Triple 𝓤 (𝓣 .C #ea) (Ea 𝓤 H A at-mem run″)) (known-sl : Triple 𝓤 (𝓣 .C #sl) (Sl 𝓤 H A at-mem run″)) (known-pa : Triple 𝓤 (𝓣 .C #pa) (Pa 𝓤 H A at-mem run″)) where
+module _ {M : Type 1} (𝓤 : URA M) (H : Heap 𝓤) (A : Atoms 𝓤) (W : Given 𝓤 H A) (at-mem : Memory → SProp 𝓤) (run″ : Routine → Fun 𝓤) (𝓣 : Tables 𝓤 H)
+    (known-fr : Triple 𝓤 (𝓣 .C #fr) (Fr 𝓤 H A at-mem run″)) (known-ea : Triple 𝓤 (𝓣 .C #ea) (Ea 𝓤 H A at-mem run″)) (known-sl : Triple 𝓤 (𝓣 .C #sl) (Sl 𝓤 H A at-mem run″)) (known-pa : Triple 𝓤 (𝓣 .C #pa) (Pa 𝓤 H A at-mem run″)) where
   self-walks : Walks 𝓤 H A self.ended stayed (WpFn 𝓤 H (𝓣 .C) (𝓣 .Λ) code.function) (self.clauses 𝓤 H A at-mem run″)
   self-walks = walked 𝓤 H A self.ended stayed (self.clauses 𝓤 H A at-mem run″) (WpFn 𝓤 H (𝓣 .C) (𝓣 .Λ) code.function) (λ κs. (slice-vals, (uint-vals w64, tt))) (λ κs. (shr-slice-tells (named 0) (κs .0) u8, (uint-tells w64, tt)))
-      (λ κs qs bounds a _ are. needs 𝓤 (7 + 4 * a .1 .0 ≤ length (a .0 .now)) _ (λ holds. walk 𝓤 H A W at-mem run″ (κs .0) (qs .0) (a .0) (a .1 .0) (are .0) (are .1 .0 .1) holds 𝓣 known-fr known-ea known-sl known-pa))
+      (λ κs qs bounds a _ are. needs 𝓤 (a .1 .0 ≤ eventCount (a .0 .now)) _ (λ holds. walk 𝓤 H A W at-mem run″ (κs .0) (qs .0) (a .0) (a .1 .0) (are .0) (are .1 .0 .1) holds 𝓣 known-fr known-ea known-sl known-pa))
 
   self-meets : Meets 𝓤 H A self.signature (WpFn 𝓤 H (𝓣 .C) (𝓣 .Λ) code.function) (self.spec 𝓤 H A at-mem run″)
   self-meets =
@@ -411,6 +420,6 @@ drive-spec 𝓤 H 𝓜 𝓖 𝓡 =
     (tables 𝓤 H 𝓜 𝓡 code.env .C) (tables 𝓤 H 𝓜 𝓡 code.env .Λ) #self code.function (code.unfolded 𝓤 H 𝓜 𝓡)
     (self-meets 𝓤 H (𝓖 .A) (givenOf 𝓤 H 𝓜 𝓖) (𝓜 .mem) (𝓡 .run) (tablesOf 𝓤 H 𝓜 (tables 𝓤 H 𝓜 𝓡 code.env))
     (cited 𝓤 H (Fr 𝓤 H (𝓖 .A) (𝓜 .mem) (𝓡 .run)) 𝓜 𝓡 code.env #fr fr-def.routine code.calls-step·fresh (fr-thm.met 𝓤 H 𝓜 𝓖 𝓡))
-    (cited 𝓤 H (Ea 𝓤 H (𝓖 .A) (𝓜 .mem) (𝓡 .run)) 𝓜 𝓡 code.env #ea ea-def.routine code.calls-bench·event-at (ea-thm.met 𝓤 H 𝓜 𝓖 𝓡))
+    (cited 𝓤 H (Ea 𝓤 H (𝓖 .A) (𝓜 .mem) (𝓡 .run)) 𝓜 𝓡 code.env #ea ea-def.routine code.calls-format·event-at (ea-thm.met 𝓤 H 𝓜 𝓖 𝓡))
     (cited 𝓤 H (Sl 𝓤 H (𝓖 .A) (𝓜 .mem) (𝓡 .run)) 𝓜 𝓡 code.env #sl sl-def.routine code.calls-lent·step-lent (sl-thm.met 𝓤 H 𝓜 𝓖 𝓡))
     (cited 𝓤 H (Pa 𝓤 H (𝓖 .A) (𝓜 .mem) (𝓡 .run)) 𝓜 𝓡 code.env #pa pa-def.routine code.calls-bench·print-answer (pa-thm.met 𝓤 H 𝓜 𝓖 𝓡)))

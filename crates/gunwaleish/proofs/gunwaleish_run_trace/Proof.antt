@@ -3,6 +3,7 @@
 use mathlib.Core.Path.{subst, sym, ap}
 use Prim.Native.Nat.{_+_, _*_, _≤_}
 use native.Mathlib.Omega.{arith}
+use Rattle.arbiter.specs.Traces.{mostEvents}
 use Rattle.traces.specs.declared.Head.{Head}
 use Rattle.traces.proofs.Reading.{report-few}
 use borrow.Author.Needs.{needs}
@@ -26,12 +27,12 @@ add-result c = search needs
 
 mul-result-2 : tie.Need-mul-result-2
 mul-result-2 c =
-    let few = subst (λ (r : Head). r .events ≤ 4096) (sym (c .before .before .before .before .answer-trace .ensures .0)) (report-few _ _) in
+    let few = subst (λ (r : Head). r .events ≤ mostEvents) (sym (c .before .before .before .before .answer-trace .ensures .0)) (report-few _ _) in
     omega (arith, few)
 
 add-result-2 : tie.Need-add-result-2
 add-result-2 c =
-    let few = subst (λ (r : Head). r .events ≤ 4096) (sym (c .before .before .before .before .answer-trace .ensures .0)) (report-few _ _) in
+    let few = subst (λ (r : Head). r .events ≤ mostEvents) (sym (c .before .before .before .before .answer-trace .ensures .0)) (report-few _ _) in
     omega (arith, few)
 
 same-length : tie.Need-same-length

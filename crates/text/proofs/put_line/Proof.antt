@@ -58,16 +58,26 @@ slice-write-text : tie.Need-slice-write-text
 slice-write-text c = search needs
 
 same-length : tie.Need-same-length
-same-length c = simp length-set (c .before .before .put-hex4 .kept .0 ∙ c .before .before .before .before .before .before .before .put-hex3 .kept .0 ∙ c .before .before .before .before .before .before .before .before .before .before .before .before .put-hex2 .kept .0 ∙ c .before .before .before .before .before .before .before .before .before .before .before .before .before .before .before .before .before .put-hex .kept .0)
+same-length c =
+    let fourth = c .before .before in
+    let third = fourth .before .before .before .before .before in
+    let second = third .before .before .before .before .before in
+    let first = second .before .before .before .before .before in
+    simp length-set (fourth .put-hex4 .kept .0 ∙ third .put-hex3 .kept .0 ∙ second .put-hex2 .kept .0 ∙ first .put-hex .kept .0)
 
 returns : tie.Need-returns
 returns c =
-    let start = c .before .before .before .before .before .before .before .before .before .before .before .before .before .before .before .before .before .before .before .before .before .before .args in
+    let fourth = c .before .before in
+    let third = fourth .before .before .before .before .before in
+    let second = third .before .before .before .before .before in
+    let first = second .before .before .before .before .before in
+    let start = first .before .before .before .before .before .args in
     let b = start .answers .now in
     let from = start .from in
     simp
-    (c .before .before .put-hex4 .ensures, c .before .before .before .before .before .before .before .put-hex3 .ensures, c .before .before .before .before .before .before .before .before .before .before .before .before .put-hex2 .ensures, c .before .before .before .before .before .before .before .before .before .before .before .before .before .before .before .before .before .put-hex .ensures)
-    (line-stored (start .text .now) (start .at) (getD b from 0) (getD b (from + 1) 0) (getD b (from + 2) 0) (getD b (from + 3) 0) ∙ ap (sets (start .text .now) (start .at)) (sym (line-at b from)))
+    (fourth .put-hex4 .ensures, third .put-hex3 .ensures, second .put-hex2 .ensures, first .put-hex .ensures)
+    (line-stored (start .text .now) (start .at) (getD b from 0) (getD b (from + 1) 0) (getD b (from + 2) 0) (getD b (from + 3) 0)
+    ∙ ap (sets (start .text .now) (start .at)) (sym (line-at b from)))
 
 pub put-line-spec : {M : Type 1} → statement M
 put-line-spec =

@@ -5,6 +5,8 @@ use mathlib.Core.Path.{_≡_, refl, sym, ap, _∙_}
 use native.Mathlib.Omega.{arith}
 use lib.ListN.{length, drop}
 use lib.Seq.{sets}
+use Rattle.arbiter.specs.Traces.{eventBytes}
+use Rattle.arbiter.specs.Listing.{headChars, lineChars}
 use Rattle.text.specs.Written.{lineIn, linesIn}
 use Rattle.text.proofs.Stores.{sets-on}
 use Rattle.text.proofs.Lines.{lines-more, lines-length}
@@ -12,7 +14,7 @@ use Rattle.text.proofs.put_lines.Statement.{statement}
 use Rattle.text.proofs.put_lines.Tie as tie
 
 abbrev Inv-loop : tie.InvT-loop
-Inv-loop text₀ answers n i₀ text i = (i ≤ n) × (length text ≡ length text₀) × (text ≡ sets text₀ 8 (linesIn i answers))
+Inv-loop text₀ answers n i₀ text i = (i ≤ n) × (length text ≡ length text₀) × (text ≡ sets text₀ headChars (linesIn i answers))
 
 abbrev μ-loop : tie.MeasureT-loop
 μ-loop text₀ answers n i₀ text i = n - i
@@ -47,9 +49,9 @@ loop-again c =
       omega arith,
       c .before .before .put-line .kept .0 ∙ at .inv .1,
       c .before .before .put-line .ensures
-          ∙ ap (λ (l : _). sets l (8 + 9 * at .i) (lineIn (drop (4 * at .i) b))) (at .inv .2)
-          ∙ sets-on (linesIn (at .i) b) (lineIn (drop (4 * at .i) b)) start 8 (8 + 9 * at .i) (ap (λ (n : _). 8 + n) (sym (lines-length (at .i) b)))
-          ∙ ap (sets start 8) (sym (lines-more (at .i) b)),
+          ∙ ap (λ (l : _). sets l (headChars + lineChars * at .i) (lineIn (drop (eventBytes * at .i) b))) (at .inv .2)
+          ∙ sets-on (linesIn (at .i) b) (lineIn (drop (eventBytes * at .i) b)) start headChars (headChars + lineChars * at .i) (ap (λ (n : _). headChars + n) (sym (lines-length (at .i) b)))
+          ∙ ap (sets start headChars) (sym (lines-more (at .i) b)),
     )
 
 same-length : tie.Need-same-length Inv-loop μ-loop

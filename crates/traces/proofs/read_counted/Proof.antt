@@ -19,7 +19,7 @@ body-read-requires c κs = search needs
 
 returns-2 : tie.Need-returns-2
 unfolding readCounted bodyRead
-returns-2 c = simp (c .body-read .ensures, c .before .count-in .ensures .0, le-ltb _ _ (c .before .before .if1 .left))
+returns-2 c = simp (c .body-read .ensures, c .before .count-in .ensures, le-ltb _ _ (c .before .before .if1 .left))
 
 pub read-counted-spec : {M : Type 1} → statement M
 read-counted-spec = tie.close (tie.spec returns count-in-requires body-read-requires returns-2)

@@ -1,8 +1,8 @@
--- `traces::run_trace` meets its contract: an accepted trace is played, a refused one leaves everything as it was.
+-- `traces::run_trace` meets its contract: the events of an accepted trace are run, a refused one leaves everything as it was.
 -- Assumes nothing.
 use borrow.Author.Needs.{needs}
 use mathlib.Core.Path.{sym, _∙_}
-use Rattle.traces.proofs.Reading.{accepted-fits, accepted-report, accepted-buffer, refused-report, refused-buffer}
+use Rattle.traces.proofs.Reading.{played-report, played-buffer, refused-report, refused-buffer}
 use Rattle.traces.proofs.run_trace.Statement.{statement}
 use Rattle.traces.proofs.run_trace.Tie as tie
 
@@ -24,26 +24,39 @@ reported-requires c κs = search needs
 enum-known-read-2 : tie.Need-enum-known-read-2
 enum-known-read-2 c = search needs
 
-play-requires : tie.Need-play-requires
-play-requires c κs =
-    let fits = accepted-fits _ _ _ _ (sym (c .before .before .before .before .read-trace .ensures) ∙ c .before .before .read2 .given .1) in
-    (fits .0, fits .1)
+fresh-requires-2 : tie.Need-fresh-requires-2
+fresh-requires-2 c κs = search needs
+
+events-in-requires : tie.Need-events-in-requires
+events-in-requires c κs = search needs
+
+run-events-requires : tie.Need-run-events-requires
+run-events-requires c κs = search needs
 
 reported-requires-2 : tie.Need-reported-requires-2
 reported-requires-2 c κs = search needs
 
 returns : tie.Need-returns
 returns c =
-    let h = sym (c .before .before .before .before .before .before .read-trace .ensures) ∙ c .before .before .before .before .read .given .1 in
-    (simp (c .reported .ensures, c .before .fresh .ensures, c .before .before .refusal-number .ensures) (refused-report _ _ _ h), refused-buffer _ _ _ h)
+    let told = c .before .before .before .before in
+    let h = sym (told .before .before .read-trace .ensures .0) ∙ told .read .given .1 in (
+      simp (c .reported .ensures, c .before .fresh .ensures, c .before .before .refusal-number .ensures) (refused-report _ _ _ h),
+      refused-buffer _ _ _ h,
+    )
 
 same-length : tie.Need-same-length
 same-length c = search needs
 
 returns-2 : tie.Need-returns-2
 returns-2 c =
-    let h = sym (c .before .before .before .before .before .before .before .before .read-trace .ensures) ∙ c .before .before .before .before .before .before .read2 .given .1 in
-    (simp (c .reported2 .ensures, c .before .before .before .play .ensures .0) (accepted-report _ _ _ _ h), c .before .before .before .play .ensures .1 ∙ accepted-buffer _ _ _ _ h)
+    let ran = c .before .before .before in
+    let part = ran .before .before in
+    let told = part .before .before .before in
+    let h = sym (told .before .before .read-trace .ensures .0) ∙ told .read2 .given .1 in
+    let new = part .before .fresh2 .ensures in (
+      c .reported2 .ensures ∙ played-report _ _ _ _ h _ _ _ new (part .events-in .ensures) (ran .run-events .ensures .0),
+      ran .run-events .ensures .1 ∙ played-buffer _ _ _ _ h _ _ new (part .events-in .ensures),
+    )
 
 pub run-trace-spec : {M : Type 1} → statement M
 run-trace-spec =
@@ -55,7 +68,9 @@ run-trace-spec =
     fresh-requires
     reported-requires
     enum-known-read-2
-    play-requires
+    fresh-requires-2
+    events-in-requires
+    run-events-requires
     reported-requires-2
     returns
     same-length

@@ -1,7 +1,7 @@
 //! The plain stepper is held to the independent model, so that its time is that of right answers.
 
-use bench::mixes::mixes;
-use bench::reading;
+use speed::mixes::mixes;
+use speed::reading;
 use model::damage::{damage, ALL_DAMAGES};
 use model::rng::Rng;
 use model::straps::address_of;

@@ -1,10 +1,10 @@
-//! bench [TIMES]: times the proved library against the plain stepper, best of so many.
+//! speed [TIMES]: times the proved library against the plain stepper, best of so many.
 
 use std::hint::black_box;
 use std::time::{Duration, Instant};
 
-use bench::mixes::{mixes, Mix};
-use bench::reading;
+use speed::mixes::{mixes, Mix};
+use speed::reading;
 
 const USUAL_TIMES: usize = 300;
 const ROOM: usize = 4 * 4096;
@@ -12,7 +12,7 @@ const ROOM: usize = 4 * 4096;
 fn main() {
     let times = std::env::args().nth(1).map_or(Some(USUAL_TIMES), |word| word.parse().ok());
     let Some(times) = times.filter(|&times| times > 0) else {
-        eprintln!("usage: bench [TIMES]");
+        eprintln!("usage: speed [TIMES]");
         std::process::exit(2);
     };
     println!("Full traces of 4,096 events, read and answered; best of {times}, by turns.");
