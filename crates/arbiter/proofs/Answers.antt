@@ -13,6 +13,8 @@ use Rattle.arbiter.proofs.IdleCount.{idle-timer-ends}
 use Rattle.arbiter.proofs.Tenure.{granted-at-rest}
 use Rattle.arbiter.proofs.Ended.{ends-disconnected}
 use Rattle.arbiter.proofs.Settled.{refused-unchanged, all-settled}
+use Rattle.arbiter.proofs.Hung.{hung-exact, clock-not-hung}
+use Rattle.arbiter.proofs.HungRows.{hung-rows-hold, slow-clock-never-hung}
 use Rattle.arbiter.proofs.Witnesses.{witnesses-meet}
 use Rattle.arbiter.proofs.Marks.{marks-hold, readings-hold}
 
@@ -40,6 +42,10 @@ answers =
       endsDisconnected = ends-disconnected;
       refusedUnchanged = refused-unchanged;
       allSettled = all-settled;
+      hungExact = hung-exact;
+      clockNotHung = clock-not-hung;
+      hungRowsHold = hung-rows-hold;
+      slowClockNeverHung = slow-clock-never-hung;
       witnessesMeet = witnesses-meet;
       marksHold = marks-hold;
       readingsHold = readings-hold;

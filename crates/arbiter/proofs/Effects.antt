@@ -238,31 +238,35 @@ effect-turn (GeneralCall k b) d = go (softReset b)
 
 -- ---- the counts
 
--- the hold, the idle count and the reserve count
-abbrev pub counts : Device → ℕ × ℕ × ℕ
-counts d = (d .bus .hold, d .bus .idle, d .arb .reserve)
+-- the hold, the idle count, the reserve count and the low counts of SCL and SDA
+abbrev pub counts : Device → ℕ × ℕ × ℕ × ℕ × ℕ
+counts d = (d .bus .hold, d .bus .idle, d .arb .reserve, d .bus .lowscl, d .bus .lowsda)
 
--- A written byte leaves the hold and the idle count.
-drives-counts : (g c : Bool) (r : Register) (v : ℕ) (b : Bus) → _≡_ {A = ℕ × ℕ} ((drivesWritten g c r v b) .hold, (drivesWritten g c r v b) .idle) (b .hold, b .idle)
+-- those that the bus has
+abbrev busCounts : Bus → ℕ × ℕ × ℕ × ℕ
+busCounts b = (b .hold, b .idle, b .lowscl, b .lowsda)
+
+-- A written byte leaves them.
+drives-counts : (g c : Bool) (r : Register) (v : ℕ) (b : Bus) → busCounts (drivesWritten g c r v b) ≡ busCounts b
 unfolding drivesWritten
 drives-counts g c Id v b = refl
-drives-counts g c Contr v b = either (λ (x : Bus). _≡_ {A = ℕ × ℕ} (x .hold, x .idle) (b .hold, b .idle)) (g && (bit 2 v || not (bit 0 v))) (λ h. refl) (λ h. refl)
-drives-counts g c Status v b = either (λ (x : Bus). _≡_ {A = ℕ × ℕ} (x .hold, x .idle) (b .hold, b .idle)) (g && not c) (λ h. refl) (λ h. refl)
+drives-counts g c Contr v b = either (λ (x : Bus). busCounts x ≡ busCounts b) (g && (bit 2 v || not (bit 0 v))) (λ h. refl) (λ h. refl)
+drives-counts g c Status v b = either (λ (x : Bus). busCounts x ≡ busCounts b) (g && not c) (λ h. refl) (λ h. refl)
 drives-counts g c Rt v b = refl
 drives-counts g c IntStatus v b = refl
 drives-counts g c IntMask v b = refl
 drives-counts g c MailLow v b = refl
 drives-counts g c MailHigh v b = refl
 
--- An event that is no reset leaves the three counts, and a tick takes one from the hold and the reserve and counts the idle bus.
+-- An event that is no reset leaves the counts, and a tick takes one from the hold and the reserve and counts the idle bus and the low lines.
 pub effect-counts : (e : Event) (d : Device) → isReset e ≡ false → counts (effect e d) ≡ (if isTick e then counts (ticked d) else counts d)
 unfolding effect written paired wasRead lined
 effect-counts (Command k c) d h = refl
-effect-counts (Write k v) d h = ap (λ b. (b .0, b .1, d .arb .reserve)) (drives-counts (owns k d) ((side k d) .contr .busconnect) ((side k d) .pointer) v (d .bus))
+effect-counts (Write k v) d h = ap (λ b. (b .0, b .1, d .arb .reserve, b .2, b .3)) (drives-counts (owns k d) ((side k d) .contr .busconnect) ((side k d) .pointer) v (d .bus))
 effect-counts (Read k) d h = refl
 effect-counts (Stop k) d h = refl
 effect-counts (Pair v0 v1) d h =
-    ap (λ b. (b .0, b .1, d .arb .reserve))
+    ap (λ b. (b .0, b .1, d .arb .reserve, b .2, b .3))
     (drives-counts (owns One d) (d .side1 .contr .busconnect) (d .side1 .pointer) v1 _
     ∙ drives-counts (owns Zero d) (d .side0 .contr .busconnect) (d .side0 .pointer) v0 (d .bus))
 effect-counts (Lines scl sda intin) d h = refl

@@ -1,45 +1,50 @@
--- A bus that part 3 finds idle is idle after the step: a loss releases the drives at most.
+-- Parts 3 to 7 leave the bus as part 2 left it, but for its idle count: a loss comes only on an idle bus, whose drives are released already.
 -- Assumes nothing.
 use mathlib.Core.Path.{_≡_, refl, sym, ap, _∙_}
-use mathlib.Core.Bool.{false≢true}
-use Rattle.arbiter.specs.Types.{Bool, true, false, not, _&&_, eqb, Master, Turn, Nobody, Claims, Owns, Device, Raw}
-use Rattle.arbiter.specs.State.{isIdle}
-use Rattle.arbiter.specs.Order.{lost, lossesFrom, losses}
-use Rattle.arbiter.specs.Steps.{parts}
-use Rattle.arbiter.specs.AuditWords.{next, levelled}
-use Rattle.arbiter.proofs.Choice.{either}
-use Rattle.arbiter.proofs.Order.{after-idle}
-use Rattle.arbiter.proofs.Owner.{mid, expired}
+use Rattle.arbiter.specs.Types.{Bool, true, Turn, Nobody, Claims, Owns, Zero, One, Bus, Device, Raw, Event}
+use Rattle.arbiter.specs.Parts.{withIdle}
+use Rattle.arbiter.specs.Effects.{effect}
+use Rattle.arbiter.specs.Order.{isReset, isTick, clockOf, losses, cut, claim, granted, grantFrom, grant}
+use Rattle.arbiter.specs.Steps.{parts, step}
+use Rattle.arbiter.specs.AuditWords.{next}
+use Rattle.arbiter.proofs.Cases.{grant-cases}
+use Rattle.arbiter.proofs.Order.{cut-still, connect-still}
+use Rattle.arbiter.proofs.Owner.{mid}
 use Rattle.arbiter.proofs.Raws.{refuses, takes, met}
+use Rattle.arbiter.proofs.Settled.{levels-still, losses-bus}
+use Rattle.arbiter.specs.AuditWords.{levelled}
+use Rattle.arbiter.specs.State.{isIdle}
 
--- Lines that are high stay high when the drives are released.
-high : (busy scl drive hold sda pull : Bool) → not busy && (scl && drive && hold) && (sda && pull) ≡ true
-    → not busy && (scl && true && hold) && (sda && true) ≡ true
-high true scl drive hold sda pull h = absurd (false≢true h)
-high false false drive hold sda pull h = absurd (false≢true h)
-high false true false hold sda pull h = absurd (false≢true h)
-high false true true false sda pull h = absurd (false≢true h)
-high false true true true false pull h = absurd (false≢true h)
-high false true true true true pull h = refl
+-- the bus with no idle count
+abbrev pub unidled : Device → Bus
+unidled d = withIdle 0 (d .bus)
 
-lost-idle : (m : Master) (d : Device) → isIdle (d .bus) ≡ true → isIdle ((lost m d) .bus) ≡ true
-unfolding lost
-lost-idle m d h = high (d .bus .busy) (d .bus .outscl) (d .bus .drivescl) (eqb (d .bus .hold) 0) (d .bus .outsda) (d .bus .drivesda) h
+grant-bus : (t : Turn) (d : Device) → unidled (grantFrom t d) ≡ unidled d
+unfolding grantFrom granted
+grant-bus Nobody d = refl
+grant-bus (Claims Zero) d = grant-cases (λ (n : Device). unidled n ≡ unidled d) Zero d refl refl
+grant-bus (Claims One) d = grant-cases (λ (n : Device). unidled n ≡ unidled d) One d refl refl
+grant-bus (Owns m) d = refl
 
-losses-idle : (t : Turn) (d : Device) → isIdle (d .bus) ≡ true → isIdle ((lossesFrom t d) .bus) ≡ true
-unfolding lossesFrom
-losses-idle Nobody d h = h
-losses-idle (Claims m) d h = h
-losses-idle (Owns m) d h = either (λ (n : Device). isIdle (n .bus) ≡ true) (expired m d) (λ x. lost-idle m d h) (λ x. h)
+pub parts-bus : (e : Event) (d : Device) → unidled (parts e d) ≡ unidled (mid e d)
+unfolding parts losses cut claim grant
+parts-bus e d =
+    let two : Device = mid e d in
+    let three : Device = losses two in
+    let four : Device = cut (isTick e) three in
+    let five : Device = claim four in
+    let six : Device = grant five in
+    ap (λ x. withIdle 0 (x .2)) (connect-still (clockOf e) six)
+    ∙ grant-bus (five .arb .turn) five
+    ∙ ap (λ x. withIdle 0 (x .2)) (cut-still (isTick e) (three .arb .turn) three)
+    ∙ ap (withIdle 0) (losses-bus (two .arb .turn) two (levels-still (isReset e) (d .bus) (effect e d)))
 
+-- So a bus that part 3 finds idle is idle after the step.
 pub next-idle : (r : Raw) (d : Device) → isIdle ((levelled r d) .bus) ≡ true → isIdle ((next d r) .bus) ≡ true
-unfolding parts losses
 next-idle r d h =
     elim (met r d) [
       | refuses x ↦ ap idle (x .after ∙ sym (x .middle)) ∙ h
-      | takes e x ↦
-          (let b : Device = mid e d in
-          ap idle (x .after) ∙ after-idle e (losses b) ∙ losses-idle (b .arb .turn) b (ap idle (sym (x .middle)) ∙ h))
+      | takes e x ↦ ap idle (x .after) ∙ ap isIdle (parts-bus e d) ∙ ap idle (sym (x .middle)) ∙ h
     ]
   where
     idle : Device → Bool

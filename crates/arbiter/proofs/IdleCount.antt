@@ -10,7 +10,7 @@ use Rattle.arbiter.specs.Types.{ℕ, _+_, _-_, Bool, true, false, not, _
 use Rattle.arbiter.specs.Words.{if_then_else_, worth}
 use Rattle.arbiter.specs.State.{owns, sclHigh, sdaHigh, isIdle}
 use Rattle.arbiter.specs.Effects.{idleLimit, tickedBus, ticked, effect}
-use Rattle.arbiter.specs.Order.{isReset, isTick, busyAfter, settledBus, levels}
+use Rattle.arbiter.specs.Order.{isReset, isTick, busyAfter, sclChanged, settledBus, levels}
 use Rattle.arbiter.specs.Steps.{runFrom, run}
 use Rattle.arbiter.specs.AuditWords.{next, reserveOf, idleTimerOn, reset, tick, withdrawalOf, levelled, ticksIn, never, throughout}
 use Rattle.arbiter.specs.Audit.{IdleTimerEnds}
@@ -56,7 +56,7 @@ calm false false sda h = absurd (false≢true h)
 calm false true false h = absurd (false≢true h)
 calm false true true h = refl
 
-tick-idle : (b : Bus) → b .hold ≡ 0 → isIdle b ≡ true → isIdle (settledBus (busyAfter false b (tickedBus b)) (tickedBus b)) ≡ true
+tick-idle : (b : Bus) → b .hold ≡ 0 → isIdle b ≡ true → isIdle (settledBus (busyAfter false b (tickedBus b)) (sclChanged b (tickedBus b)) (tickedBus b)) ≡ true
 tick-idle b z idle =
     let scl : Bool = sclHigh b in
     let sda : Bool = sdaHigh b in

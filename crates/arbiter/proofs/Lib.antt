@@ -21,5 +21,8 @@ pub mod Timer
 pub mod IdleCount
 pub mod Marks
 pub mod Witnesses
+pub mod LowCounts
+pub mod Hung
+pub mod HungRows
 pub mod Answers
 pub mod Once

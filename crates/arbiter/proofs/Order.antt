@@ -6,7 +6,7 @@ use borrow.Author.Tests.{eqb-true}
 use Rattle.arbiter.specs.Types.{ℕ, Bool, true, false, _&&_, eqb, Master, Zero, One, Turn, Nobody, Claims, Owns, Port, Side, Bus, Device, Clock, Event}
 use Rattle.arbiter.specs.Words.{if_then_else_, side}
 use Rattle.arbiter.specs.Parts.{withTurn, withSide, withArb}
-use Rattle.arbiter.specs.State.{atRest, isIdle}
+use Rattle.arbiter.specs.State.{atRest}
 use Rattle.arbiter.specs.Order.{isTick, clockOf, lossesFrom, losses, cutFrom, cut, claimAfter, claim, granted, grantFrom, grant, connect}
 use Rattle.arbiter.specs.AuditWords.{resting}
 use Rattle.arbiter.proofs.Cases.{cut-cases, new-cases, claim-cases, grant-cases, connect-cases}
@@ -38,7 +38,7 @@ alike One s d e = ap (λ x. (kept (d .side0), x, d .bus, d .arb .reserve, d .arb
 
 -- ---- part 4 clears BUS_CONNECT at most
 
-cut-still : (tick : Bool) (t : Turn) (d : Device) → still (cutFrom tick t d) ≡ still d
+pub cut-still : (tick : Bool) (t : Turn) (d : Device) → still (cutFrom tick t d) ≡ still d
 unfolding cutFrom
 cut-still tick Nobody d = refl
 cut-still tick (Claims m) d = refl
@@ -46,7 +46,7 @@ cut-still tick (Owns m) d = cut-cases (λ (n : Device). still n ≡ still d) tic
 
 -- ---- part 7 changes the switch, BUS_INIT, BUS_CONNECT and BUS_INIT_FAIL at most
 
-connect-still : (c : Clock) (d : Device) → still (connect c d) ≡ still d
+pub connect-still : (c : Clock) (d : Device) → still (connect c d) ≡ still d
 connect-still c d = connect-cases (λ (n : Device). still n ≡ still d) d (λ w fail. refl) (λ m on w fail h. alike m _ d refl) c
 
 -- ---- part 6
@@ -100,21 +100,6 @@ after-sides e d =
     still-sides (connect (clockOf e) g) g (connect-still (clockOf e) g)
     ∙ grant-sides (f .arb .turn) f
     ∙ still-sides c d (cut-still (isTick e) (d .arb .turn) d)
-
--- the lines and busy,
-grant-idle : (t : Turn) (d : Device) → isIdle ((grantFrom t d) .bus) ≡ isIdle (d .bus)
-unfolding grantFrom granted
-grant-idle Nobody d = refl
-grant-idle (Claims m) d = grant-cases (λ (n : Device). isIdle (n .bus) ≡ isIdle (d .bus)) m d refl refl
-grant-idle (Owns m) d = refl
-
-pub after-idle : (e : Event) (d : Device) → isIdle ((after e d) .bus) ≡ isIdle (d .bus)
-unfolding grant claim cut
-after-idle e d =
-    let f : Device = claim (cut (isTick e) d) in
-    ap (λ x. isIdle (x .2)) (connect-still (clockOf e) (grant f))
-    ∙ grant-idle (f .arb .turn) f
-    ∙ ap (λ x. isIdle (x .2)) (cut-still (isTick e) (d .arb .turn) d)
 
 -- and of an owned bus everything that `still` names.
 claim-owned : (m : Master) (d : Device) → d .arb .turn ≡ Owns m → claim d ≡ d

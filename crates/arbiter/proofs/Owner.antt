@@ -33,7 +33,7 @@ turn-kept e d t ok h = effect-turn e d ∙ ap₂ (λ (r : Bool) (u : Turn). if r
 pub unheld : (e : Event) (d : Device) → isReset e ≡ false → d .bus .hold ≡ 0 → (effect e d) .bus .hold ≡ 0
 unfolding ticked
 unheld e d ok h =
-    ap (λ c. c .0) (effect-counts e d ok) ∙ either (λ (c : ℕ × ℕ × ℕ). c .0 ≡ 0) (isTick e) (λ t. ap (λ (n : ℕ). n - 1) h) (λ t. h)
+    ap (λ c. c .0) (effect-counts e d ok) ∙ either (λ (c : ℕ × ℕ × ℕ × ℕ × ℕ). c .0 ≡ 0) (isTick e) (λ t. ap (λ (n : ℕ). n - 1) h) (λ t. h)
 
 -- ---- part 3
 

@@ -48,7 +48,7 @@ met r d =
 -- ---- a tick
 
 -- Only TICK is a tick,
-event-tick : (e : Event) → isTick e ≡ true → e ≡ Tick
+pub event-tick : (e : Event) → isTick e ≡ true → e ≡ Tick
 event-tick (Command k c) h = absurd (false≢true h)
 event-tick (Write k v) h = absurd (false≢true h)
 event-tick (Read k) h = absurd (false≢true h)

@@ -12,7 +12,7 @@ use Rattle.arbiter.specs.Audit.{RunsOn}
 use Rattle.arbiter.proofs.Choice.{not-true}
 
 -- From any device: the events xs and then ys are one list of events.
-from-append : (xs ys : List Raw) (d : Device) → runFrom d (xs ++ ys) ≡ runFrom (runFrom d xs) ys
+pub from-append : (xs ys : List Raw) (d : Device) → runFrom d (xs ++ ys) ≡ runFrom (runFrom d xs) ys
 unfolding runFrom
 from-append [] ys d = refl
 from-append (x ∷ xs) ys d = from-append xs ys (step d x .device)

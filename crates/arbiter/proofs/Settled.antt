@@ -1,14 +1,14 @@
 -- A refused event changes nothing, and every step of a run leaves the device settled: parts 2 to 7 done again change nothing.
 -- Assumes nothing.
 use mathlib.Core.Path.{_≡_, refl, sym, ap, ap₂, subst, _∙_}
-use mathlib.Core.Bool.{Bool, true, false, not, _&&_, _||_, false≢true, and-eq-true-iff, and-false}
+use mathlib.Core.Bool.{Bool, true, false, not, _&&_, _||_, false≢true, and-eq-true-iff, and-false, or-false}
 use Rattle.arbiter.specs.Types.{ℕ, List, eqb, Master, Zero, One, Turn, Nobody, Claims, Owns, Side, Bus, Switch, Apart, Initialising, Closed, Clock, NoClock, Device, Raw, Event}
 use Rattle.arbiter.specs.Words.{if_then_else_, sameMaster, side}
 use Rattle.arbiter.specs.Parts.{withBusConnect, withBusInit, withContr, withDrives, withIdle, withTurn, withSwitch, withInitFail, withSide, withBus, withArb}
 use Rattle.arbiter.specs.State.{ownsTurn, owns, atRest, sclHigh, sdaHigh, isIdle}
 use Rattle.arbiter.specs.Registers.{released}
 use Rattle.arbiter.specs.Effects.{idleLimit, freshSide, powerUp, effect}
-use Rattle.arbiter.specs.Order.{isReset, isTick, clockOf, busyAfter, settledBus, levels, runsOut, lost, lossesFrom, losses, cutFrom, cut, claimBy, winner, newClaim, claimAfter, claim, granted, grantFrom, grant, switched, joined, clocked, keptJoined, connectFrom, connect}
+use Rattle.arbiter.specs.Order.{isReset, isTick, clockOf, busyAfter, sclChanged, settledBus, levels, runsOut, lost, lossesFrom, losses, cutFrom, cut, claimBy, winner, newClaim, claimAfter, claim, granted, grantFrom, grant, switched, joined, clocked, keptJoined, connectFrom, connect}
 use Rattle.arbiter.specs.Steps.{parts, run}
 use Rattle.arbiter.specs.AuditWords.{requests}
 use Rattle.arbiter.specs.Audit.{RefusedUnchanged, partsAgain, AllSettled}
@@ -29,31 +29,31 @@ refused-unchanged d r h =
 -- ---- what there is to settle, part by part
 
 -- part 2: a high line's low count is 0, and so is the idle count of a bus that is not idle
-abbrev Still : Bus → Type 0
+abbrev pub Still : Bus → Type 0
 Still b = (sclHigh b ≡ true → b .lowscl ≡ 0) × (sdaHigh b ≡ true → b .lowsda ≡ 0) × (isIdle b ≡ false → b .idle ≡ 0)
 
 -- part 3: the owner loses
-abbrev loses : Turn → Device → Bool
+abbrev pub loses : Turn → Device → Bool
 loses Nobody d = false
 loses (Claims m) d = false
 loses (Owns m) d = runsOut (side m d) (d .arb .reserve) (d .bus)
 
 -- part 6: the claimant is to be granted
-abbrev isDue : Turn → Device → Bool
+abbrev pub isDue : Turn → Device → Bool
 isDue Nobody d = false
 isDue (Claims m) d = atRest ((side m d) .port) && eqb (d .bus .hold) 0
 isDue (Owns m) d = false
 
 -- the bus is still, and its owner does not lose
-abbrev Kept : Device → Type 0
+abbrev pub Kept : Device → Type 0
 Kept d = Still (d .bus) × (loses (d .arb .turn) d ≡ false)
 
 -- part 5: the claimant stays
-abbrev Claimed : Device → Type 0
+abbrev pub Claimed : Device → Type 0
 Claimed d = claimAfter (d .arb .turn) d ≡ d .arb .turn
 
 -- all of parts 2 to 6: nothing to level, to lose, to claim or to grant
-abbrev Ready : Device → Type 0
+abbrev pub Ready : Device → Type 0
 Ready d = Kept d × Claimed d × (isDue (d .arb .turn) d ≡ false)
 
 -- ---- parts 4 and 7 change nothing that those ask
@@ -123,11 +123,11 @@ connect-bare c d =
 -- ---- part 2 leaves a still bus
 
 -- the levels are as before part 2, which zeroed the counts by them
-levels-still : (reset : Bool) (before : Bus) (d : Device) → Still ((levels reset before d) .bus)
+pub levels-still : (reset : Bool) (before : Bus) (d : Device) → Still ((levels reset before d) .bus)
 unfolding levels
 levels-still reset before d =
     let b : Bus = d .bus in
-    (λ h. if-true 0 (b .lowscl) h, λ h. if-true 0 (b .lowsda) h, λ h. if-false (b .idle) 0 h)
+    (λ h. if-true 0 (b .lowscl) h, λ h. if-true 0 (b .lowsda) (ap (λ (high : Bool). high || sclChanged before b) h), λ h. if-false (b .idle) 0 h)
 
 -- ---- part 3: a loss comes only on an idle bus, whose drives are released already
 
@@ -151,7 +151,16 @@ idle-released b h =
     let drivesda = and-eq-true-iff (b .outsda) (b .drivesda) .0 (outer .1) .1 in
     ap₂ (λ (x y : Bool). withDrives x y b) (sym drivescl) (sym drivesda)
 
--- after part 3 nobody is left to lose, and the bus is as it was
+-- so part 3 leaves the bus as it was
+pub losses-bus : (t : Turn) (d : Device) → Still (d .bus) → (lossesFrom t d) .bus ≡ d .bus
+unfolding lossesFrom lost
+losses-bus Nobody d still = refl
+losses-bus (Claims m) d still = refl
+losses-bus (Owns m) d still =
+    either (λ (n : Device). n .bus ≡ d .bus) (runsOut (side m d) (d .arb .reserve) (d .bus))
+    (λ h. idle-released (d .bus) (out-idle (side m d) (d .arb .reserve) (d .bus) still h)) (λ h. refl)
+
+-- and nobody is left to lose
 losses-kept : (t : Turn) (d : Device) → d .arb .turn ≡ t → Still (d .bus) → Kept (lossesFrom t d)
 unfolding lossesFrom lost
 losses-kept Nobody d e still = (still, ap (λ (t : Turn). loses t d) e)
@@ -240,7 +249,7 @@ grant-ready (Claims m) d e kept claimed =
 -- ---- a step leaves all of it, whatever the device was before
 
 -- part 2 levels, part 3 loses, 4 leaves both, 5 claims, 6 grants, and 7 leaves all
-parts-ready : (e : Event) (d : Device) → Ready (parts e d)
+pub parts-ready : (e : Event) (d : Device) → Ready (parts e d)
 unfolding parts losses cut grant
 parts-ready e d =
     let levelled : Device = levels (isReset e) (d .bus) (effect e d) in
@@ -254,7 +263,7 @@ parts-ready e d =
     ready-by six seven (sym (connect-bare (clockOf e) six)) (grant-ready (five .arb .turn) five refl (claimed .0) (claimed .1))
 
 -- so it holds after every run, and at power-up
-all-ready : (rs : List Raw) → Ready (run rs)
+pub all-ready : (rs : List Raw) → Ready (run rs)
 unfolding run powerUp freshSide
 all-ready rs = run-keeps Ready (λ e d h. parts-ready e d) powerUp rs (((λ h. refl, λ h. refl, λ h. refl), refl), refl, refl)
 
@@ -272,6 +281,10 @@ busy-stays b = go (b .busy) (sclHigh b) (sdaHigh b)
     go false true true = refl
     go false true false = refl
 
+-- and SCL's level has not changed
+pub scl-stays : (b : Bus) → sclChanged b b ≡ false
+scl-stays b = split (sclHigh b) (λ h. simp (h)) (λ h. simp (h))
+
 -- counts that are 0 already are not zeroed
 zeroed : (t : Bool) (n : ℕ) → (t ≡ true → n ≡ 0) → (if t then 0 else n) ≡ n
 zeroed true n h = sym (h refl)
@@ -282,7 +295,7 @@ zeroed-else true n h = refl
 zeroed-else false n h = sym (h refl)
 
 -- a still bus is levelled already
-bus-again : (b : Bus) → Still b → settledBus (b .busy) b ≡ b
+bus-again : (b : Bus) → Still b → settledBus (b .busy) false b ≡ b
 bus-again b still =
     λ i. record {
       outscl = b .outscl;
@@ -294,14 +307,15 @@ bus-again b still =
       hold = b .hold;
       idle = zeroed-else (isIdle b) (b .idle) (still .2) i;
       lowscl = zeroed (sclHigh b) (b .lowscl) (still .0) i;
-      lowsda = zeroed (sdaHigh b) (b .lowsda) (still .1) i;
+      lowsda = zeroed (sdaHigh b || false) (b .lowsda) (λ h. still .1 (sym (or-false (sdaHigh b)) ∙ h)) i;
     }
 
 -- part 2
 levels-again : (d : Device) → Still (d .bus) → levels false (d .bus) d ≡ d
 unfolding levels
 levels-again d still =
-    ap (λ (b : Bus). withBus b d) (ap (λ (busy : Bool). settledBus busy (d .bus)) (busy-stays (d .bus)) ∙ bus-again (d .bus) still)
+    ap (λ (b : Bus). withBus b d)
+    (ap₂ (λ (busy changed : Bool). settledBus busy changed (d .bus)) (busy-stays (d .bus)) (scl-stays (d .bus)) ∙ bus-again (d .bus) still)
 
 -- part 3
 losses-again : (t : Turn) (d : Device) → loses t d ≡ false → lossesFrom t d ≡ d

@@ -1,6 +1,8 @@
 -- All answers in one record, one field a statement. proofs/Answers.antt fills it with one term, so that a lost proof fails the check.
 -- Assumes nothing.
 use Rattle.arbiter.specs.Audit.{RunsOn, OneConnected, ApartUnowned, AnswersShow, AnswersShowOne, RegistersShow, RegistersShowOne, ResetEnds, ReserveLasts, ReserveEnds, ReserveExact, PartnerNext, PartnerInTime, PartnerInTimeThroughout, HeldUntilLetGo, IdleTimerExact, IdleTimerEnds, GrantedAtRest, EndsDisconnected, RefusedUnchanged, AllSettled}
+use Rattle.arbiter.specs.Hung.{HungExact, ClockNotHung}
+use Rattle.arbiter.specs.HungRows.{HungRowsHold, SlowClockNeverHung}
 use Rattle.arbiter.specs.Marks.{MarksHold, ReadingsHold}
 use Rattle.arbiter.specs.Witnesses.{WitnessesMeet}
 
@@ -32,6 +34,11 @@ pub record Answers : Type 0 where
   pub endsDisconnected : EndsDisconnected
   pub refusedUnchanged : RefusedUnchanged
   pub allSettled : AllSettled
+  -- What does BUS_HUNG mean?
+  pub hungExact : HungExact
+  pub clockNotHung : ClockNotHung
+  pub hungRowsHold : HungRowsHold
+  pub slowClockNeverHung : SlowClockNeverHung
   -- Are there runs that meet the premises?
   pub witnessesMeet : WitnessesMeet
   -- Are the definitions the paper's?

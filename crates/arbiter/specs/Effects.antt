@@ -3,7 +3,7 @@
 use Rattle.arbiter.specs.Types.{ℕ, _+_, _-_, _%_, Bool, true, false, not, _&&_, eqb, ltb, Master, Zero, One, Turn, Nobody, Never, Rest, Open, Writing, Register, Id, Contr, Status, Rt, IntStatus, IntMask, MailLow, MailHigh, Side, Bus, Apart, Arbitration, Device, Event, Command, Write, Read, Stop, Pair, Lines, Tick, Pulse, Reset, GeneralCall}
 use Rattle.arbiter.specs.Words.{if_then_else_, bit, partner, side, device}
 use Rattle.arbiter.specs.Parts.{withPort, withAuto, withPointer, withInts, withMail, withTurn, withReserve, withSide}
-use Rattle.arbiter.specs.State.{owns, sclHigh, sdaHigh, isIdle, hungLimit}
+use Rattle.arbiter.specs.State.{owns, sclHigh, sdaHigh, isIdle, sclHungLimit, sdaHungLimit}
 use Rattle.arbiter.specs.Registers.{mailEmptiedInt, intInInt, raised, ownWritten, mailWritten, drivesWritten, turnWritten}
 use Rattle.arbiter.specs.Events.{goodCommand, softReset}
 
@@ -126,7 +126,7 @@ lined scl sda intin d =
     record { side0 = intInFallen fell (d .side0); side1 = intInFallen fell (d .side1); bus = outside scl sda intin (d .bus); arb = d .arb }
 
 -- ---- TICK: "takes one from the reserve count and from the hold (each if above 0), and adds one to each low count whose line is low and
--- to the idle count if the bus is idle". "Low counts stop at 500, the idle count at 101."
+-- to the idle count if the bus is idle". "Low counts stop at 500, the idle count at 101"; by #102 SDA's stops at 501.
 
 abbrev pub idleLimit : ℕ
 idleLimit = 101
@@ -145,8 +145,8 @@ tickedBus b =
       busy = b .busy;
       hold = b .hold - 1;
       idle = countedTo idleLimit (isIdle b) (b .idle);
-      lowscl = countedTo hungLimit (not (sclHigh b)) (b .lowscl);
-      lowsda = countedTo hungLimit (not (sdaHigh b)) (b .lowsda);
+      lowscl = countedTo sclHungLimit (not (sclHigh b)) (b .lowscl);
+      lowsda = countedTo sdaHungLimit (not (sdaHigh b)) (b .lowsda);
     }
 
 abbrev pub tickedArb : Arbitration → Arbitration

@@ -16,4 +16,6 @@ pub mod Listing
 pub mod Writing
 pub mod Marks
 pub mod Witnesses
+pub mod Hung
+pub mod HungRows
 pub mod Answers

@@ -61,8 +61,12 @@ isStop before after = sclHigh before && sclHigh after && not (sdaHigh before) &&
 abbrev pub busyAfter : Bool → Bus → Bus → Bool
 busyAfter reset before b = not reset && (b .busy || isStart before b) && not (isStop before b)
 
-abbrev pub settledBus : Bool → Bus → Bus
-settledBus busy b =
+-- SCL's level is not what it was before the event: it fell or it rose
+abbrev pub sclChanged : Bus → Bus → Bool
+sclChanged before after = sclHigh before && not (sclHigh after) || not (sclHigh before) && sclHigh after
+
+abbrev pub settledBus : Bool → Bool → Bus → Bus
+settledBus busy changed b =
     record {
       outscl = b .outscl;
       outsda = b .outsda;
@@ -73,12 +77,13 @@ settledBus busy b =
       hold = b .hold;
       idle = if not busy && sclHigh b && sdaHigh b then b .idle else 0;
       lowscl = if sclHigh b then 0 else b .lowscl;
-      lowsda = if sdaHigh b then 0 else b .lowsda;
+      lowsda = if sdaHigh b || changed then 0 else b .lowsda;
     }
 
--- "A high line zeroes its low count; idle means not busy and both high; not idle zeroes the idle count." `before` is the bus before the event.
+-- "A high line zeroes its low count; idle means not busy and both high; not idle zeroes the idle count." By #102 "the SDA count restarts at
+-- every change of SCL's level". `before` is the bus before the event.
 unfoldable pub levels : Bool → Bus → Device → Device
-levels reset before d = withBus (settledBus (busyAfter reset before (d .bus)) (d .bus)) d
+levels reset before d = withBus (settledBus (busyAfter reset before (d .bus)) (sclChanged before (d .bus)) (d .bus)) d
 
 -- ---- 3. losses
 

@@ -53,9 +53,14 @@ sdaHigh b = b .outsda && b .drivesda
 abbrev pub isIdle : Bus → Bool
 isIdle b = not (b .busy) && sclHigh b && sdaHigh b
 
--- "BUS_HUNG: either low count at 500." The counts stop there.
-abbrev pub hungLimit : ℕ
-hungLimit = 500
+-- BUS_HUNG, as request #102 amends document 01 (which had "either low count at 500"): SCL low for 500 ticks, or SDA low and SCL
+-- unchanged for 501. "So the SDA count restarts at every change of SCL's level and must reach 501, where it stops; the SCL count stays
+-- at 500."
+abbrev pub sclHungLimit : ℕ
+sclHungLimit = 500
+
+abbrev pub sdaHungLimit : ℕ
+sdaHungLimit = 501
 
 abbrev pub busHung : Bus → Bool
-busHung b = eqb (b .lowscl) hungLimit || eqb (b .lowsda) hungLimit
+busHung b = eqb (b .lowscl) sclHungLimit || eqb (b .lowsda) sdaHungLimit

@@ -5,8 +5,10 @@
 // The idle count stops here, and an owner with RT 00h and IDLE_TIMER_DIS then loses: idleLimit in specs/Effects.
 pub const IDLE_LIMIT: u8 = 101;
 
-// A low count stops here, and the bus is hung: hungLimit in specs/State.
-pub const HUNG_LIMIT: u16 = 500;
+// A low count stops here, and the bus is hung: sclHungLimit and sdaHungLimit in specs/State.
+pub const SCL_HUNG_LIMIT: u16 = 500;
+
+pub const SDA_HUNG_LIMIT: u16 = 501;
 
 // So many ticks a soft reset holds SCL low where SMBUS_SWRST asks for it: holdTicks in specs/Effects.
 pub const HOLD_TICKS: u8 = 35;

@@ -6,10 +6,11 @@ ghost use Rattle.arbiter.specs.Parts.{withIdle};
 ghost use Rattle.arbiter.specs.State.{sclHigh, sdaHigh, isIdle, busHung};
 ghost use Rattle.arbiter.specs.Registers.{released};
 ghost use Rattle.arbiter.specs.Effects.{outside, tickedBus};
-ghost use Rattle.arbiter.specs.Order.{busyAfter, settledBus};
+ghost use Rattle.arbiter.specs.Order.{busyAfter, sclChanged, settledBus};
 use arbiter::Bus;
-use arbiter::HUNG_LIMIT;
 use arbiter::IDLE_LIMIT;
+use arbiter::SCL_HUNG_LIMIT;
+use arbiter::SDA_HUNG_LIMIT;
 use bits::counted_u8;
 use bits::counted_u16;
 use bits::less_one;
@@ -37,7 +38,7 @@ pub fn is_idle(b: Bus) -> bool
 pub fn bus_hung(b: Bus) -> bool
     ensures { λ r. ⌜ r ≡ busHung b ⌝ }
 {
-    (b.lowscl == HUNG_LIMIT) | (b.lowsda == HUNG_LIMIT)
+    (b.lowscl == SCL_HUNG_LIMIT) | (b.lowsda == SDA_HUNG_LIMIT)
 }
 
 // New outside levels.
@@ -74,8 +75,8 @@ pub fn ticked_bus(b: Bus) -> Bus
         busy: b.busy,
         hold: less_one(b.hold),
         idle: counted_u8(IDLE_LIMIT, idle, b.idle),
-        lowscl: counted_u16(HUNG_LIMIT, !scl, b.lowscl),
-        lowsda: counted_u16(HUNG_LIMIT, !sda, b.lowsda),
+        lowscl: counted_u16(SCL_HUNG_LIMIT, !scl, b.lowscl),
+        lowsda: counted_u16(SDA_HUNG_LIMIT, !sda, b.lowsda),
     }
 }
 
@@ -91,10 +92,11 @@ fn busy_after(before: Bus, b: Bus) -> bool
 // Part 2: the levels after an event, with the bus as it was before it. A reset asks for no care: it clears busy by itself, and can only
 // let SDA rise.
 pub fn settled_bus(before: Bus, b: Bus) -> Bus
-    ensures { λ r. ⌜ r ≡ settledBus (busyAfter false before b) b ⌝ }
+    ensures { λ r. ⌜ r ≡ settledBus (busyAfter false before b) (sclChanged before b) b ⌝ }
 {
     let scl = scl_high(b);
     let sda = sda_high(b);
+    let was = scl_high(before);
     let busy = busy_after(before, b);
     Bus {
         outscl: b.outscl,
@@ -106,7 +108,7 @@ pub fn settled_bus(before: Bus, b: Bus) -> Bus
         hold: b.hold,
         idle: pick_u8(!busy & scl & sda, b.idle, 0),
         lowscl: pick_u16(scl, 0, b.lowscl),
-        lowsda: pick_u16(sda, 0, b.lowsda),
+        lowsda: pick_u16(sda | (was & !scl | !was & scl), 0, b.lowsda),
     }
 }
 

@@ -13,7 +13,7 @@ use Rattle.arbiter.specs.Parts.{withBus}
 use Rattle.arbiter.specs.State.{sclHigh}
 use Rattle.arbiter.specs.Events.{softReset, decode, decodedNumber, inSequence, acknowledged, outcome, outcomeNumber}
 use Rattle.arbiter.specs.Effects.{freshBus, wasReset, holdAsked, effect}
-use Rattle.arbiter.specs.Order.{isReset, isTick, clockOf, isStop, settledBus, levels}
+use Rattle.arbiter.specs.Order.{isReset, isTick, clockOf, isStop, sclChanged, settledBus, levels}
 use Rattle.arbiter.specs.Steps.{parts, byteRead, answer, taken, refused, stepEvent, stepDecoded, step}
 use Rattle.arbiter.specs.declared.Bus.{Bus}
 use Rattle.arbiter.specs.declared.Device.{Device}
@@ -41,7 +41,7 @@ unfolding levels wasReset
 reset-levels hold d =
     let b : Bus = d .bus in
     let f : Bus = freshBus hold b in
-    ap (λ (start : Bool). withBus (settledBus (start && not (isStop b f)) f) (wasReset hold d)) (no-fall (sclHigh b && sclHigh f) (b .outsda) (b .drivesda))
+    ap (λ (start : Bool). withBus (settledBus (start && not (isStop b f)) (sclChanged b f) f) (wasReset hold d)) (no-fall (sclHigh b && sclHigh f) (b .outsda) (b .drivesda))
 
 same-levels : (e : Event) (d : Device) → levels false (d .bus) (effect e d) ≡ levels (isReset e) (d .bus) (effect e d)
 unfolding effect

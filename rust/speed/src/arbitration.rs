@@ -21,7 +21,8 @@ impl Device {
         if now & SCL != 0 {
             self.scl_low = 0;
         }
-        if now & SDA != 0 {
+        // SDA's count restarts where SCL toggles, too.
+        if now & SDA != 0 || (before ^ now) & SCL != 0 {
             self.sda_low = 0;
         }
         if self.busy || now != BOTH {

@@ -151,10 +151,10 @@ impl Device {
         let before = self.levels();
         self.reserve_left = self.reserve_left.saturating_sub(1);
         if before & SCL == 0 {
-            self.scl_low = (self.scl_low + 1).min(HUNG);
+            self.scl_low = (self.scl_low + 1).min(SCL_HUNG);
         }
         if before & SDA == 0 {
-            self.sda_low = (self.sda_low + 1).min(HUNG);
+            self.sda_low = (self.sda_low + 1).min(SDA_HUNG);
         }
         if before == BOTH && !self.busy {
             self.idle = (self.idle + 1).min(101);

@@ -15,7 +15,9 @@ pub const SCL: u8 = 0x04;
 pub const SDA: u8 = 0x08;
 pub const BOTH: u8 = SCL | SDA;
 
-pub const HUNG: u16 = 500;
+/// The low counts that show a hung bus, and at which they stop.
+pub const SCL_HUNG: u16 = 500;
+pub const SDA_HUNG: u16 = 501;
 
 #[derive(Clone, Copy, PartialEq, Eq)]
 pub enum Master {
@@ -136,7 +138,7 @@ impl Device {
     }
 
     pub fn is_hung(&self) -> bool {
-        self.scl_low == HUNG || self.sda_low == HUNG
+        self.scl_low == SCL_HUNG || self.sda_low == SDA_HUNG
     }
 
     /// The end of a grant, by a byte or by a loss.

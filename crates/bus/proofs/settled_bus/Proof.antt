@@ -10,6 +10,9 @@ scl-high-requires c κs = search needs
 sda-high-requires : tie.Need-sda-high-requires
 sda-high-requires c κs = search needs
 
+scl-high-requires-2 : tie.Need-scl-high-requires-2
+scl-high-requires-2 c κs = search needs
+
 busy-after-requires : tie.Need-busy-after-requires
 busy-after-requires c κs = search needs
 
@@ -29,8 +32,9 @@ returns c =
       c .before .pick-u16 .ensures,
       c .before .before .pick-u8 .ensures,
       c .before .before .before .busy-after .ensures,
-      c .before .before .before .before .sda-high .ensures,
-      c .before .before .before .before .before .scl-high .ensures,
+      c .before .before .before .before .scl-high2 .ensures,
+      c .before .before .before .before .before .sda-high .ensures,
+      c .before .before .before .before .before .before .scl-high .ensures,
     )
 
 pub settled-bus-spec : {M : Type 1} → statement M
@@ -39,6 +43,7 @@ settled-bus-spec =
     (tie.spec
     scl-high-requires
     sda-high-requires
+    scl-high-requires-2
     busy-after-requires
     pick-u8-requires
     pick-u16-requires

@@ -1,0 +1,63 @@
+-- Request #102: what BUS_HUNG means over the history of the lines' levels, and that a clock which runs is never shown as a hung bus.
+-- proofs/Hung.antt proves it.
+-- Assumes nothing.
+use Prim.Native.Nat.{_≤_}
+use mathlib.Core.Path.{_≡_}
+use mathlib.Core.Logic.{_⊎_}
+use Rattle.arbiter.specs.Types.{ℕ, Bool, true, false, not, _||_, List, _++_, eqb, Device, Raw}
+use Rattle.arbiter.specs.State.{sclHigh, sdaHigh, sclHungLimit, sdaHungLimit, busHung}
+use Rattle.arbiter.specs.Steps.{run}
+use Rattle.arbiter.specs.AuditWords.{next, reset, ticksIn, never}
+
+-- ---- of an event in a state: it ends a stretch in which a line was low
+
+abbrev pub sameLevel : Bool → Bool → Bool
+sameLevel true true = true
+sameLevel true false = false
+sameLevel false true = false
+sameLevel false false = true
+
+-- SCL's level after it is another than before it
+abbrev pub sclMoves : Raw → Device → Bool
+sclMoves r d = not (sameLevel (sclHigh (d .bus)) (sclHigh ((next d r) .bus)))
+
+-- SCL is high after it, or it is a reset
+abbrev pub endsLowScl : Raw → Device → Bool
+endsLowScl r d = reset r d || sclHigh ((next d r) .bus)
+
+-- SDA is high after it, or SCL is not as before it, or it is a reset
+abbrev pub endsLowSda : Raw → Device → Bool
+endsLowSda r d = reset r d || (sdaHigh ((next d r) .bus) || sclMoves r d)
+
+-- ---- the two sentences of 003, as 02 has them, of a run
+
+-- the run ends in a stretch that none of these ends, with so many ticks in it
+pub record Stretch (ends : Raw → Device → Bool) (ticks : ℕ) (rs : List Raw) : Type 0 where
+  pub before : List Raw
+  pub since : List Raw
+  pub whole : rs ≡ before ++ since
+  pub unbroken : never ends (run before) since ≡ true
+  pub long : ticks ≤ ticksIn (run before) since
+
+-- "SCL low for 500 ms"
+abbrev pub SclStuck : List Raw → Type 0
+SclStuck rs = Stretch endsLowScl sclHungLimit rs
+
+-- "SDA low and SCL not toggling for more than 500 ms"
+abbrev pub SdaStuck : List Raw → Type 0
+SdaStuck rs = Stretch endsLowSda sdaHungLimit rs
+
+-- BUS_HUNG is shown exactly where one of the two holds.
+abbrev pub HungExact : Type 0
+HungExact = (rs : List Raw) → (busHung ((run rs) .bus) ≡ true → SclStuck rs ⊎ SdaStuck rs) × (SclStuck rs ⊎ SdaStuck rs → busHung ((run rs) .bus) ≡ true)
+
+-- ---- the fan monitor
+
+-- in any 500 consecutive ticks of the run SCL's level changes at least once
+abbrev pub ClockRuns : List Raw → Type 0
+ClockRuns rs =
+    (before since after : List Raw) → rs ≡ before ++ since ++ after → sclHungLimit ≤ ticksIn (run before) since → never sclMoves (run before) since ≡ false
+
+-- Then BUS_HUNG is never set by SDA, however long SDA is low and however slow the polling.
+abbrev pub ClockNotHung : Type 0
+ClockNotHung = (rs : List Raw) → ClockRuns rs → eqb ((run rs) .bus .lowsda) sdaHungLimit ≡ false
