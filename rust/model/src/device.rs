@@ -20,8 +20,11 @@ pub const INT_GRANTED: u8 = 0x04;
 pub const INT_LOST: u8 = 0x02;
 pub const INT_IN: u8 = 0x01;
 
-/// "Low counts stop at 500, the idle count at 101." BUS_HUNG is a low count at 500.
-pub const HUNG_TICKS: i64 = 500;
+/// "SCL low for 500 ms": the SCL count stops at 500. "More than 500 ms" for SDA: its count "must
+/// reach 501, where it stops" (#102).
+pub const SCL_HUNG_TICKS: i64 = 500;
+pub const SDA_HUNG_TICKS: i64 = 501;
+/// The idle count stops at 101.
 pub const IDLE_TICKS: i64 = 101;
 /// A hold lasts 35 ticks, and SCL low for 35 ticks is a time-out.
 pub const HOLD_TICKS: i64 = 35;
@@ -82,7 +85,9 @@ pub struct Device {
     /// Ticks for which SCL is still held low after a soft reset.
     pub hold: i64,
     pub busy: bool,
+    /// Ticks since SCL went low.
     pub scl_low_count: i64,
+    /// Ticks since SDA went low or SCL last changed, whichever came later (#102).
     pub sda_low_count: i64,
     pub idle_count: i64,
     pub claimant: Option<usize>,
@@ -154,9 +159,9 @@ impl Device {
         !self.busy && self.levels() == BOTH_HIGH
     }
 
-    /// "BUS_HUNG: either low count at 500."
+    /// BUS_HUNG: a low count at its end. Nothing is kept, so the flag goes with the counts (#102).
     pub fn is_hung(&self) -> bool {
-        self.scl_low_count == HUNG_TICKS || self.sda_low_count == HUNG_TICKS
+        self.scl_low_count == SCL_HUNG_TICKS || self.sda_low_count == SDA_HUNG_TICKS
     }
 
     /// The granted master.

@@ -8,6 +8,7 @@ use std::collections::BTreeMap;
 
 use crate::device::*;
 use crate::event::{read_event, Event};
+use crate::hanging::Watch;
 
 pub use crate::kinds::KINDS;
 
@@ -21,10 +22,10 @@ pub struct Happenings {
 }
 
 /// One accepted step, as the counters see it.
-struct Seen<'a> {
-    event: Event,
-    before: &'a Device,
-    after: &'a Device,
+pub(crate) struct Seen<'a> {
+    pub event: Event,
+    pub before: &'a Device,
+    pub after: &'a Device,
 }
 
 impl Seen<'_> {
@@ -61,7 +62,7 @@ impl Happenings {
         }
     }
 
-    fn note(&mut self, condition: bool, kind: &str) {
+    pub(crate) fn note(&mut self, condition: bool, kind: &str) {
         if condition {
             *self.counts.entry(kind.to_string()).or_insert(0) += 1;
         }
@@ -70,17 +71,25 @@ impl Happenings {
     /// Runs a list on a fresh device and counts along.
     pub fn run(&mut self, events: &[[u8; 4]]) -> Vec<[u8; 4]> {
         let mut device = Device::power_up();
+        let mut watch = Watch::default();
         let mut answers = vec![];
         for &bytes in events {
             let before = device.clone();
             let answer = device.step(bytes);
-            self.look(bytes, answer[0], &before, &device);
+            self.look(bytes, answer[0], &before, &device, &mut watch);
             answers.push(answer);
         }
         answers
     }
 
-    fn look(&mut self, bytes: [u8; 4], outcome: u8, before: &Device, after: &Device) {
+    fn look(
+        &mut self,
+        bytes: [u8; 4],
+        outcome: u8,
+        before: &Device,
+        after: &Device,
+        watch: &mut Watch,
+    ) {
         self.note(outcome == 2, "refused 2");
         self.note(outcome == 3, "refused 3");
         let name = EVENT_NAMES.get(bytes[0] as usize).copied().unwrap_or("");
@@ -95,6 +104,7 @@ impl Happenings {
             self.ends(&seen);
             self.claims(&seen);
             self.lines(&seen);
+            self.hanging(&seen, watch);
             self.initialisation(&seen);
             self.hold(&seen);
             for m in [0, 1] {
@@ -176,9 +186,6 @@ impl Happenings {
         self.note(stopped && !by_drive, "STOP by LINES");
         self.note(started && by_drive, "START by a drive");
         self.note(stopped && by_drive, "STOP by a drive");
-        self.note(!before.is_hung() && after.scl_low_count == 500, "hung by SCL");
-        self.note(!before.is_hung() && after.sda_low_count == 500, "hung by SDA");
-        self.note(before.is_hung() && !after.is_hung(), "hung ends");
         self.note(before.int_in && !after.int_in, "INT_IN fall");
         if let (34, 35, Some(m)) = (
             before.scl_low_count,

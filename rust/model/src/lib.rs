@@ -14,13 +14,15 @@
 //! - `step`: one event, in the order of "Order inside a step".
 //! - `trace`: whole traces and the listing ("Answers and the trace").
 //! - `writer`: a trace out of pins and events (document 02, #101).
-//! - `rng`, `phrases`, `traces`, `damage`, `happenings`, `kinds`: random cases for the tests.
+//! - `rng`, `phrases`, `waits`, `traces`, `damage`: random cases for the tests.
+//! - `happenings`, `hanging`, `kinds`: what happens in them.
 //! - `stored`: the traces that the repository keeps as one set.
 
 pub mod bytes;
 pub mod damage;
 pub mod device;
 pub mod event;
+pub mod hanging;
 pub mod happenings;
 pub mod kinds;
 pub mod phrases;
@@ -30,6 +32,7 @@ pub mod stored;
 pub mod straps;
 pub mod trace;
 pub mod traces;
+pub mod waits;
 pub mod writer;
 
 pub use device::Device;

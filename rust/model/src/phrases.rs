@@ -6,7 +6,7 @@ use crate::event::make::*;
 use crate::rng::Rng;
 
 pub type Bytes = [u8; 4];
-type Phrase = Vec<Bytes>;
+pub type Phrase = Vec<Bytes>;
 
 /// What a master does next. It depends on whether it owns the bus.
 pub fn master_phrase(rng: &mut Rng, device: &Device, m: u8) -> Phrase {

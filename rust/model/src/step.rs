@@ -88,10 +88,10 @@ impl Device {
             self.hold -= 1;
         }
         if !levels.scl {
-            self.scl_low_count = (self.scl_low_count + 1).min(HUNG_TICKS);
+            self.scl_low_count = (self.scl_low_count + 1).min(SCL_HUNG_TICKS);
         }
         if !levels.sda {
-            self.sda_low_count = (self.sda_low_count + 1).min(HUNG_TICKS);
+            self.sda_low_count = (self.sda_low_count + 1).min(SDA_HUNG_TICKS);
         }
         if idle {
             self.idle_count = (self.idle_count + 1).min(IDLE_TICKS);
@@ -114,7 +114,9 @@ impl Device {
         if is.scl {
             self.scl_low_count = 0;
         }
-        if is.sda {
+        // "The SDA count restarts at every change of SCL's level" (#102). It does so here, after the
+        // tick was counted: the TICK that ends a hold leaves it at 0.
+        if is.sda || was.scl != is.scl {
             self.sda_low_count = 0;
         }
         if !self.is_idle() {

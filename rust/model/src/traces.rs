@@ -11,6 +11,7 @@ use crate::event::make::*;
 use crate::phrases::{joint_phrase, master_phrase, Bytes};
 use crate::rng::Rng;
 use crate::straps::pins_of;
+use crate::waits::{hanging_wait, time_of_a_hold, WAIT};
 
 /// The script of the world, after the masters' 0 and 1.
 const WORLD: usize = 2;
@@ -123,10 +124,10 @@ impl Teller {
             return self.pulses();
         }
         if self.device.hold > 0 && self.rng.percent(50) {
-            return self.time_of_a_hold();
+            return time_of_a_hold(&mut self.rng, &self.device, self.left);
         }
-        if self.left > 600 && self.rng.percent(4) {
-            return self.low_lines(498, 503);
+        if self.left > WAIT && self.rng.percent(8) {
+            return hanging_wait(&mut self.rng, &self.device, self.left);
         }
         if self.idle_timer_is_on() && self.left > 110 && self.rng.percent(25) {
             return self.quiet_wait();
@@ -136,7 +137,7 @@ impl Teller {
             0..=44 => vec![tick(); rng.between(1, 5) as usize],
             45..=50 => vec![tick(); rng.between(6, 12) as usize],
             51..=56 => self.quiet_wait(),
-            57..=64 => self.low_lines(33, 37),
+            57..=64 => self.low_lines(),
             65..=78 => self.transfer(),
             79..=84 => vec![lines(1, 1, 0), lines(1, 1, 1)],
             85..=91 => self.crossing(),
@@ -155,14 +156,6 @@ impl Teller {
         let mut phrase = vec![lines(1, 0, 1), lines(1, 1, 1)];
         phrase.extend(vec![tick(); self.rng.between(99, 104) as usize]);
         phrase
-    }
-
-    /// The ticks of a hold, sometimes cut short by a reset.
-    fn time_of_a_hold(&mut self) -> Vec<Bytes> {
-        if self.rng.percent(15) {
-            return vec![tick(), self.rng.pick(&[reset(), general_call(0, 6), general_call(1, 6)])];
-        }
-        vec![tick(); self.rng.between(34, 37) as usize]
     }
 
     /// Any levels one after the other. Often both lines change in one event.
@@ -185,11 +178,11 @@ impl Teller {
         phrase
     }
 
-    /// A line is low for so many ticks, then high again.
-    fn low_lines(&mut self, fewest: u64, most: u64) -> Vec<Bytes> {
+    /// A line is low for about as many ticks as a time-out needs, then high again.
+    fn low_lines(&mut self) -> Vec<Bytes> {
         let low = self.rng.pick(&[lines(0, 1, 1), lines(0, 1, 1), lines(1, 0, 1), lines(0, 0, 1)]);
         let mut phrase = vec![low];
-        phrase.extend(vec![tick(); self.rng.between(fewest, most) as usize]);
+        phrase.extend(vec![tick(); self.rng.between(33, 37) as usize]);
         phrase.push(lines(1, low[2], 1));
         phrase.push(lines(1, 1, 1));
         phrase

@@ -132,7 +132,7 @@ fn states_are_settled() {
         } else {
             assert!(device.drives.scl && device.drives.sda);
         }
-        assert!(device.scl_low_count <= 500 && device.sda_low_count <= 500);
+        assert!(device.scl_low_count <= 500 && device.sda_low_count <= 501);
         assert!(device.idle_count <= 101 && device.hold <= 35);
         assert!(device.masters.iter().all(|m| m.contr & 2 == 0 && m.int_msk < 0x80));
     });

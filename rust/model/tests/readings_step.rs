@@ -221,11 +221,11 @@ fn reset_clears_the_flags() {
     let mut device = owned_by(0, 0, 0x0D);
     run(&mut device, &[pulse(0); 9]);
     run(&mut device, &[lines(1, 0, 1)]);
-    ticks(&mut device, 500);
+    ticks(&mut device, 501);
     assert_eq!(get(&mut device, 1, 2), 0x4F);
     run(&mut device, &[reset()]);
     assert_eq!(get(&mut device, 1, 2), 0x48);
-    ticks(&mut device, 499);
+    ticks(&mut device, 500);
     assert_eq!(get(&mut device, 1, 2), 0x48);
     ticks(&mut device, 1);
     assert_eq!(get(&mut device, 1, 2), 0x4C);

@@ -3,7 +3,9 @@
 use std::fs;
 use std::path::{Path, PathBuf};
 
+use model::happenings::Happenings;
 use model::listing;
+use model::read_trace;
 use model::stored::{input, output, stored_traces};
 
 /// A file of the stored set.
@@ -27,4 +29,17 @@ fn stored_set_has_every_kind() {
     }
     let good = texts.iter().filter(|text| !text.starts_with('R')).count();
     assert!(good > 100, "{good} good traces");
+}
+
+/// Its long traces come to a hung bus by either line, and to a clock that runs too long for one.
+#[test]
+fn stored_set_hangs_the_bus() {
+    let mut happenings = Happenings::default();
+    for trace in stored_traces().iter().filter_map(|trace| read_trace(trace).ok()) {
+        happenings.run(&trace.events);
+    }
+    let kinds = ["hung by SCL", "hung by SDA", "SDA low for 501 ticks, not hung: the clock runs"];
+    for kind in kinds {
+        assert!(happenings.count(kind) > 0, "no {kind}");
+    }
 }
