@@ -1,3 +1,3 @@
+pub mod Worked
 pub mod Laws
-pub mod Rows
 pub mod Unique

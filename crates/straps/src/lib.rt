@@ -1,156 +1,24 @@
-// The address straps: from the four pins to the address, and from the address to the pins.
-ghost use Prim.Native.Nat.{_<_};
+// The address straps: from the four pins to the address, and from the address to the pins, by the class rule of document 01.
+//
+// The class is a number of three bits, AD2, AD1 and AD0, where a resistor counts 1 and a tie 0. The first address of a class is 10h above
+// that of the class before; ttt comes after rrr, and AD3 at VDD adds 8:
+//
+//   class    ttr 1  trt 2  trr 3  rtt 4  rtr 5  rrt 6  rrr 7  ttt 0
+//   AD3 VSS  00h    10h    20h    30h    40h    50h    60h    70h
+//   AD3 VDD  08h    18h    28h    38h    48h    58h    68h    78h
+//
+// That is the paper's table but for its two "none", which come out as 00h and 78h. No address from these is in the range, 08h to 77h.
 ghost use mathlib.Core.Path.{_≡_};
-ghost use Rattle.arbiter.specs.Straps.{addressOf, strapsOf, strappedNumber, strappedAddress, strappingNumber, addressNumber, addressValue, strapsNumber};
-ghost use Rattle.straps.specs.Entries.{EntryAt, samePins};
+ghost use Rattle.arbiter.specs.Straps.{inRange, addressOf, strapsOf};
+ghost use Rattle.arbiter.specs.Straps.{strappedNumber, strappedAddress, strappingNumber, addressNumber, addressValue, strapsNumber};
 use arbiter::Pins;
 use arbiter::Strapped;
 use arbiter::Strapping;
 
-// The 112 strappings, in the order of their addresses. Each is the codes of AD3, AD2, AD1 and AD0, a digit each, and the address:
-// 0x1002_08 is AD3 at VDD, AD2 and AD1 at VSS, AD0 pulled down, and 08h.
-const STRAPS: [u32; 112] = [
-    0x1002_08,
-    0x1003_09,
-    0x1012_0A,
-    0x1013_0B,
-    0x1102_0C,
-    0x1103_0D,
-    0x1112_0E,
-    0x1113_0F,
-    0x0020_10,
-    0x0021_11,
-    0x0030_12,
-    0x0031_13,
-    0x0120_14,
-    0x0121_15,
-    0x0130_16,
-    0x0131_17,
-    0x1020_18,
-    0x1021_19,
-    0x1030_1A,
-    0x1031_1B,
-    0x1120_1C,
-    0x1121_1D,
-    0x1130_1E,
-    0x1131_1F,
-    0x0022_20,
-    0x0023_21,
-    0x0032_22,
-    0x0033_23,
-    0x0122_24,
-    0x0123_25,
-    0x0132_26,
-    0x0133_27,
-    0x1022_28,
-    0x1023_29,
-    0x1032_2A,
-    0x1033_2B,
-    0x1122_2C,
-    0x1123_2D,
-    0x1132_2E,
-    0x1133_2F,
-    0x0200_30,
-    0x0201_31,
-    0x0210_32,
-    0x0211_33,
-    0x0300_34,
-    0x0301_35,
-    0x0310_36,
-    0x0311_37,
-    0x1200_38,
-    0x1201_39,
-    0x1210_3A,
-    0x1211_3B,
-    0x1300_3C,
-    0x1301_3D,
-    0x1310_3E,
-    0x1311_3F,
-    0x0202_40,
-    0x0203_41,
-    0x0212_42,
-    0x0213_43,
-    0x0302_44,
-    0x0303_45,
-    0x0312_46,
-    0x0313_47,
-    0x1202_48,
-    0x1203_49,
-    0x1212_4A,
-    0x1213_4B,
-    0x1302_4C,
-    0x1303_4D,
-    0x1312_4E,
-    0x1313_4F,
-    0x0220_50,
-    0x0221_51,
-    0x0230_52,
-    0x0231_53,
-    0x0320_54,
-    0x0321_55,
-    0x0330_56,
-    0x0331_57,
-    0x1220_58,
-    0x1221_59,
-    0x1230_5A,
-    0x1231_5B,
-    0x1320_5C,
-    0x1321_5D,
-    0x1330_5E,
-    0x1331_5F,
-    0x0222_60,
-    0x0223_61,
-    0x0232_62,
-    0x0233_63,
-    0x0322_64,
-    0x0323_65,
-    0x0332_66,
-    0x0333_67,
-    0x1222_68,
-    0x1223_69,
-    0x1232_6A,
-    0x1233_6B,
-    0x1322_6C,
-    0x1323_6D,
-    0x1332_6E,
-    0x1333_6F,
-    0x0000_70,
-    0x0001_71,
-    0x0010_72,
-    0x0011_73,
-    0x0100_74,
-    0x0101_75,
-    0x0110_76,
-    0x0111_77,
-];
-
-// One strapping, taken apart.
-pub struct Entry {
-    pub pins: Pins,
-    pub address: u8,
-}
-
-fn entry_at(k: usize) -> Entry
-    requires { ⌜ k < 112 ⌝ }
-    ensures { λ r. ⌜ EntryAt k r ⌝ }
+fn in_range(address: u8) -> bool
+    ensures { λ r. ⌜ r ≡ inRange address ⌝ }
 {
-    let row = STRAPS[k];
-    let pins = Pins {
-        ad3: (row / 0x10_0000 % 16) as u8,
-        ad2: (row / 0x1_0000 % 16) as u8,
-        ad1: (row / 0x1000 % 16) as u8,
-        ad0: (row / 0x100 % 16) as u8,
-    };
-    Entry {
-        pins,
-        address: (row % 256) as u8,
-    }
-}
-
-fn same_pins(p: Pins, q: Pins) -> bool
-    ensures { λ r. ⌜ r ≡ samePins p q ⌝ }
-{
-    (p.ad3 == q.ad3) & (p.ad2 == q.ad2) & (p.ad1 == q.ad1) & (p.ad0 == q.ad0)
+    !(address < 0x08) & (address < 0x78)
 }
 
 // The address of four pins. Refusal 8, with no address: a code above 3, or an unlisted strapping.
@@ -158,16 +26,19 @@ pub fn address_of(p: Pins) -> Strapped
     ensures { λ r. ⌜ r ≡ addressOf p ⌝ }
     ensures { λ r. ⌜ (strappedNumber r ≡ addressNumber p) × (strappedAddress r ≡ addressValue p) ⌝ }
 {
-    let mut k: usize = 0;
-    while k < 112 {
-        let e = entry_at(k);
-        let q = e.pins;
-        if same_pins(p, q) {
-            return Strapped::Address(e.address);
-        }
-        k += 1;
+    // AD3 is a tie, and the others have codes.
+    let coded = (p.ad3 < 2) & (p.ad2 < 4) & (p.ad1 < 4) & (p.ad0 < 4);
+    // Codes 2 and 3 are resistors; 1 and 3 count 1 in the address.
+    let class = 4 * (p.ad2 / 2 % 2) + 2 * (p.ad1 / 2 % 2) + p.ad0 / 2 % 2;
+    let bits = 4 * (p.ad2 % 2) + 2 * (p.ad1 % 2) + p.ad0 % 2;
+    // Class 1 is the first, and class 0 the last, of eight.
+    let first = 0x10 * ((class + 7) % 8) + 8 * (p.ad3 % 2);
+    let address = first + bits;
+    if coded & in_range(address) {
+        Strapped::Address(address)
+    } else {
+        Strapped::Unlisted
     }
-    Strapped::Unlisted
 }
 
 // The four pins of an address. Refusal 11, with no strapping: an address outside 08h to 77h.
@@ -175,13 +46,17 @@ pub fn straps_of(address: u8) -> Strapping
     ensures { λ r. ⌜ r ≡ strapsOf address ⌝ }
     ensures { λ r. ⌜ strappingNumber r ≡ strapsNumber address ⌝ }
 {
-    if address < 0x08 {
-        return Strapping::Outside;
+    if in_range(address) {
+        // A pin's code is 2 if the class has a resistor there, and 1 more if its bit of the address is 1.
+        let class = (address / 0x10 + 1) % 8;
+        let pins = Pins {
+            ad3: address / 8 % 2,
+            ad2: 2 * (class / 4 % 2) + address / 4 % 2,
+            ad1: 2 * (class / 2 % 2) + address / 2 % 2,
+            ad0: 2 * (class % 2) + address % 2,
+        };
+        Strapping::Straps(pins)
+    } else {
+        Strapping::Outside
     }
-    if 0x78 <= address {
-        return Strapping::Outside;
-    }
-    let e = entry_at((address - 8) as usize);
-    let p = e.pins;
-    Strapping::Straps(p)
 }
