@@ -20,11 +20,11 @@ enum-told-2 c = search needs
 
 returns : tie.Need-returns
 unfolding writtenNumber bodyNumber
-returns c = simp (c .body-number .ensures, c .before .enum-told .given .1, ← c .before .before .before .address-of .ensures)
+returns c = simp (c .body-number .ensures, c .before .enum-told .given .1, ← c .before .before .before .address-of .ensures .0)
 
 returns-2 : tie.Need-returns-2
 unfolding writtenNumber
-returns-2 c = simp (c .enum-told2 .given .1, ← c .before .before .address-of .ensures)
+returns-2 c = simp (c .enum-told2 .given .1, ← c .before .before .address-of .ensures .0)
 
 pub write-number-spec : {M : Type 1} → statement M
 write-number-spec =
