@@ -1,0 +1,4 @@
+pub mod Bytes
+pub mod Joined
+pub mod Prefix
+pub mod Bound

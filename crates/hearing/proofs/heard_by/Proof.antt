@@ -1,0 +1,57 @@
+use Rattle.capture.specs.OneBus.{heard}
+use borrow.Author.Needs.{needs}
+use Rattle.hearing.proofs.heard_by.Statement.{statement}
+use Rattle.hearing.proofs.heard_by.Tie as tie
+
+enum-told : tie.Need-enum-told
+enum-told c = search needs
+
+enum-told-2 : tie.Need-enum-told-2
+enum-told-2 c = search needs
+
+on-start-requires : tie.Need-on-start-requires
+on-start-requires c κs = search needs
+
+enum-told-3 : tie.Need-enum-told-3
+enum-told-3 c = search needs
+
+on-stop-requires : tie.Need-on-stop-requires
+on-stop-requires c κs = search needs
+
+enum-known-s : tie.Need-enum-known-s
+enum-known-s c = search needs
+
+on-clock-requires : tie.Need-on-clock-requires
+on-clock-requires c κs = search needs
+
+returns : tie.Need-returns
+unfolding heard
+returns c = simp (c .enum-told .given .1, c .before .match .keys1)
+
+returns-2 : tie.Need-returns-2
+unfolding heard
+returns-2 c = simp (← c .on-start .ensures, c .before .enum-told2 .given .1, c .before .before .match .keys2)
+
+returns-3 : tie.Need-returns-3
+unfolding heard
+returns-3 c = simp (← c .on-stop .ensures, c .before .enum-told3 .given .1, c .before .before .match .keys3)
+
+returns-4 : tie.Need-returns-4
+unfolding heard
+returns-4 c = simp (← c .on-clock .ensures, c .before .before .s .given .1, c .before .before .before .match .keys4)
+
+pub heard-by-spec : {M : Type 1} → statement M
+heard-by-spec =
+    tie.close
+    (tie.spec
+    enum-told
+    enum-told-2
+    on-start-requires
+    enum-told-3
+    on-stop-requires
+    enum-known-s
+    on-clock-requires
+    returns
+    returns-2
+    returns-3
+    returns-4)
