@@ -121,8 +121,10 @@ clocks-fair m address was now b l w h =
   where
     d : low (was .scl) ≡ 1
     d = ap low w
+
     e : low (now .scl) ≡ 0
     e = ap low h
+
     quiet : 0 * 18 + (l .clocks * 2 + low (now .scl) + kept (l .owed) (l .awaited)) ≤ l .clocks * 2 + low (was .scl) + kept (l .owed) (l .awaited) + 1
     quiet = omega (arith, d, e)
 

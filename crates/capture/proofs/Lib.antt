@@ -2,3 +2,5 @@ pub mod Bytes
 pub mod Joined
 pub mod Prefix
 pub mod Bound
+pub mod Laws
+pub mod Densest

@@ -116,7 +116,7 @@ ended address l =
       clocks = 0;
       value = 0;
       owed = l .owed || owes (l .awaited);
-      broken = l .broken
+      broken = l .broken;
     }
 
 unfoldable pub atClock : ℕ → Bool → Listener → Listener

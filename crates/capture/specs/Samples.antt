@@ -17,7 +17,7 @@ sampled address before now s =
     record {
       both = record { bus0 = heard address (signOf Zero before now) (s .bus0); bus1 = heard address (signOf One before now) (s .bus1) };
       given0 = gives Zero (signOf Zero before now) (s .bus0);
-      given1 = gives One (signOf One before now) (s .bus1)
+      given1 = gives One (signOf One before now) (s .bus1);
     }
 
 abbrev pub eventsIn : Heard → List Event

@@ -32,7 +32,7 @@ unfoldable pub bothLightly : ℕ → ℕ → Both → Both
 bothLightly before now s =
     record {
       bus0 = lightly (levels Zero before) (levels Zero now) (s .bus0);
-      bus1 = lightly (levels One before) (levels One now) (s .bus1)
+      bus1 = lightly (levels One before) (levels One now) (s .bus1);
     }
 
 abbrev pub unheard : Both → Heard

@@ -279,7 +279,9 @@ fn is_light(was: Levels, now: Levels, l: Listener) -> bool
     ensures { λ r. ⌜ r ≡ isLight was now l ⌝ }
 {
     let awaited = l.awaited;
-    !(is_start(was, now) | is_stop(was, now) | (is_rise(was, now) & (is_outside(awaited) | !(l.clocks < 8))))
+    !(is_start(was, now)
+        | is_stop(was, now)
+        | (is_rise(was, now) & (is_outside(awaited) | !(l.clocks < 8))))
 }
 
 fn are_light(before: u8, now: u8, s: Both) -> bool
@@ -287,7 +289,8 @@ fn are_light(before: u8, now: u8, s: Both) -> bool
 {
     let bus0 = s.bus0;
     let bus1 = s.bus1;
-    is_light(levels_0(before), levels_0(now), bus0) & is_light(levels_1(before), levels_1(now), bus1)
+    is_light(levels_0(before), levels_0(now), bus0)
+        & is_light(levels_1(before), levels_1(now), bus1)
 }
 
 fn with_bit(was: Levels, now: Levels, l: Listener) -> Listener

@@ -1,2 +1,1 @@
-pub mod Light
 pub mod Stored

@@ -2,152 +2,247 @@
 // are gone through twice: once to count the events and to meet every refusal, and once to write.
 ghost use Prim.Native.Nat.{_+_, _*_, _≤_, _<_};
 ghost use mathlib.Core.Path.{_≡_};
-ghost use mathlib.Core.Bool.{true};
+ghost use mathlib.Core.Bool.{_||_};
+ghost use mathlib.Core.List.{[], _∷_};
 ghost use lib.ListN.{length};
-ghost use Rattle.arbiter.specs.Words.{bit, worth};
+ghost use lib.Seq.{sets};
+ghost use Rattle.arbiter.specs.Words.{worth};
 ghost use Rattle.arbiter.specs.Marks.{raw};
 ghost use Rattle.arbiter.specs.Straps.{inRange};
-ghost use Rattle.arbiter.specs.declared.Master.the-variants.{Zero, One};
-ghost use Rattle.arbiter.specs.declared.Event.the-variants.{Pair};
-ghost use Rattle.capture.specs.OneBus.{levels, isStart, isStop, rises, sign, addressed, awaitedAfter, byteGives, owes, isOutside, silent, started, stopped, shifted, ended, clocked, heard, gives, isCut};
-ghost use Rattle.capture.specs.Events.{fromOne, besideWrite, together, masterByte, rawOf, fourBytes, eventBytes};
-ghost use Rattle.capture.specs.Import.{imported, importedBuffer, importNumber, importedBy, bufferBy};
-ghost use Rattle.capture.specs.Samples.{signOf, bothSilent, bothHeard, bothAfter, eventsAfter};
-ghost use Rattle.importing.specs.Light.{isStill, isLight, lightly, areLight, bothLightly};
-ghost use Rattle.importing.specs.Stored.{stored};
+ghost use Rattle.capture.specs.OneBus.{isCut};
+ghost use Rattle.capture.specs.Events.{fromOne, besideWrite, together, masterByte, rawOf, fourBytes, eventBytes, captured};
+ghost use Rattle.capture.specs.Import.{imported, importedBuffer};
+ghost use Rattle.capture.specs.Samples.{bothSilent, bothAfter};
+ghost use Rattle.importing.specs.Stored.{listed, stored};
 use arbiter::Event;
 use arbiter::Master;
 use arbiter::Raw;
+use bits::worth_of;
 use capture::Awaited;
 use capture::Both;
 use capture::Given;
 use capture::Imported;
-use capture::Levels;
 use capture::Listener;
-use capture::Sign;
+use hearing::hear_sample;
 
-// ---- two samples after each other
+// What a walk through the samples finds: both buses at the end, and how many bytes the events take.
+pub struct Walked {
+    pub both: Both,
+    pub bytes: usize,
+}
 
-fn levels_0(x: u8) -> Levels
-    ensures { λ r. ⌜ r ≡ levels Zero x ⌝ }
+// The events of one sample: there are at most two.
+pub enum Few {
+    NoEvent,
+    OneEvent(Event),
+    TwoEvents(Event, Event),
+}
+
+// ---- the order of two masters' events
+
+fn few_from_1(h: Given) -> Few
+    ensures { λ r. ⌜ listed r ≡ fromOne h ⌝ }
 {
-    Levels {
-        scl: x / 1 % 2 == 1,
-        sda: x / 2 % 2 == 1,
+    match h {
+        Given::Nothing => Few::NoEvent,
+        Given::Written(v) => Few::OneEvent(Event::Write(Master::One, v)),
+        Given::Gives(e) => Few::OneEvent(e),
     }
 }
 
-fn levels_1(x: u8) -> Levels
-    ensures { λ r. ⌜ r ≡ levels One x ⌝ }
+fn few_beside_write(v: u8, h: Given) -> Few
+    ensures { λ r. ⌜ listed r ≡ besideWrite v h ⌝ }
 {
-    Levels {
-        scl: x / 4 % 2 == 1,
-        sda: x / 8 % 2 == 1,
+    match h {
+        Given::Nothing => Few::OneEvent(Event::Write(Master::Zero, v)),
+        Given::Written(u) => Few::OneEvent(Event::Pair(v, u)),
+        Given::Gives(e) => Few::TwoEvents(Event::Write(Master::Zero, v), e),
     }
 }
 
-fn is_start(was: Levels, now: Levels) -> bool
-    ensures { λ r. ⌜ r ≡ isStart was now ⌝ }
+fn few_beside_event(e: Event, h: Given) -> Few
+    ensures { λ r. ⌜ listed r ≡ e ∷ fromOne h ⌝ }
 {
-    was.scl & (now.scl & (was.sda & !now.sda))
+    match h {
+        Given::Nothing => Few::OneEvent(e),
+        Given::Written(v) => Few::TwoEvents(e, Event::Write(Master::One, v)),
+        Given::Gives(f) => Few::TwoEvents(e, f),
+    }
 }
 
-fn is_stop(was: Levels, now: Levels) -> bool
-    ensures { λ r. ⌜ r ≡ isStop was now ⌝ }
+fn few_of(g: Given, h: Given) -> Few
+    ensures { λ r. ⌜ listed r ≡ together g h ⌝ }
 {
-    was.scl & (now.scl & (!was.sda & now.sda))
+    match g {
+        Given::Nothing => few_from_1(h),
+        Given::Written(v) => few_beside_write(v, h),
+        Given::Gives(e) => few_beside_event(e, h),
+    }
 }
 
-fn is_rise(was: Levels, now: Levels) -> bool
-    ensures { λ r. ⌜ r ≡ rises was now ⌝ }
+// ---- an event's bytes
+
+fn master_byte(m: Master) -> u8
+    ensures { λ r. ⌜ r ≡ masterByte m ⌝ }
 {
-    !was.scl & now.scl
+    match m {
+        Master::Zero => 0,
+        Master::One => 1,
+    }
 }
 
-fn sign_of(was: Levels, now: Levels) -> Sign
-    ensures { λ r. ⌜ r ≡ sign was now ⌝ }
+fn raw_with(kind: u8, x: u8, y: u8, z: u8) -> Raw
+    ensures { λ r. ⌜ r ≡ raw kind x y z ⌝ }
 {
-    if is_start(was, now) {
-        Sign::Starts
-    } else if is_stop(was, now) {
-        Sign::Stops
-    } else if is_rise(was, now) {
-        Sign::Clocks(now.sda)
+    Raw { kind, x, y, z }
+}
+
+fn raw_of(e: Event) -> Raw
+    ensures { λ r. ⌜ r ≡ rawOf e ⌝ }
+{
+    match e {
+        Event::Command(m, c) => raw_with(0, master_byte(m), c, 0),
+        Event::Write(m, v) => raw_with(1, master_byte(m), v, 0),
+        Event::Read(m) => raw_with(2, master_byte(m), 0, 0),
+        Event::Stop(m) => raw_with(3, master_byte(m), 0, 0),
+        Event::Pair(v0, v1) => raw_with(4, v0, v1, 0),
+        Event::Lines(scl, sda, intin) => raw_with(
+            5,
+            worth_of(1, scl),
+            worth_of(1, sda),
+            worth_of(1, intin),
+        ),
+        Event::Tick => raw_with(6, 0, 0, 0),
+        Event::Pulse(sda) => raw_with(7, worth_of(1, sda), 0, 0),
+        Event::Reset => raw_with(8, 0, 0, 0),
+        Event::GeneralCall(m, b) => raw_with(9, master_byte(m), b, 0),
+    }
+}
+
+// ---- events into the lent buffer; each function gives the place after what it stored or counted
+
+fn put_raw(out: &mut [u8], at: usize, r: Raw)
+    requires { ⌜ at + 4 ≤ length (now out) ⌝ }
+    ensures { λ u. ⌜ now (out .exit) ≡ sets (now (out .entry)) at (fourBytes r) ⌝ }
+{
+    out[at] = r.kind;
+    out[at + 1] = r.x;
+    out[at + 2] = r.y;
+    out[at + 3] = r.z;
+}
+
+fn put_event(out: &mut [u8], at: usize, writes: bool, e: Event) -> usize
+    requires { ⌜ (at < 2097152) × (worth (at + 4) writes ≤ length (now out)) ⌝ }
+    ensures { λ r. ⌜ (r ≡ at + 4) × (now (out .exit) ≡ stored writes (now (out .entry)) at (eventBytes (e ∷ []))) ⌝ }
+{
+    if writes {
+        put_raw(out, at, raw_of(e));
+        at + 4
     } else {
-        Sign::Steady
+        at + 4
     }
 }
 
-// ---- a byte's end
-
-fn addressed_by(address: u8, v: u8) -> Awaited
-    ensures { λ r. ⌜ r ≡ addressed address v ⌝ }
+fn put_few(out: &mut [u8], at: usize, writes: bool, f: Few) -> usize
+    requires { ⌜ (at < 1048576) × (worth (at + 4 * length (listed f)) writes ≤ length (now out)) ⌝ }
+    ensures { λ r. ⌜ (r ≡ at + 4 * length (listed f)) × (now (out .exit) ≡ stored writes (now (out .entry)) at (eventBytes (listed f))) ⌝ }
 {
-    if v == 0 {
-        Awaited::CallByte
-    } else if v / 2 == address {
-        if v / 1 % 2 == 1 {
-            Awaited::ReadByte
-        } else {
-            Awaited::CommandByte
+    match f {
+        Few::NoEvent => at,
+        Few::OneEvent(e) => put_event(out, at, writes, e),
+        Few::TwoEvents(first, second) => {
+            let next = put_event(out, at, writes, first);
+            put_event(out, next, writes, second)
+        }
+    }
+}
+
+// ---- both buses
+
+fn silent_both() -> Both
+    ensures { λ r. ⌜ r ≡ bothSilent ⌝ }
+{
+    let bus0 = Listener {
+        awaited: Awaited::NoByte,
+        clocks: 0,
+        value: 0,
+        owed: false,
+        broken: false,
+    };
+    let bus1 = bus0;
+    Both { bus0, bus1 }
+}
+
+fn is_cut(l: Listener) -> bool
+    ensures { λ r. ⌜ r ≡ isCut l ⌝ }
+{
+    l.broken | (1 < l.clocks)
+}
+
+fn is_any_cut(s: Both) -> bool
+    ensures { λ r. ⌜ r ≡ (isCut (s .bus0) || isCut (s .bus1)) ⌝ }
+{
+    let bus0 = s.bus0;
+    let bus1 = s.bus1;
+    is_cut(bus0) | is_cut(bus1)
+}
+
+// Through all samples: the events are counted, and stored if they are to be written.
+fn walk(samples: &[u8], address: u8, out: &mut [u8], writes: bool) -> Walked
+    requires { ⌜ (length (now samples) ≤ 32768) × (worth (4 * length (captured address (now samples))) writes ≤ length (now out)) ⌝ }
+    ensures found { λ r. ⌜ (r .both ≡ bothAfter address (now (samples .entry))) × (r .bytes ≡ 4 * length (captured address (now (samples .entry)))) ⌝ }
+    ensures written { λ r. ⌜ now (out .exit) ≡ stored writes (now (out .entry)) 0 (eventBytes (captured address (now (samples .entry)))) ⌝ }
+{
+    let mut both = silent_both();
+    let mut bytes: usize = 0;
+    let mut i: usize = 1;
+    while i < samples.len() {
+        let h = hear_sample(address, samples[i - 1], samples[i], both);
+        let given0 = h.given0;
+        let given1 = h.given1;
+        bytes = put_few(out, bytes, writes, few_of(given0, given1));
+        both = h.both;
+        i += 1;
+    }
+    Walked { both, bytes }
+}
+
+// ---- the call
+
+fn is_address(address: u8) -> bool
+    ensures { λ r. ⌜ r ≡ inRange address ⌝ }
+{
+    !(address < 8) & (address < 120)
+}
+
+fn refused(number: u8) -> Imported
+    ensures { λ r. ⌜ (r .number ≡ number) × (r .count ≡ 0) ⌝ }
+{
+    Imported { number, count: 0 }
+}
+
+// The events of a capture, for a device of this address, four bytes each in the lent buffer; their count, or the number of a refusal.
+pub fn import_capture(samples: &[u8], address: u8, events: &mut [u8]) -> Imported
+    ensures { λ r. ⌜ (r ≡ imported address (now (samples .entry)) (now (events .entry))) × (now (events .exit) ≡ importedBuffer address (now (samples .entry)) (now (events .entry))) ⌝ }
+{
+    if 32768 < samples.len() {
+        return refused(13);
+    }
+    if is_address(address) {
+        let found = walk(samples, address, events, false);
+        let both = found.both;
+        if is_any_cut(both) {
+            return refused(12);
+        }
+        if events.len() < found.bytes {
+            return refused(9);
+        }
+        let written = walk(samples, address, events, true);
+        Imported {
+            number: 0,
+            count: written.bytes / 4,
         }
     } else {
-        Awaited::SkippedByte
-    }
-}
-
-fn awaited_after(address: u8, awaited: Awaited, v: u8) -> Awaited
-    ensures { λ r. ⌜ r ≡ awaitedAfter address awaited v ⌝ }
-{
-    match awaited {
-        Awaited::NoByte => Awaited::NoByte,
-        Awaited::AddressByte => addressed_by(address, v),
-        Awaited::CommandByte => Awaited::WriteByte,
-        Awaited::WriteByte => Awaited::WriteByte,
-        Awaited::ReadByte => Awaited::ReadByte,
-        Awaited::CallByte => Awaited::SkippedByte,
-        Awaited::SkippedByte => Awaited::SkippedByte,
-    }
-}
-
-fn byte_gives(m: Master, awaited: Awaited, v: u8) -> Given
-    ensures { λ r. ⌜ r ≡ byteGives m awaited v ⌝ }
-{
-    match awaited {
-        Awaited::NoByte => Given::Nothing,
-        Awaited::AddressByte => Given::Nothing,
-        Awaited::CommandByte => Given::Gives(Event::Command(m, v)),
-        Awaited::WriteByte => Given::Written(v),
-        Awaited::ReadByte => Given::Gives(Event::Read(m)),
-        Awaited::CallByte => Given::Gives(Event::GeneralCall(m, v)),
-        Awaited::SkippedByte => Given::Nothing,
-    }
-}
-
-fn is_owing(awaited: Awaited) -> bool
-    ensures { λ r. ⌜ r ≡ owes awaited ⌝ }
-{
-    match awaited {
-        Awaited::NoByte => false,
-        Awaited::AddressByte => false,
-        Awaited::CommandByte => true,
-        Awaited::WriteByte => false,
-        Awaited::ReadByte => true,
-        Awaited::CallByte => false,
-        Awaited::SkippedByte => false,
-    }
-}
-
-fn is_outside(awaited: Awaited) -> bool
-    ensures { λ r. ⌜ r ≡ isOutside awaited ⌝ }
-{
-    match awaited {
-        Awaited::NoByte => true,
-        Awaited::AddressByte => false,
-        Awaited::CommandByte => false,
-        Awaited::WriteByte => false,
-        Awaited::ReadByte => false,
-        Awaited::CallByte => false,
-        Awaited::SkippedByte => false,
+        refused(11)
     }
 }

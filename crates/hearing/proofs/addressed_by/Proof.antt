@@ -1,3 +1,5 @@
+-- `hearing::addressed_by` meets its contract.
+-- Assumes nothing.
 use borrow.Author.Tests.{eq-eqb, ne-eqb}
 use Rattle.capture.specs.OneBus.{addressed}
 use Rattle.hearing.proofs.addressed_by.Statement.{statement}

@@ -1,3 +1,5 @@
+-- `hearing::are_light` meets its contract.
+-- Assumes nothing.
 use Rattle.hearing.specs.Light.{areLight}
 use borrow.Author.Needs.{needs}
 use Rattle.hearing.proofs.are_light.Statement.{statement}

@@ -1,3 +1,5 @@
+-- `hearing::fully` meets its contract.
+-- Assumes nothing.
 use Rattle.capture.specs.Samples.{sampled}
 use borrow.Author.Needs.{needs}
 use Rattle.hearing.proofs.fully.Statement.{statement}

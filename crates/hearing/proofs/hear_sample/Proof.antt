@@ -1,3 +1,5 @@
+-- `hearing::hear_sample` meets its contract.
+-- Assumes nothing.
 use mathlib.Core.Path.{sym, ap, _∙_}
 use Rattle.hearing.specs.Light.{unheard}
 use Rattle.hearing.proofs.Light.{still-sampled, light-sampled}

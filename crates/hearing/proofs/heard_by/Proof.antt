@@ -1,3 +1,5 @@
+-- `hearing::heard_by` meets its contract.
+-- Assumes nothing.
 use Rattle.capture.specs.OneBus.{heard}
 use borrow.Author.Needs.{needs}
 use Rattle.hearing.proofs.heard_by.Statement.{statement}
@@ -26,19 +28,19 @@ on-clock-requires c κs = search needs
 
 returns : tie.Need-returns
 unfolding heard
-returns c = simp (c .enum-told .given .1, c .before .match .keys1)
+returns c = simp (c .enum-told .given .1)
 
 returns-2 : tie.Need-returns-2
 unfolding heard
-returns-2 c = simp (← c .on-start .ensures, c .before .enum-told2 .given .1, c .before .before .match .keys2)
+returns-2 c = simp (← c .on-start .ensures, c .before .enum-told2 .given .1)
 
 returns-3 : tie.Need-returns-3
 unfolding heard
-returns-3 c = simp (← c .on-stop .ensures, c .before .enum-told3 .given .1, c .before .before .match .keys3)
+returns-3 c = simp (← c .on-stop .ensures, c .before .enum-told3 .given .1)
 
 returns-4 : tie.Need-returns-4
 unfolding heard
-returns-4 c = simp (← c .on-clock .ensures, c .before .before .s .given .1, c .before .before .before .match .keys4)
+returns-4 c = simp (← c .on-clock .ensures, c .before .before .s .given .1)
 
 pub heard-by-spec : {M : Type 1} → statement M
 heard-by-spec =

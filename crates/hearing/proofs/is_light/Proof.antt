@@ -1,3 +1,5 @@
+-- `hearing::is_light` meets its contract.
+-- Assumes nothing.
 use Rattle.hearing.specs.Light.{isLight}
 use borrow.Author.Needs.{needs}
 use Rattle.hearing.proofs.is_light.Statement.{statement}

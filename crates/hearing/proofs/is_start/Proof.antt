@@ -1,3 +1,5 @@
+-- `hearing::is_start` meets its contract.
+-- Assumes nothing.
 use mathlib.Core.Path.{refl}
 use Rattle.hearing.proofs.is_start.Statement.{statement}
 use Rattle.hearing.proofs.is_start.Tie as tie

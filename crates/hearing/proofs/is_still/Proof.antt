@@ -1,3 +1,5 @@
+-- `hearing::is_still` meets its contract.
+-- Assumes nothing.
 use mathlib.Core.Path.{refl}
 use Rattle.hearing.specs.Light.{isStill}
 use Rattle.hearing.proofs.is_still.Statement.{statement}

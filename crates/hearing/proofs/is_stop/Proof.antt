@@ -1,3 +1,5 @@
+-- `hearing::is_stop` meets its contract.
+-- Assumes nothing.
 use mathlib.Core.Path.{refl}
 use Rattle.hearing.proofs.is_stop.Statement.{statement}
 use Rattle.hearing.proofs.is_stop.Tie as tie

@@ -1,3 +1,5 @@
+-- `hearing::on_bit` meets its contract.
+-- Assumes nothing.
 use Rattle.capture.specs.OneBus.{shifted}
 use borrow.Author.Needs.{needs}
 use Rattle.hearing.proofs.on_bit.Statement.{statement}

@@ -1,3 +1,5 @@
+-- `hearing::on_clock` meets its contract.
+-- Assumes nothing.
 use borrow.Author.Tests.{le-ltb, lt-ltb}
 use Rattle.capture.specs.OneBus.{atClock}
 use borrow.Author.Needs.{needs}

@@ -1,3 +1,5 @@
+-- `hearing::on_ninth` meets its contract.
+-- Assumes nothing.
 use Rattle.capture.specs.OneBus.{ended}
 use borrow.Author.Needs.{needs}
 use Rattle.hearing.proofs.on_ninth.Statement.{statement}

@@ -1,3 +1,5 @@
+-- `hearing::on_start` meets its contract.
+-- Assumes nothing.
 use mathlib.Core.Path.{refl}
 use Rattle.capture.specs.OneBus.{started}
 use Rattle.hearing.proofs.on_start.Statement.{statement}

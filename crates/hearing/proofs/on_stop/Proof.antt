@@ -1,3 +1,5 @@
+-- `hearing::on_stop` meets its contract.
+-- Assumes nothing.
 use mathlib.Core.Path.{refl}
 use Rattle.capture.specs.OneBus.{stopped}
 use Rattle.hearing.proofs.on_stop.Statement.{statement}

@@ -1,3 +1,5 @@
+-- `hearing::sign_of` meets its contract.
+-- Assumes nothing.
 use Rattle.capture.specs.OneBus.{sign}
 use borrow.Author.Needs.{needs}
 use Rattle.hearing.proofs.sign_of.Statement.{statement}

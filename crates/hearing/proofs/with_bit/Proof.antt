@@ -1,3 +1,5 @@
+-- `hearing::with_bit` meets its contract.
+-- Assumes nothing.
 use mathlib.Core.Path.{sym, _∙_}
 use Rattle.hearing.specs.Light.{lightly}
 use Rattle.hearing.proofs.Light.{light-clocks}

@@ -1,3 +1,5 @@
+-- `hearing::with_bits` meets its contract.
+-- Assumes nothing.
 use Rattle.hearing.specs.Light.{bothLightly}
 use Rattle.hearing.proofs.Light.{light-0, light-1}
 use borrow.Author.Needs.{needs}
