@@ -53,7 +53,7 @@ one-byte rest = (refl, refl)
 -- and so do all of them
 all-bytes : (n : ℕ) (rest : List ℕ) → (length (eventsFrom 0x70 0x05 both (bytes n rest)) ≡ 2 * n + length (eventsFrom 0x70 0x05 both rest)) × (bothFrom 0x70 0x05 both (bytes n rest) ≡ bothFrom 0x70 0x05 both rest)
 unfolding bytes
-all-bytes zero rest = (refl, refl)
+all-bytes zero rest = (omega arith, refl)
 all-bytes (suc n) rest =
     let more = one-byte (bytes n rest) in
     let others = all-bytes n rest in
@@ -61,7 +61,7 @@ all-bytes (suc n) rest =
 
 bytes-long : (n : ℕ) (rest : List ℕ) → length (bytes n rest) ≡ 18 * n + length rest
 unfolding bytes
-bytes-long zero rest = refl
+bytes-long zero rest = omega arith
 bytes-long (suc n) rest = omega (arith, bytes-long n rest)
 
 -- up to its first READ, and from the last to its end

@@ -7,7 +7,7 @@ use mathlib.Core.Bool.{Bool, true, false, _||_}
 use mathlib.Core.List.{List, [], _∷_, _++_, map}
 use native.Mathlib.Omega.{arith}
 use lib.Dec.{eqb}
-use Rattle.capture.specs.Names.{bit, Master, Zero, One, Event, Levels, Sign, Steady, Listener, Given, Nothing, Both, Heard}
+use Rattle.capture.specs.Names.{Master, Zero, One, Event, Levels, Sign, Steady, Listener, Given, Nothing, Both, Heard}
 use Rattle.capture.specs.OneBus.{levels, sign, signs, signsOn, heardFrom, givenFrom, given, heard, gives, silent, isCut, cutOn}
 use Rattle.capture.specs.Events.{together, merged, captured}
 use Rattle.capture.specs.Import.{isCapturedCut}
@@ -56,16 +56,19 @@ upper-bits-ignored address samples = both-lines address (map (λ (x : ℕ). x % 
 
 -- ---- the sample before again
 
-same-steady : (c d : Bool) → sign (record { scl = c; sda = d }) (record { scl = c; sda = d }) ≡ Steady
+pub same-steady : (l : Levels) → sign l l ≡ Steady
 unfolding sign
-same-steady true true = refl
-same-steady true false = refl
-same-steady false true = refl
-same-steady false false = refl
+same-steady l = go (l .scl) (l .sda)
+  where
+    go : (c d : Bool) → sign (record { scl = c; sda = d }) (record { scl = c; sda = d }) ≡ Steady
+    go true true = refl
+    go true false = refl
+    go false true = refl
+    go false false = refl
 
 again : (address x : ℕ) (s : Both) → sampled address x x s ≡ record { both = s; given0 = Nothing; given1 = Nothing }
 unfolding sampled heard gives
-again address x s = rw (same-steady (bit 0 x) (bit 1 x), same-steady (bit 2 x) (bit 3 x)) refl
+again address x s = rw (same-steady (levels Zero x), same-steady (levels One x)) refl
 
 from-again : (address before x : ℕ) (s : Both) (p q : List ℕ)
     → (eventsFrom address before s (p ++ x ∷ x ∷ q) ≡ eventsFrom address before s (p ++ x ∷ q)) × (bothFrom address before s (p ++ x ∷ x ∷ q) ≡ bothFrom address before s (p ++ x ∷ q))

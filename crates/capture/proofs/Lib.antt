@@ -4,3 +4,4 @@ pub mod Prefix
 pub mod Bound
 pub mod Laws
 pub mod Densest
+pub mod Examples

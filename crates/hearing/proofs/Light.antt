@@ -3,7 +3,6 @@
 use Prim.Native.Nat.{ℕ, _<_}
 use mathlib.Core.Path.{_≡_, refl, sym, ap, _∙_}
 use mathlib.Core.Bool.{Bool, true, false, not, _&&_, _||_, false≢true}
-use mathlib.Core.Logic.{_⊎_, inl, inr}
 use lib.Dec.{eqb, ltb}
 use borrow.Author.Tests.{eqb-true, ltb-true}
 use Rattle.arbiter.specs.Words.{if_then_else_, bit}
@@ -12,14 +11,12 @@ use Rattle.arbiter.specs.declared.Master.the-variants.{Zero, One}
 use Rattle.arbiter.proofs.Choice.{split, not-true}
 use Rattle.capture.specs.declared.Levels.{Levels}
 use Rattle.capture.specs.declared.Listener.{Listener}
-use Rattle.capture.specs.declared.Sign.{Sign}
-use Rattle.capture.specs.declared.Sign.the-variants.{Steady, Starts, Stops, Clocks}
-use Rattle.capture.specs.declared.Given.{Given}
+use Rattle.capture.specs.declared.Sign.the-variants.{Steady}
 use Rattle.capture.specs.declared.Given.the-variants.{Nothing}
 use Rattle.capture.specs.declared.Both.{Both}
-use Rattle.capture.specs.declared.Heard.{Heard}
 use Rattle.capture.specs.OneBus.{levels, isStart, isStop, rises, sign, isOutside, shifted, atClock, heard, gives}
-use Rattle.capture.specs.Samples.{signOf, sampled}
+use Rattle.capture.specs.Samples.{sampled}
+use Rattle.capture.proofs.Laws.{same-steady}
 use Rattle.hearing.specs.Light.{isStill, isLight, areLight, lightly, bothLightly, unheard}
 
 -- ---- tests
@@ -34,18 +31,7 @@ and-right false b h = absurd (false≢true h)
 
 -- ---- a still sample shows nothing
 
--- the same levels again,
-pub same-steady : (l : Levels) → sign l l ≡ Steady
-unfolding sign
-same-steady l = go (l .scl) (l .sda)
-  where
-    go : (c d : Bool) → sign (record { scl = c; sda = d }) (record { scl = c; sda = d }) ≡ Steady
-    go true true = refl
-    go true false = refl
-    go false true = refl
-    go false false = refl
-
--- or SCL low
+-- the same levels again (`same-steady`), or SCL low
 pub low-steady : (was now : Levels) → now .scl ≡ false → sign was now ≡ Steady
 unfolding sign
 low-steady was now h = go (was .scl) (was .sda) (now .scl) (now .sda) h
