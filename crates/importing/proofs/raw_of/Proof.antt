@@ -130,7 +130,7 @@ returns-9 c = simp (← c .raw-with9 .ensures, c .before .enum-told2 .given .1)
 
 returns-10 : tie.Need-returns-10
 unfolding rawOf
-returns-10 c = simp (← c .raw-with10 .ensures, ← c .before .master-byte5 .ensures, c .before .before .before .e8 .given .10)
+returns-10 c = simp (← c .raw-with10 .ensures, ← c .before .master-byte5 .ensures, c .before .before .before .e8 .given .1)
 
 pub raw-of-spec : {M : Type 1} → statement M
 raw-of-spec =
