@@ -85,48 +85,61 @@ stops-fair m address was now l h =
     go true p = omega arith
     go false p = omega arith
 
--- a byte's end: it has had eight clocks, and outside START to STOP there is none
-ended-fair : (m : Master) (address v c : ℕ) (o : Bool) (p : Awaited) → 8 ≤ c → isOutside p ≡ false
-    → count (byteGives m p v) * 18 + kept (o || owes p) (awaitedAfter address p v) ≤ c * 2 + 1 + kept o p + 1
-unfolding byteGives owes awaitedAfter isOutside
-ended-fair m address v c o NoByte h x = absurd (true≢false x)
-ended-fair m address v c o AddressByte h x = omega (arith, kept-most (o || false) (addressed address v))
-ended-fair m address v c true CommandByte h x = omega arith
-ended-fair m address v c false CommandByte h x = omega arith
-ended-fair m address v c true WriteByte h x = omega arith
-ended-fair m address v c false WriteByte h x = omega arith
-ended-fair m address v c true ReadByte h x = omega arith
-ended-fair m address v c false ReadByte h x = omega arith
-ended-fair m address v c true CallByte h x = omega arith
-ended-fair m address v c false CallByte h x = omega arith
-ended-fair m address v c true SkippedByte h x = omega arith
-ended-fair m address v c false SkippedByte h x = omega arith
+-- a byte's end: how many events it gives goes by what the byte is for, it has had eight clocks, and outside START to STOP there is none
+abbrev dues : Awaited → ℕ
+dues NoByte = 0
+dues AddressByte = 0
+dues CommandByte = 1
+dues WriteByte = 1
+dues ReadByte = 1
+dues CallByte = 1
+dues SkippedByte = 0
 
-outside-gives : (m : Master) (p : Awaited) (v : ℕ) → isOutside p ≡ true → byteGives m p v ≡ Nothing
-unfolding byteGives isOutside
-outside-gives m NoByte v h = refl
-outside-gives m AddressByte v h = absurd (true≢false (sym h))
-outside-gives m CommandByte v h = absurd (true≢false (sym h))
-outside-gives m WriteByte v h = absurd (true≢false (sym h))
-outside-gives m ReadByte v h = absurd (true≢false (sym h))
-outside-gives m CallByte v h = absurd (true≢false (sym h))
-outside-gives m SkippedByte v h = absurd (true≢false (sym h))
+byte-dues : (m : Master) (p : Awaited) (v : ℕ) → count (byteGives m p v) ≡ dues p
+unfolding byteGives
+byte-dues m NoByte v = refl
+byte-dues m AddressByte v = refl
+byte-dues m CommandByte v = refl
+byte-dues m WriteByte v = refl
+byte-dues m ReadByte v = refl
+byte-dues m CallByte v = refl
+byte-dues m SkippedByte v = refl
+
+outside-dues : (p : Awaited) → isOutside p ≡ true → dues p ≡ 0
+unfolding isOutside
+outside-dues NoByte h = refl
+outside-dues AddressByte h = refl
+outside-dues CommandByte h = absurd (true≢false (sym h))
+outside-dues WriteByte h = absurd (true≢false (sym h))
+outside-dues ReadByte h = absurd (true≢false (sym h))
+outside-dues CallByte h = absurd (true≢false (sym h))
+outside-dues SkippedByte h = refl
+
+ended-fair : (address v c : ℕ) (o : Bool) (p : Awaited) → 8 ≤ c → isOutside p ≡ false
+    → dues p * 18 + kept (o || owes p) (awaitedAfter address p v) ≤ c * 2 + 1 + kept o p + 1
+unfolding owes awaitedAfter isOutside
+ended-fair address v c o NoByte h x = absurd (true≢false x)
+ended-fair address v c o AddressByte h x = omega (arith, kept-most (o || false) (addressed address v))
+ended-fair address v c true CommandByte h x = omega arith
+ended-fair address v c false CommandByte h x = omega arith
+ended-fair address v c true WriteByte h x = omega arith
+ended-fair address v c false WriteByte h x = omega arith
+ended-fair address v c true ReadByte h x = omega arith
+ended-fair address v c false ReadByte h x = omega arith
+ended-fair address v c true CallByte h x = omega arith
+ended-fair address v c false CallByte h x = omega arith
+ended-fair address v c true SkippedByte h x = omega arith
+ended-fair address v c false SkippedByte h x = omega arith
 
 clocks-fair : (m : Master) (address : ℕ) (was now : Levels) (b : Bool) (l : Listener) → was .scl ≡ false → now .scl ≡ true → Fair m address was now l (Clocks b)
 unfolding heard gives atClock shifted ended
 clocks-fair m address was now b l w h =
+    let d : low (was .scl) ≡ 1 = ap low w in
+    let e : low (now .scl) ≡ 0 = ap low h in
     split (isOutside (l .awaited))
-    (λ x. split (ltb (l .clocks) 8) (λ t. rw (x, t) quiet) (λ t. rw (x, t, outside-gives m (l .awaited) (l .value) x) quiet))
-    (λ x. split (ltb (l .clocks) 8) (λ t. rw (x, t) (omega (arith, d, e))) (λ t. rw (x, t) (omega (arith, d, e, ended-fair m address (l .value) (l .clocks) (l .owed) (l .awaited) (ltb-false (l .clocks) 8 t) x))))
-  where
-    d : low (was .scl) ≡ 1
-    d = ap low w
-
-    e : low (now .scl) ≡ 0
-    e = ap low h
-
-    quiet : 0 * 18 + (l .clocks * 2 + low (now .scl) + kept (l .owed) (l .awaited)) ≤ l .clocks * 2 + low (was .scl) + kept (l .owed) (l .awaited) + 1
-    quiet = omega (arith, d, e)
+    (λ x. split (ltb (l .clocks) 8) (λ t. rw (x, t) (omega (arith, d, e))) (λ t. rw (x, t) (simp byte-dues (omega (arith, d, e, outside-dues (l .awaited) x)))))
+    λ x. split (ltb (l .clocks) 8) (λ t. rw (x, t) (omega (arith, d, e)))
+    λ t. rw (x, t) (simp byte-dues (omega (arith, d, e, ended-fair address (l .value) (l .clocks) (l .owed) (l .awaited) (ltb-false (l .clocks) 8 t) x)))
 
 -- the level of SCL that a sign shows
 and-4 : (a b c d : Bool) → (a && b && c && d) ≡ true → b ≡ true

@@ -51,18 +51,22 @@ still-sampled address before now s h =
 
 -- ---- a light sample brings at most a bit
 
-light-tests : (s p r o t : Bool) → not (s || p || (r && (o || not t))) ≡ true → (s ≡ false) × (p ≡ false) × (r ≡ true → (o ≡ false) × (t ≡ true))
-light-tests true p r o t h = absurd (false≢true h)
-light-tests false true r o t h = absurd (false≢true h)
-light-tests false false true true t h = absurd (false≢true h)
-light-tests false false true false true h = (refl, refl, λ e. (refl, refl))
-light-tests false false true false false h = absurd (false≢true h)
-light-tests false false false o t h = (refl, refl, λ e. absurd (false≢true e))
-
 module _ (was now : Levels) (l : Listener) (light : isLight was now l ≡ true) where
   tests : (isStart was now ≡ false) × (isStop was now ≡ false) × (rises was now ≡ true → (isOutside (l .awaited) ≡ false) × (ltb (l .clocks) 8 ≡ true))
   unfolding isLight
-  tests = light-tests (isStart was now) (isStop was now) (rises was now) (isOutside (l .awaited)) (ltb (l .clocks) 8) light
+  tests = go (was .scl) (was .sda) (now .scl) (now .sda) (isOutside (l .awaited)) (ltb (l .clocks) 8) light
+    where
+      go : (a b c d o t : Bool) → not (c && ((a && ((b && not d) || (not b && d))) || (not a && (o || not t)))) ≡ true
+          → ((a && c && b && not d) ≡ false) × ((a && c && not b && d) ≡ false) × ((not a && c) ≡ true → (o ≡ false) × (t ≡ true))
+      go true b false d o t h = (refl, refl, λ e. absurd (false≢true e))
+      go false b false d o t h = (refl, refl, λ e. absurd (false≢true e))
+      go true true true true o t h = (refl, refl, λ e. absurd (false≢true e))
+      go true false true false o t h = (refl, refl, λ e. absurd (false≢true e))
+      go true true true false o t h = absurd (false≢true h)
+      go true false true true o t h = absurd (false≢true h)
+      go false b true d true t h = absurd (false≢true h)
+      go false b true d false true h = (refl, refl, λ e. (refl, refl))
+      go false b true d false false h = absurd (false≢true h)
 
   pub light-clocks : rises was now ≡ true → l .clocks < 8
   light-clocks r = ltb-true (l .clocks) 8 (tests .2 r .1)

@@ -11,7 +11,7 @@ use Rattle.capture.specs.declared.Listener.{Listener}
 use Rattle.capture.specs.declared.Given.the-variants.{Nothing}
 use Rattle.capture.specs.declared.Both.{Both}
 use Rattle.capture.specs.declared.Heard.{Heard}
-use Rattle.capture.specs.OneBus.{levels, isStart, isStop, rises, isOutside, shifted}
+use Rattle.capture.specs.OneBus.{levels, rises, isOutside, shifted}
 
 -- the sample before again, or both SCL low
 unfoldable pub isStill : ℕ → ℕ → Bool
@@ -19,7 +19,11 @@ isStill before now = eqb before now || (not (bit 0 now) && not (bit 2 now))
 
 -- neither START nor STOP, and no clock but the first eight of a byte
 unfoldable pub isLight : Levels → Levels → Listener → Bool
-isLight was now l = not (isStart was now || isStop was now || (rises was now && (isOutside (l .awaited) || not (ltb (l .clocks) 8))))
+isLight was now l =
+    not
+    (now .scl
+    && ((was .scl && ((was .sda && not (now .sda)) || (not (was .sda) && now .sda)))
+    || (not (was .scl) && (isOutside (l .awaited) || not (ltb (l .clocks) 8)))))
 
 unfoldable pub areLight : ℕ → ℕ → Both → Bool
 areLight before now s = isLight (levels Zero before) (levels Zero now) (s .bus0) && isLight (levels One before) (levels One now) (s .bus1)

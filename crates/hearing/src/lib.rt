@@ -3,7 +3,7 @@ ghost use mathlib.Core.Path.{_≡_};
 ghost use mathlib.Core.Bool.{true};
 ghost use Prim.Native.Nat.{_<_};
 ghost use Rattle.arbiter.specs.declared.Master.the-variants.{Zero, One};
-ghost use Rattle.capture.specs.OneBus.{levels, isStart, isStop, rises, sign, addressed, awaitedAfter, byteGives, owes, isOutside, started, stopped, shifted, ended, atClock, heard, gives};
+ghost use Rattle.capture.specs.OneBus.{levels, isStart, isStop, rises, sign, addressed, awaitedAfter, byteGives, owes, isOutside, shifted, atClock, heard, gives};
 ghost use Rattle.capture.specs.Samples.{sampled};
 ghost use Rattle.hearing.specs.Light.{isStill, isLight, lightly, areLight, bothLightly, unheard};
 use arbiter::Event;
@@ -143,59 +143,7 @@ fn is_outside(awaited: Awaited) -> bool
     }
 }
 
-// ---- one bus after a sign
-
-fn on_start(l: Listener) -> Listener
-    ensures { λ r. ⌜ r ≡ started l ⌝ }
-{
-    Listener {
-        awaited: Awaited::AddressByte,
-        clocks: 0,
-        value: 0,
-        owed: l.owed,
-        broken: l.broken | (1 < l.clocks),
-    }
-}
-
-fn on_stop(l: Listener) -> Listener
-    ensures { λ r. ⌜ r ≡ stopped l ⌝ }
-{
-    Listener {
-        awaited: Awaited::NoByte,
-        clocks: 0,
-        value: 0,
-        owed: false,
-        broken: l.broken | (1 < l.clocks),
-    }
-}
-
-fn on_bit(b: bool, l: Listener) -> Listener
-    requires { ⌜ (l .clocks) < 8 ⌝ }
-    ensures { λ r. ⌜ r ≡ shifted b l ⌝ }
-{
-    let awaited = l.awaited;
-    Listener {
-        awaited,
-        clocks: l.clocks + 1,
-        value: l.value % 128 * 2 + worth_of(1, b),
-        owed: l.owed,
-        broken: l.broken,
-    }
-}
-
-fn on_ninth(address: u8, l: Listener) -> Listener
-    ensures { λ r. ⌜ r ≡ ended address l ⌝ }
-{
-    let awaited = l.awaited;
-    let next = awaited_after(address, awaited, l.value);
-    Listener {
-        awaited: next,
-        clocks: 0,
-        value: 0,
-        owed: l.owed | is_owing(awaited),
-        broken: l.broken,
-    }
-}
+// ---- one bus after a sign. The listener is written out in each arm: a function for each arm made the loop over a capture half as fast.
 
 fn on_clock(address: u8, b: bool, l: Listener) -> Listener
     ensures { λ r. ⌜ r ≡ atClock address b l ⌝ }
@@ -204,9 +152,22 @@ fn on_clock(address: u8, b: bool, l: Listener) -> Listener
     if is_outside(awaited) {
         l
     } else if l.clocks < 8 {
-        on_bit(b, l)
+        Listener {
+            awaited,
+            clocks: l.clocks + 1,
+            value: l.value % 128 * 2 + worth_of(1, b),
+            owed: l.owed,
+            broken: l.broken,
+        }
     } else {
-        on_ninth(address, l)
+        let next = awaited_after(address, awaited, l.value);
+        Listener {
+            awaited: next,
+            clocks: 0,
+            value: 0,
+            owed: l.owed | is_owing(awaited),
+            broken: l.broken,
+        }
     }
 }
 
@@ -215,8 +176,20 @@ fn heard_by(address: u8, s: Sign, l: Listener) -> Listener
 {
     match s {
         Sign::Steady => l,
-        Sign::Starts => on_start(l),
-        Sign::Stops => on_stop(l),
+        Sign::Starts => Listener {
+            awaited: Awaited::AddressByte,
+            clocks: 0,
+            value: 0,
+            owed: l.owed,
+            broken: l.broken | (1 < l.clocks),
+        },
+        Sign::Stops => Listener {
+            awaited: Awaited::NoByte,
+            clocks: 0,
+            value: 0,
+            owed: false,
+            broken: l.broken | (1 < l.clocks),
+        },
         Sign::Clocks(b) => on_clock(address, b, l),
     }
 }
@@ -279,9 +252,9 @@ fn is_light(was: Levels, now: Levels, l: Listener) -> bool
     ensures { λ r. ⌜ r ≡ isLight was now l ⌝ }
 {
     let awaited = l.awaited;
-    !(is_start(was, now)
-        | is_stop(was, now)
-        | (is_rise(was, now) & (is_outside(awaited) | !(l.clocks < 8))))
+    !(now.scl
+        & ((was.scl & ((was.sda & !now.sda) | (!was.sda & now.sda)))
+            | (!was.scl & (is_outside(awaited) | !(l.clocks < 8)))))
 }
 
 fn are_light(before: u8, now: u8, s: Both) -> bool
@@ -291,6 +264,20 @@ fn are_light(before: u8, now: u8, s: Both) -> bool
     let bus1 = s.bus1;
     is_light(levels_0(before), levels_0(now), bus0)
         & is_light(levels_1(before), levels_1(now), bus1)
+}
+
+fn on_bit(b: bool, l: Listener) -> Listener
+    requires { ⌜ (l .clocks) < 8 ⌝ }
+    ensures { λ r. ⌜ r ≡ shifted b l ⌝ }
+{
+    let awaited = l.awaited;
+    Listener {
+        awaited,
+        clocks: l.clocks + 1,
+        value: l.value % 128 * 2 + worth_of(1, b),
+        owed: l.owed,
+        broken: l.broken,
+    }
 }
 
 fn with_bit(was: Levels, now: Levels, l: Listener) -> Listener
