@@ -1,0 +1,4 @@
+pub mod Stored
+pub mod Turns
+pub mod Numbers
+pub mod Unique

@@ -1,0 +1,177 @@
+-- `importing::raw_of` meets its contract.
+-- Assumes nothing.
+use Rattle.capture.specs.Events.{rawOf}
+use borrow.Author.Needs.{needs}
+use Rattle.importing.proofs.raw_of.Statement.{statement}
+use Rattle.importing.proofs.raw_of.Tie as tie
+
+enum-known-e : tie.Need-enum-known-e
+enum-known-e c = search needs
+
+master-byte-requires : tie.Need-master-byte-requires
+master-byte-requires c κs = search needs
+
+raw-with-requires : tie.Need-raw-with-requires
+raw-with-requires c κs = search needs
+
+enum-known-e-2 : tie.Need-enum-known-e-2
+enum-known-e-2 c = search needs
+
+master-byte-requires-2 : tie.Need-master-byte-requires-2
+master-byte-requires-2 c κs = search needs
+
+raw-with-requires-2 : tie.Need-raw-with-requires-2
+raw-with-requires-2 c κs = search needs
+
+enum-known-e-3 : tie.Need-enum-known-e-3
+enum-known-e-3 c = search needs
+
+master-byte-requires-3 : tie.Need-master-byte-requires-3
+master-byte-requires-3 c κs = search needs
+
+raw-with-requires-3 : tie.Need-raw-with-requires-3
+raw-with-requires-3 c κs = search needs
+
+enum-known-e-4 : tie.Need-enum-known-e-4
+enum-known-e-4 c = search needs
+
+master-byte-requires-4 : tie.Need-master-byte-requires-4
+master-byte-requires-4 c κs = search needs
+
+raw-with-requires-4 : tie.Need-raw-with-requires-4
+raw-with-requires-4 c κs = search needs
+
+enum-known-e-5 : tie.Need-enum-known-e-5
+enum-known-e-5 c = search needs
+
+raw-with-requires-5 : tie.Need-raw-with-requires-5
+raw-with-requires-5 c κs = search needs
+
+enum-known-e-6 : tie.Need-enum-known-e-6
+enum-known-e-6 c = search needs
+
+worth-of-requires : tie.Need-worth-of-requires
+worth-of-requires c κs = search needs
+
+worth-of-requires-2 : tie.Need-worth-of-requires-2
+worth-of-requires-2 c κs = search needs
+
+worth-of-requires-3 : tie.Need-worth-of-requires-3
+worth-of-requires-3 c κs = search needs
+
+raw-with-requires-6 : tie.Need-raw-with-requires-6
+raw-with-requires-6 c κs = search needs
+
+enum-told : tie.Need-enum-told
+enum-told c = search needs
+
+raw-with-requires-7 : tie.Need-raw-with-requires-7
+raw-with-requires-7 c κs = search needs
+
+enum-known-e-7 : tie.Need-enum-known-e-7
+enum-known-e-7 c = search needs
+
+worth-of-requires-4 : tie.Need-worth-of-requires-4
+worth-of-requires-4 c κs = search needs
+
+raw-with-requires-8 : tie.Need-raw-with-requires-8
+raw-with-requires-8 c κs = search needs
+
+enum-told-2 : tie.Need-enum-told-2
+enum-told-2 c = search needs
+
+raw-with-requires-9 : tie.Need-raw-with-requires-9
+raw-with-requires-9 c κs = search needs
+
+enum-known-e-8 : tie.Need-enum-known-e-8
+enum-known-e-8 c = search needs
+
+master-byte-requires-5 : tie.Need-master-byte-requires-5
+master-byte-requires-5 c κs = search needs
+
+raw-with-requires-10 : tie.Need-raw-with-requires-10
+raw-with-requires-10 c κs = search needs
+
+returns : tie.Need-returns
+unfolding rawOf
+returns c = simp (← c .raw-with .ensures, ← c .before .master-byte .ensures, c .before .before .before .e .given .1)
+
+returns-2 : tie.Need-returns-2
+unfolding rawOf
+returns-2 c = simp (← c .raw-with2 .ensures, ← c .before .master-byte2 .ensures, c .before .before .before .e2 .given .1)
+
+returns-3 : tie.Need-returns-3
+unfolding rawOf
+returns-3 c = simp (← c .raw-with3 .ensures, ← c .before .master-byte3 .ensures, c .before .before .before .e3 .given .1)
+
+returns-4 : tie.Need-returns-4
+unfolding rawOf
+returns-4 c = simp (← c .raw-with4 .ensures, ← c .before .master-byte4 .ensures, c .before .before .before .e4 .given .1)
+
+returns-5 : tie.Need-returns-5
+unfolding rawOf
+returns-5 c = simp (← c .raw-with5 .ensures, c .before .before .e5 .given .1)
+
+returns-6 : tie.Need-returns-6
+unfolding rawOf
+returns-6 c = simp (← c .raw-with6 .ensures, ← c .before .worth-of3 .ensures .0, ← c .before .before .worth-of2 .ensures .0, ← c .before .before .before .worth-of .ensures .0, c .before .before .before .before .before .e6 .given .1)
+
+returns-7 : tie.Need-returns-7
+unfolding rawOf
+returns-7 c = simp (← c .raw-with7 .ensures, c .before .enum-told .given .1)
+
+returns-8 : tie.Need-returns-8
+unfolding rawOf
+returns-8 c = simp (← c .raw-with8 .ensures, ← c .before .worth-of4 .ensures .0, c .before .before .before .e7 .given .1)
+
+returns-9 : tie.Need-returns-9
+unfolding rawOf
+returns-9 c = simp (← c .raw-with9 .ensures, c .before .enum-told2 .given .1)
+
+returns-10 : tie.Need-returns-10
+unfolding rawOf
+returns-10 c = simp (← c .raw-with10 .ensures, ← c .before .master-byte5 .ensures, c .before .before .before .e8 .given .1)
+
+pub raw-of-spec : {M : Type 1} → statement M
+raw-of-spec =
+    tie.close
+    (tie.spec
+    enum-known-e
+    master-byte-requires
+    raw-with-requires
+    enum-known-e-2
+    master-byte-requires-2
+    raw-with-requires-2
+    enum-known-e-3
+    master-byte-requires-3
+    raw-with-requires-3
+    enum-known-e-4
+    master-byte-requires-4
+    raw-with-requires-4
+    enum-known-e-5
+    raw-with-requires-5
+    enum-known-e-6
+    worth-of-requires
+    worth-of-requires-2
+    worth-of-requires-3
+    raw-with-requires-6
+    enum-told
+    raw-with-requires-7
+    enum-known-e-7
+    worth-of-requires-4
+    raw-with-requires-8
+    enum-told-2
+    raw-with-requires-9
+    enum-known-e-8
+    master-byte-requires-5
+    raw-with-requires-10
+    returns
+    returns-2
+    returns-3
+    returns-4
+    returns-5
+    returns-6
+    returns-7
+    returns-8
+    returns-9
+    returns-10)
