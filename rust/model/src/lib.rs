@@ -14,19 +14,26 @@
 //! - `step`: one event, in the order of "Order inside a step".
 //! - `trace`: whole traces and the listing ("Answers and the trace").
 //! - `writer`: a trace out of pins and events (document 02, #101).
+//! - `capture`: a logic-analyser capture turned into events (document 02, #104).
 //! - `rng`, `phrases`, `waits`, `traces`, `damage`: random cases for the tests.
 //! - `happenings`, `hanging`, `kinds`: what happens in them.
+//! - `pen`, `captures`, `capture_damage`, `sightings`: random captures, and what is seen in them.
 //! - `stored`: the traces that the repository keeps as one set.
 
 pub mod bytes;
+pub mod capture;
+pub mod capture_damage;
+pub mod captures;
 pub mod damage;
 pub mod device;
 pub mod event;
 pub mod hanging;
 pub mod happenings;
 pub mod kinds;
+pub mod pen;
 pub mod phrases;
 pub mod rng;
+pub mod sightings;
 pub mod step;
 pub mod stored;
 pub mod straps;
@@ -35,6 +42,7 @@ pub mod traces;
 pub mod waits;
 pub mod writer;
 
+pub use capture::{import_capture, Imported};
 pub use device::Device;
 pub use straps::{address_of, pins_of};
 pub use trace::{listing, read_trace, run_trace, Trace, TraceResult};
