@@ -7,10 +7,11 @@ use model::trace::MOST_EVENTS;
 use model::traces::{trace, trace_of};
 
 use crate::figures::Figures;
+use crate::importing::importer_calls;
 use crate::writing::writer_calls;
 
 /// Compares one round of cases: some 55 good traces with 16,000 events and seven times as many
-/// damaged ones, and some 90 calls of the writer.
+/// damaged ones, some 90 calls of the writer and some 90 of the importer.
 pub fn round(seed: u64, figures: &mut Figures) {
     let mut rng = Rng::new(seed);
     for length in lengths(&mut rng) {
@@ -24,6 +25,7 @@ pub fn round(seed: u64, figures: &mut Figures) {
         figures.list(&bytes);
     }
     writer_calls(&mut rng, figures);
+    importer_calls(&mut rng, figures);
 }
 
 /// Many short traces and a few long ones. A bus hangs only in those of 700 events and more.

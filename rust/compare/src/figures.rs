@@ -4,14 +4,20 @@ use std::collections::BTreeMap;
 use std::fmt;
 
 use model::happenings::{Happenings, KINDS};
+use model::sightings::SIGHTS;
 use model::trace::{four, hex};
 use model::TraceResult;
 
 use crate::check::{check_listing, check_run, Difference};
+use crate::importing::check_import;
 use crate::writing::{check_write, check_write_again};
 
 /// The calls that answer a number, each with the numbers that have to occur.
-const CALLS: &[(&str, &[u8])] = &[("run", &[0, 5, 6, 7, 8, 9, 10]), ("write", &[0, 5, 6, 8, 9])];
+const CALLS: &[(&str, &[u8])] = &[
+    ("run", &[0, 5, 6, 7, 8, 9, 10]),
+    ("write", &[0, 5, 6, 8, 9]),
+    ("import", &[0, 9, 11, 12, 13]),
+];
 /// So many mismatches are told in full. The rest are only counted.
 const TOLD: usize = 3;
 /// An input up to this length is told in hex. A longer one is kept as a file.
@@ -48,6 +54,23 @@ impl Figures {
             Ok(number) => self.answered("write", number),
             Err(difference) => {
                 self.tell("events", events, &format!("pins {pins:?}, room {room}; {difference}"))
+            }
+        }
+    }
+
+    /// Imports a capture on both sides and counts it.
+    pub fn import(&mut self, samples: &[u8], address: u8, room: usize) {
+        match check_import(samples, address, room) {
+            Ok(number) => {
+                self.answered("import", number);
+                // What is seen does not depend on the room, so 9 is left out.
+                if number != 9 && number != 11 {
+                    self.happenings.see(samples, address);
+                }
+            }
+            Err(difference) => {
+                let call = format!("address {address:02X}h, room {room}");
+                self.tell("capture", samples, &format!("{call}; {difference}"))
             }
         }
     }
@@ -118,7 +141,7 @@ impl Figures {
 
     /// Kinds of happening and numbers of a call that never occurred.
     pub fn never(&self) -> Vec<String> {
-        let kinds = KINDS.iter().filter(|kind| self.happenings.count(kind) == 0);
+        let kinds = all_kinds().filter(|kind| self.happenings.count(kind) == 0);
         let mut never: Vec<String> = kinds.map(|kind| kind.to_string()).collect();
         for (call, numbers) in CALLS {
             let missing = numbers.iter().filter(|n| !self.numbers.contains_key(&(*call, **n)));
@@ -143,13 +166,18 @@ impl Figures {
 
     /// Every kind of happening, with its count.
     pub fn happenings(&self) -> String {
-        KINDS.iter().map(|kind| format!("{:>12}  {kind}\n", self.happenings.count(kind))).collect()
+        all_kinds().map(|kind| format!("{:>12}  {kind}\n", self.happenings.count(kind))).collect()
     }
+}
+
+/// What happens in runs, and what is seen in captures.
+fn all_kinds() -> impl Iterator<Item = &'static str> {
+    KINDS.iter().chain(SIGHTS).copied()
 }
 
 impl fmt::Display for Figures {
     fn fmt(&self, f: &mut fmt::Formatter) -> fmt::Result {
-        let kinds = KINDS.iter().filter(|kind| self.happenings.count(kind) > 0).count();
+        let kinds = all_kinds().filter(|kind| self.happenings.count(kind) > 0).count();
         let calls: Vec<String> = CALLS.iter().map(|(call, _)| self.calls(call)).collect();
         writeln!(
             f,
@@ -159,7 +187,7 @@ impl fmt::Display for Figures {
             calls.join(", "),
             self.events,
             self.listings,
-            KINDS.len(),
+            all_kinds().count(),
             self.mismatches
         )?;
         self.told.iter().take(TOLD).try_for_each(|told| writeln!(f, "MISMATCH {told}"))

@@ -1,5 +1,7 @@
 //! Calls that are few enough to try them all.
 
+use model::capture_damage::about_bytes;
+use model::pen::samples_of;
 use model::read_trace;
 use model::stored::stored_traces;
 
@@ -52,4 +54,30 @@ pub fn all_pins(figures: &mut Figures) {
 
 pub fn all_addresses(figures: &mut Figures) {
     (0..=255).for_each(|address| figures.note(check_pins_of(address)));
+}
+
+/// Captures about the bounds of bytes, for the first address, the last and one between; and one of
+/// them for every address there is or is not.
+pub fn captures_about_bytes(figures: &mut Figures) {
+    for address in [0x08, 0x55, 0x77] {
+        about_bytes(address).iter().for_each(|samples| figures.import(samples, address, 64));
+    }
+    let samples = &about_bytes(0x08)[0];
+    (0..=255).for_each(|address| figures.import(samples, address, 64));
+}
+
+/// Every capture of up to four samples, and every one of eight samples in which one bus is free. The
+/// shortest with a START and two clocks has six.
+pub fn short_captures(figures: &mut Figures) {
+    for length in 0..=4 {
+        for code in 0..16usize.pow(length) {
+            let samples: Vec<u8> = (0..length).map(|at| (code >> (4 * at) & 15) as u8).collect();
+            figures.import(&samples, 0x70, 8);
+        }
+    }
+    for code in 0..4usize.pow(8) {
+        let bus: Vec<u8> = (0..8).map(|at| (code >> (2 * at) & 3) as u8).collect();
+        figures.import(&samples_of([&bus, &[3]]), 0x70, 8);
+        figures.import(&samples_of([&[3], &bus]), 0x70, 8);
+    }
 }

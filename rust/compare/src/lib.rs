@@ -4,6 +4,7 @@
 //!
 //! - `check`: one call of each kind on both sides, and what differs.
 //! - `writing`: the writer of traces on both sides.
+//! - `importing`: the importer of captures on both sides.
 //! - `words`: events and answers in words, for what differs.
 //! - `cases`: random calls, good and damaged, in rounds.
 //! - `fixed`: calls that are few enough to try them all.
@@ -13,6 +14,7 @@ pub mod cases;
 pub mod check;
 pub mod figures;
 pub mod fixed;
+pub mod importing;
 pub mod words;
 pub mod writing;
 

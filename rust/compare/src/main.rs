@@ -2,7 +2,7 @@
 
 use std::thread;
 
-use compare::fixed::{all_addresses, all_pins, kept_traces, short_strings};
+use compare::fixed::*;
 use compare::{clock_seed, round, seed_or, Figures};
 use model::traces::seed_of;
 
@@ -24,6 +24,8 @@ fn main() {
     short_strings(&mut figures);
     all_pins(&mut figures);
     all_addresses(&mut figures);
+    captures_about_bytes(&mut figures);
+    short_captures(&mut figures);
     print!("{figures}{}", figures.happenings());
     let never = figures.never();
     if !never.is_empty() {

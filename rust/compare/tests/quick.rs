@@ -3,7 +3,7 @@
 
 use std::io::Write;
 
-use compare::fixed::{all_addresses, all_pins, kept_traces, short_strings};
+use compare::fixed::*;
 use compare::{clock_seed, round, seed_or, Figures};
 use model::traces::seed_of;
 
@@ -59,4 +59,14 @@ fn pins_to_address() {
 #[test]
 fn address_to_pins() {
     check_all(all_addresses);
+}
+
+#[test]
+fn captures_about_the_bounds_of_bytes() {
+    check_all(captures_about_bytes);
+}
+
+#[test]
+fn every_short_capture() {
+    check_all(short_captures);
 }
