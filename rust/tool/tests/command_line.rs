@@ -106,7 +106,8 @@ fn examples_of_the_help_work() {
         assert_eq!(code(&help), 0);
         assert!(text.contains(command.example));
         let folder = Folder::new(command.name);
-        let line = command.example.replace("/tmp", folder.0.to_str().unwrap());
+        let output = format!("-o {}", folder.0.to_str().unwrap());
+        let line = command.example.replace("-o target", &output);
         let line = line.replace("target/rust/release/gunwaleish", TOOL);
         let ran = Command::new("sh").args(["-c", &line]).current_dir(root()).output().unwrap();
         assert_eq!(code(&ran), 0, "{line}: {}", said(&ran));

@@ -37,7 +37,21 @@ heard-by-requires-2 c κs = search needs
 
 returns : tie.Need-returns
 unfolding sampled
-returns c = simp (c .heard-by2 .ensures, c .before .heard-by .ensures, c .before .before .given-by2 .ensures, c .before .before .before .given-by .ensures, c .before .before .before .before .before .before .sign-of2 .ensures, c .before .before .before .before .before .before .before .levels-12 .ensures, c .before .before .before .before .before .before .before .before .levels-1 .ensures, c .before .before .before .before .before .before .before .before .before .sign-of .ensures, c .before .before .before .before .before .before .before .before .before .before .levels-02 .ensures, c .before .before .before .before .before .before .before .before .before .before .before .levels-0 .ensures)
+returns c =
+    let one = c .before .before .before .before .before .before in
+    let zero = one .before .before .before in
+    simp (
+      c .heard-by2 .ensures,
+      c .before .heard-by .ensures,
+      c .before .before .given-by2 .ensures,
+      c .before .before .before .given-by .ensures,
+      one .sign-of2 .ensures,
+      one .before .levels-12 .ensures,
+      one .before .before .levels-1 .ensures,
+      zero .sign-of .ensures,
+      zero .before .levels-02 .ensures,
+      zero .before .before .levels-0 .ensures,
+    )
 
 pub fully-spec : {M : Type 1} → statement M
 fully-spec =
