@@ -5,6 +5,7 @@ use Rattle.arbiter.proofs.Once.{OneResult, OneLeft, once}
 use Rattle.gunwaleish.proofs.gunwaleish_run_trace.Reads as gunwaleish-run-trace
 use Rattle.gunwaleish.proofs.gunwaleish_write_trace.Reads as gunwaleish-write-trace
 use Rattle.gunwaleish.proofs.gunwaleish_listing.Reads as gunwaleish-listing
+use Rattle.gunwaleish.proofs.gunwaleish_import_capture.Reads as gunwaleish-import-capture
 use Rattle.gunwaleish.proofs.gunwaleish_address_of.Reads as gunwaleish-address-of
 use Rattle.gunwaleish.proofs.gunwaleish_pins_of.Reads as gunwaleish-pins-of
 
@@ -16,6 +17,9 @@ gunwaleish-write-trace-once κ a x y s t p q = (once (p .0) (q .0), once (p .1) 
 
 pub gunwaleish-listing-once : OneLeft (λ κ s. now (s .1 .0)) gunwaleish-listing.Post
 gunwaleish-listing-once κ a x y s t p q = (once (p .0) (q .0), once (p .1) (q .1))
+
+pub gunwaleish-import-capture-once : OneLeft (λ κ s. now (s .1 .1 .0)) gunwaleish-import-capture.Post
+gunwaleish-import-capture-once κ a x y s t p q = (once (p .0) (q .0), once (p .1) (q .1))
 
 pub gunwaleish-address-of-once : OneResult gunwaleish-address-of.Post
 gunwaleish-address-of-once κ a x y s t p q = once p q

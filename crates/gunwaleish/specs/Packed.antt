@@ -1,4 +1,4 @@
--- What a call of the library hands to another language: document 01's number in the low byte (0 where nothing was refused), and what was
+-- What a call of the library hands to another language: document 01's or 02's number in the low byte (0 where nothing was refused), and what was
 -- found in the places above it.
 -- Assumes nothing.
 use Prim.Native.Nat.{ℕ, _+_, _*_}
@@ -8,6 +8,7 @@ use Rattle.arbiter.specs.declared.Written.{Written}
 use Rattle.arbiter.specs.declared.Strapped.{Strapped}
 use Rattle.arbiter.specs.declared.Strapping.{Strapping}
 use Rattle.arbiter.specs.declared.Strapping.the-variants.{Straps, Outside}
+use Rattle.capture.specs.declared.Imported.{Imported}
 
 -- a report: the number, the address, and from 65,536 on the count of events
 abbrev pub packedReport : Report → ℕ
@@ -16,6 +17,10 @@ packedReport r = r .number + 256 * r .address + 65536 * r .events
 -- a trace that was written: the number, and from 256 on its length (0 where nothing was written)
 abbrev pub packedWritten : Written → ℕ
 packedWritten w = w .number + 256 * w .length
+
+-- an import: the number, and from 256 on the count of events
+abbrev pub packedImport : Imported → ℕ
+packedImport r = r .number + 256 * r .count
 
 -- an address: the number, and the address (00h where there is none)
 abbrev pub packedAddress : Strapped → ℕ

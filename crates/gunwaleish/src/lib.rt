@@ -1,4 +1,4 @@
-// The library for Rust and C: traces and straps over numbers and byte slices. A slice passes as a pointer and then a length.
+// The library for Rust and C: traces, captures and straps over numbers and byte slices. A slice passes as a pointer and then a length.
 ghost use Prim.Native.Nat.{_<_};
 ghost use mathlib.Core.Path.{_≡_};
 ghost use lib.ListN.{length};
@@ -7,11 +7,13 @@ ghost use Rattle.arbiter.specs.Traces.{report, bufferAfter};
 ghost use Rattle.arbiter.specs.Writing.{written, bufferWritten};
 ghost use Rattle.arbiter.specs.Listing.{listing};
 ghost use Rattle.text.specs.Written.{textAfter};
+ghost use Rattle.capture.specs.Import.{imported, importedBuffer};
 ghost use Rattle.arbiter.specs.declared.Strapping.the-variants.{Straps};
-ghost use Rattle.gunwaleish.specs.Packed.{packedReport, packedWritten, packedAddress, packedPins};
+ghost use Rattle.gunwaleish.specs.Packed.{packedReport, packedWritten, packedImport, packedAddress, packedPins};
 use arbiter::Pins;
 use arbiter::Strapped;
 use arbiter::Strapping;
+use importing::import_capture;
 use straps::address_of;
 use straps::straps_of;
 use text::list_trace;
@@ -55,6 +57,15 @@ pub extern "C" fn gunwaleish_listing(t: &[u8], text: &mut [u8]) -> usize
     ensures { λ r. ⌜ (r ≡ length (listing (now (t .entry)))) × (now (text .exit) ≡ textAfter (now (t .entry)) (now (text .entry))) ⌝ }
 {
     list_trace(t, text)
+}
+
+// The events of a capture, for a device of this address, into a lent buffer.
+#[no_mangle]
+pub extern "C" fn gunwaleish_import_capture(samples: &[u8], address: u8, events: &mut [u8]) -> u64
+    ensures { λ r. ⌜ (r ≡ packedImport (imported address (now (samples .entry)) (now (events .entry)))) × (now (events .exit) ≡ importedBuffer address (now (samples .entry)) (now (events .entry))) ⌝ }
+{
+    let r = import_capture(samples, address, events);
+    byte(r.number) + 256 * (r.count as u64)
 }
 
 // The address of four pins.
