@@ -32,6 +32,13 @@ extern "C" {
         trace: *mut u8,
         trace_len: usize,
     ) -> u64;
+    fn gunwaleish_import_capture(
+        samples: *const u8,
+        samples_len: usize,
+        address: u8,
+        events: *mut u8,
+        events_len: usize,
+    ) -> u64;
 }
 
 /// The number, then the address, then the count of events, packed as 1, 256 and 65536.
@@ -69,5 +76,15 @@ pub fn write_trace(pins: [u8; 4], events: &[u8], trace: &mut [u8]) -> u64 {
     unsafe {
         let (to, to_len) = (trace.as_mut_ptr(), trace.len());
         gunwaleish_write_trace(ad3, ad2, ad1, ad0, from, from_len, to, to_len)
+    }
+}
+
+/// The number, then the count of events, packed as 1 and 256.
+pub fn import_capture(samples: &[u8], address: u8, events: &mut [u8]) -> u64 {
+    let (from, from_len) = (samples.as_ptr(), samples.len());
+    // SAFETY: see the head of this file.
+    unsafe {
+        let (to, to_len) = (events.as_mut_ptr(), events.len());
+        gunwaleish_import_capture(from, from_len, address, to, to_len)
     }
 }

@@ -31,12 +31,14 @@
 
 mod answer;
 pub mod boundary;
+mod capture;
 mod event;
 mod pins;
 mod refusal;
 mod run;
 
 pub use answer::{Answer, Outcome};
+pub use capture::{import_capture, import_capture_into, MOST_CAPTURED, MOST_SAMPLES};
 pub use event::{Event, Master};
 pub use pins::Pins;
 pub use refusal::Refusal;

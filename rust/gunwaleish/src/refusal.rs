@@ -1,8 +1,8 @@
-//! Why a call was refused, by document 01's numbers.
+//! Why a call was refused, by the numbers of documents 01 and 02.
 
 use std::fmt;
 
-/// A refusal of a whole call. The library keeps to document 01's numbers, and so does `number`.
+/// A refusal of a whole call. The library keeps to the documents' numbers, and so does `number`.
 /// Later calls bring numbers of their own.
 #[derive(Clone, Copy, Debug, PartialEq, Eq, Hash)]
 #[non_exhaustive]
@@ -15,13 +15,18 @@ pub enum Refusal {
     BytesAfterEnd,
     /// 8: a pin code is above 3, or the strapping has no address.
     NoSuchStrapping,
-    /// 9: the buffer is too short. Answers need four bytes an event, a trace seven more.
+    /// 9: the buffer is too short. Answers need four bytes an event, so do the events of a capture,
+    /// and a trace seven more.
     TooLittleRoom,
     /// 10: the first byte, the count of pins, is not 4.
     FirstCountNotFour,
     /// 11: the address is not one of 08h to 77h.
     AddressOutside,
-    /// A number that document 01 does not have here. The proved library never gives one. It
+    /// 12: a START or STOP stands inside a byte of the capture, or the capture ends inside one.
+    ByteCut,
+    /// 13: the capture has more than 32,768 samples.
+    TooManySamples,
+    /// A number that no document has here. The proved library never gives one. It
     /// stands here so that nothing has to panic if some other library is linked in its place.
     Unknown(u8),
 }
@@ -38,11 +43,13 @@ impl Refusal {
             9 => Refusal::TooLittleRoom,
             10 => Refusal::FirstCountNotFour,
             11 => Refusal::AddressOutside,
+            12 => Refusal::ByteCut,
+            13 => Refusal::TooManySamples,
             other => Refusal::Unknown(other),
         })
     }
 
-    /// Document 01's number.
+    /// The document's number.
     pub fn number(self) -> u8 {
         match self {
             Refusal::TraceCut => 5,
@@ -52,6 +59,8 @@ impl Refusal {
             Refusal::TooLittleRoom => 9,
             Refusal::FirstCountNotFour => 10,
             Refusal::AddressOutside => 11,
+            Refusal::ByteCut => 12,
+            Refusal::TooManySamples => 13,
             Refusal::Unknown(number) => number,
         }
     }
@@ -67,7 +76,9 @@ impl fmt::Display for Refusal {
             Refusal::TooLittleRoom => "the buffer is too short for what is to be written",
             Refusal::FirstCountNotFour => "the trace's first byte, the count of pins, is not 4",
             Refusal::AddressOutside => "the address is not one of 08h to 77h",
-            Refusal::Unknown(_) => "the library gave a number that document 01 does not have here",
+            Refusal::ByteCut => "a START or STOP inside a byte, or the capture ends inside one",
+            Refusal::TooManySamples => "the capture has more than 32,768 samples",
+            Refusal::Unknown(_) => "the library gave a number that no document has here",
         };
         write!(f, "refusal {}: {line}", self.number())
     }

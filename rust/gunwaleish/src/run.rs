@@ -51,6 +51,6 @@ pub fn run(trace: &[u8]) -> Result<Run, Refusal> {
     })
 }
 
-fn fours(bytes: &[u8]) -> impl Iterator<Item = [u8; 4]> + '_ {
+pub(crate) fn fours(bytes: &[u8]) -> impl Iterator<Item = [u8; 4]> + '_ {
     bytes.chunks_exact(4).map(|four| [four[0], four[1], four[2], four[3]])
 }

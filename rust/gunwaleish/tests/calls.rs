@@ -1,8 +1,9 @@
 //! Each call once with what document 01 says of it. The many cases are in `rust/compare`.
 
 use gunwaleish::{
-    address_of, listing, listing_into, pins_of, run, run_trace, write_trace, write_trace_into,
-    Answer, Event, Master, Outcome, Pins, Refusal, Report, MOST_EVENTS, MOST_TRACE,
+    address_of, import_capture, import_capture_into, listing, listing_into, pins_of, run, run_trace,
+    write_trace, write_trace_into, Answer, Event, Master, Outcome, Pins, Refusal, Report,
+    MOST_EVENTS, MOST_SAMPLES, MOST_TRACE,
 };
 
 /// M1: master 0 asks for the bus, is granted it at its STOP, and reads CONTR.
@@ -106,6 +107,54 @@ fn the_writer_refuses_in_order() {
     }
     let most = write_trace([0; 4], &[Event::Tick; MOST_EVENTS]).unwrap();
     assert_eq!((most.len(), run(&most).unwrap().events.len()), (MOST_TRACE, MOST_EVENTS));
+}
+
+/// A bus that is idle, then START, these bytes with a low ninth bit, and STOP. Master 1's bus stays
+/// high.
+fn capture(bytes: &[u8]) -> Vec<u8> {
+    let mut samples = vec![0x0F, 0x0D];
+    let mut clock = |bit: u8| samples.extend([0x0C | bit << 1, 0x0D | bit << 1]);
+    for byte in bytes {
+        (0..8).rev().for_each(|place| clock(byte >> place & 1));
+        clock(0);
+    }
+    clock(0);
+    samples.push(0x0F);
+    samples
+}
+
+#[test]
+fn a_capture_is_imported() {
+    let samples = capture(&[0xE0, 1, 5]);
+    assert_eq!(import_capture(&samples, 0x70).as_deref(), Ok(&m1_events()[..3]));
+    assert_eq!(import_capture(&samples, 0x71), Ok(vec![]));
+    assert_eq!(import_capture(&[], 0x70), Ok(vec![]));
+    let mut events = [0xEE; 14];
+    assert_eq!(import_capture_into(&samples, 0x70, &mut events), Ok(3));
+    assert_eq!(events[..12], M1[7..19]);
+    assert_eq!(events[12..], [0xEE; 2]);
+}
+
+/// Each refusal of the importer, with all those that come after it wrong as well.
+#[test]
+fn the_importer_refuses_in_order() {
+    let samples = capture(&[0xE0, 1, 5]);
+    let cut = &samples[..samples.len() - 5];
+    let long = [cut, &vec![0x0C; MOST_SAMPLES]].concat();
+    let cases: [(&[u8], u8, Refusal, u8); 5] = [
+        (&long, 0x78, Refusal::TooManySamples, 13),
+        (cut, 0x78, Refusal::AddressOutside, 11),
+        (cut, 0x07, Refusal::AddressOutside, 11),
+        (cut, 0x70, Refusal::ByteCut, 12),
+        (&samples, 0x70, Refusal::TooLittleRoom, 9),
+    ];
+    for (samples, address, refusal, number) in cases {
+        let mut events = [0xEE; 11];
+        assert_eq!(import_capture_into(samples, address, &mut events), Err(refusal));
+        assert_eq!(events, [0xEE; 11]);
+        assert_eq!(refusal.number(), number);
+        assert!(refusal.to_string().starts_with(&format!("refusal {number}: ")));
+    }
 }
 
 /// Bytes that read as an event get its name, others stay as they are; the library says which.

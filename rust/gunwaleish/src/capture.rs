@@ -1,0 +1,35 @@
+//! A logic analyser's capture, turned into events. Document 02, #104.
+//!
+//! A capture has one byte a sample: bit 0 is SCL and bit 1 SDA of master 0's bus, bits 2 and 3 are
+//! those of master 1's. `docs/CAPTURES.md` tells what is read out of it, and how to make one.
+
+use crate::run::fours;
+use crate::{boundary, Event, Refusal};
+
+/// The most samples that a capture may have.
+pub const MOST_SAMPLES: usize = 32_768;
+
+/// The most events that a capture gives. An event takes nine samples.
+pub const MOST_CAPTURED: usize = MOST_SAMPLES / 9;
+
+/// Writes the events that a capture has for the device of this address into a lent buffer, four
+/// bytes each, and gives their count.
+///
+/// Refusals, in this order: 13 above 32,768 samples, 11 for the address, 12 if a START or STOP
+/// stands inside a byte or the capture ends inside one, 9 if the buffer is too short. The buffer is
+/// untouched then. Bytes past the events stay as they are.
+pub fn import_capture_into(
+    samples: &[u8],
+    address: u8,
+    events: &mut [u8],
+) -> Result<usize, Refusal> {
+    let packed = boundary::import_capture(samples, address, events);
+    Refusal::of(packed as u8).map_or(Ok((packed >> 8) as usize), Err)
+}
+
+/// The events that a capture has for the device of this address.
+pub fn import_capture(samples: &[u8], address: u8) -> Result<Vec<Event>, Refusal> {
+    let mut events = vec![0; 4 * (samples.len() / 9).min(MOST_CAPTURED)];
+    let count = import_capture_into(samples, address, &mut events)?;
+    Ok(fours(&events).take(count).map(Event::from).collect())
+}
