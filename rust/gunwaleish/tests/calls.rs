@@ -1,9 +1,9 @@
 //! Each call once with what document 01 says of it. The many cases are in `rust/compare`.
 
 use gunwaleish::{
-    address_of, import_capture, import_capture_into, listing, listing_into, pins_of, run, run_trace,
-    write_trace, write_trace_into, Answer, Event, Master, Outcome, Pins, Refusal, Report,
-    MOST_EVENTS, MOST_SAMPLES, MOST_TRACE,
+    address_of, import_capture, import_capture_into, listing, listing_into, pins_of, run,
+    run_trace, write_trace, write_trace_into, Answer, Event, Master, Outcome, Pins, Refusal,
+    Report, MOST_EVENTS, MOST_SAMPLES, MOST_TRACE,
 };
 
 /// M1: master 0 asks for the bus, is granted it at its STOP, and reads CONTR.
