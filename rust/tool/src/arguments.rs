@@ -1,5 +1,6 @@
 //! The command line, read word by word.
 
+use std::collections::BTreeMap;
 use std::ffi::OsString;
 use std::path::PathBuf;
 
@@ -20,6 +21,8 @@ pub struct Arguments {
     /// The files, where `-` is standard input.
     pub files: Vec<PathBuf>,
     pub output: Option<PathBuf>,
+    /// The command's own options that are there, each with the words after it.
+    pub options: BTreeMap<&'static str, Vec<String>>,
 }
 
 pub fn read_arguments(words: Vec<OsString>) -> Result<Asked, Failure> {
@@ -36,14 +39,17 @@ pub fn read_arguments(words: Vec<OsString>) -> Result<Asked, Failure> {
     let Some(command) = named else {
         return Err(wrong(&format!("there is no command '{}'", first.to_string_lossy())));
     };
-    let Some(arguments) = read_rest(words)? else {
+    let Some(arguments) = read_rest(command, words)? else {
         return Ok(Asked::HelpFor(command));
     };
     Ok(Asked::Run(command, arguments))
 }
 
 /// What stands after the command, or `None` if help is asked for.
-fn read_rest(mut words: impl Iterator<Item = OsString>) -> Result<Option<Arguments>, Failure> {
+fn read_rest(
+    command: &'static Command,
+    mut words: impl Iterator<Item = OsString>,
+) -> Result<Option<Arguments>, Failure> {
     let mut arguments = Arguments::default();
     let mut only_files = false;
     while let Some(word) = words.next() {
@@ -61,12 +67,32 @@ fn read_rest(mut words: impl Iterator<Item = OsString>) -> Result<Option<Argumen
                 }
             }
             option if option.starts_with('-') && option != "-" => {
-                return Err(wrong(&format!("there is no option '{option}'")));
+                let (name, values) = own_option(command, option, &mut words)?;
+                if arguments.options.insert(name, values).is_some() {
+                    return Err(wrong(&format!("{name} is there twice")));
+                }
             }
             _ => arguments.files.push(word.into()),
         }
     }
     Ok(Some(arguments))
+}
+
+/// An option that only this command has, with as many words as stand after it.
+fn own_option(
+    command: &'static Command,
+    option: &str,
+    words: &mut impl Iterator<Item = OsString>,
+) -> Result<(&'static str, Vec<String>), Failure> {
+    let Some(&(name, count)) = command.options.iter().find(|(name, _)| *name == option) else {
+        return Err(wrong(&format!("{} has no option '{option}'", command.name)));
+    };
+    let values: Vec<String> =
+        words.take(count).map(|word| word.to_string_lossy().into_owned()).collect();
+    match values.len() == count {
+        true => Ok((name, values)),
+        false => Err(wrong(&format!("{name} needs {count} after it, and has {}", values.len()))),
+    }
 }
 
 fn wrong(what: &str) -> Failure {

@@ -28,12 +28,12 @@ impl Made {
 }
 
 /// How a command goes over its inputs.
-pub struct Each {
+pub struct Each<F: Fn(&Input) -> Made> {
     /// The most bytes of an input that are of use.
     pub most: usize,
     /// The ending of an output's name in a folder.
     pub ending: &'static str,
-    pub make: fn(&Input) -> Made,
+    pub make: F,
 }
 
 /// For a command that makes something of a trace.
@@ -45,7 +45,7 @@ pub fn each_trace(
     Each { most: MOST_TRACE, ending, make }.run(arguments)
 }
 
-impl Each {
+impl<F: Fn(&Input) -> Made> Each<F> {
     pub fn run(&self, arguments: &Arguments) -> Result<(), Failure> {
         let standard = [PathBuf::from("-")];
         let files = match arguments.files.is_empty() {

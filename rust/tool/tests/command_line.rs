@@ -77,10 +77,11 @@ fn refused_is_1_with_number_words_and_place() {
 
 #[test]
 fn wrong_use_is_2() {
-    let cases: [&[&str]; 9] = [
+    let cases: [&[&str]; 10] = [
         &[],
         &["sing"],
         &["list", "--loud"],
+        &["list", "--address", "71"],
         &["list", "-o"],
         &["list", "-o", "a", "-o", "b"],
         &["list", "no-such.trace"],
@@ -93,6 +94,60 @@ fn wrong_use_is_2() {
         assert_eq!((code(&output), output.stdout.len()), (2, 0), "{arguments:?}");
         assert!(said(&output).starts_with("gunwaleish: "), "{arguments:?}");
     }
+}
+
+/// The device that a capture is read for is named once, and in one way.
+#[test]
+fn a_capture_needs_its_device() {
+    let cases: [(&[&str], &str); 9] = [
+        (&[], "import needs the device"),
+        (&["--address"], "--address needs 1 after it, and has 0"),
+        (&["--pins", "0", "0", "0"], "--pins needs 4 after it, and has 3"),
+        (&["--address", "7G"], "'7G' is no byte in hex"),
+        (&["--address", "78"], "refusal 11: "),
+        (&["--address", "E2"], "if E2h is a transfer's first byte, it is 71h"),
+        (&["--pins", "1", "0", "0", "0"], "refusal 8: "),
+        (&["--address", "71", "--pins", "0", "0", "0", "1"], "are both there"),
+        (&["--address", "71", "--address", "71"], "--address is there twice"),
+    ];
+    for (options, expected) in cases {
+        let output = run(&[&["import", "traces/box14.capture"], options].concat());
+        assert_eq!((code(&output), output.stdout.len()), (2, 0), "{options:?}");
+        assert!(said(&output).contains(expected), "{options:?}: {}", said(&output));
+    }
+    let trace = fs::read(root().join("traces/box14.trace")).unwrap();
+    let named: [&[&str]; 4] = [
+        &["--address", "71"],
+        &["--address", "71h"],
+        &["--address", "0x71"],
+        &["--pins", "0", "0", "0", "1"],
+    ];
+    for options in named {
+        let output = run(&[&["import"], options, &["traces/box14.capture"]].concat());
+        assert_eq!((code(&output), output.stdout.as_slice()), (0, trace.as_slice()));
+    }
+}
+
+/// A capture that ends inside a byte is told with its bus; into a folder go traces, or scripts.
+#[test]
+fn captures_go_where_they_should() {
+    let folder = Folder::new("captures");
+    let to = folder.0.to_str().unwrap();
+    let capture = fs::read(root().join("traces/box14.capture")).unwrap();
+    let (whole, cut) = (folder.path("whole.capture"), folder.path("cut.capture"));
+    fs::write(&whole, &capture).unwrap();
+    fs::write(&cut, &capture[..150]).unwrap();
+    let both = run(&["import", &whole, &cut, "--address", "71", "-o", to]);
+    assert_eq!(code(&both), 1);
+    let expected = format!(
+        "gunwaleish: {cut}: refusal 12: a START or STOP inside a byte, or the capture ends inside one \
+         (bus 0: the capture ends inside a byte)\n"
+    );
+    assert_eq!(said(&both), expected);
+    assert_eq!(code(&run(&["import", &whole, "--script", "--address", "71", "-o", to])), 0);
+    assert_eq!(folder.files(), ["cut.capture", "whole.capture", "whole.script", "whole.trace"]);
+    let script = fs::read(root().join("traces/box14.script")).unwrap();
+    assert_eq!(fs::read(folder.path("whole.script")).unwrap(), script);
 }
 
 /// The help of each command, and its example, which works.

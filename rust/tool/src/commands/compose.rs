@@ -30,6 +30,7 @@ pub const COMMAND: Command = Command {
            general 0 06\n\
            raw FF 00 00 00    # any four bytes, as they are\n\n\
            If a line cannot be read, nothing is written.",
+    options: &[],
     example: "target/rust/release/gunwaleish compose traces/m1.script | cmp - traces/m1.trace",
     run: |arguments| Each { most: MOST_SCRIPT, ending: "trace", make: compose }.run(arguments),
 };

@@ -11,6 +11,7 @@ pub const COMMAND: Command = Command {
     usage: TRACES,
     help:
         "Composing the script gives the same bytes again. gunwaleish compose --help has the words.",
+    options: &[],
     example: "target/rust/release/gunwaleish decompose traces/box14-rt50.trace",
     run: |arguments| each_trace(arguments, "script", decompose),
 };

@@ -18,6 +18,7 @@ pub const COMMAND: Command = Command {
            levels of SCL and SDA, all after the event; then the names of the byte's bits, and what\n\
            changed. What a controller does begins with its number. Ticks in which nothing changes\n\
            share a line.",
+    options: &[],
     example: "target/rust/release/gunwaleish explain traces/box14-rt00.trace",
     run: |arguments| each_trace(arguments, "txt", explain),
 };

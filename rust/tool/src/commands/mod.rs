@@ -3,6 +3,7 @@
 pub mod compose;
 pub mod decompose;
 pub mod explain;
+pub mod import;
 pub mod list;
 pub mod picture;
 pub mod wave;
@@ -16,6 +17,8 @@ pub struct Command {
     pub summary: &'static str,
     pub usage: &'static str,
     pub help: &'static str,
+    /// The options besides -o and --help, each with the count of words after it.
+    pub options: &'static [(&'static str, usize)],
     /// A command line that works at the repository's root.
     pub example: &'static str,
     pub run: fn(&Arguments) -> Result<(), Failure>,
@@ -29,6 +32,7 @@ pub const COMMANDS: &[Command] = &[
     explain::COMMAND,
     compose::COMMAND,
     decompose::COMMAND,
+    import::COMMAND,
     wave::COMMAND,
     picture::COMMAND,
 ];

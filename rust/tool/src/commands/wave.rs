@@ -16,6 +16,7 @@ pub const COMMAND: Command = Command {
     usage: TRACES,
     help: "A TICK stands at each full millisecond. The events between two ticks are spread evenly, so\n\
            that each can be seen. owner and switch are 0 none, 1 controller 0, 2 controller 1.",
+    options: &[],
     example: "target/rust/release/gunwaleish wave traces/box14-rt50.trace -o target/box14-rt50.vcd",
     run: |arguments| each_trace(arguments, "vcd", wave),
 };
