@@ -1,12 +1,15 @@
-/* Lists a trace, says in words who owns the bus at its end, writes the trace again, and shows straps both ways.
- * Usage: example TRACE-FILE */
+/* Lists a trace, says in words who owns the bus at its end, writes the trace again, and shows straps both ways. With a capture it says what
+ * that has for the device at 71h.
+ * Usage: example TRACE-FILE [CAPTURE-FILE] */
 #include <stdio.h>
 #include <string.h>
 
 #include "gunwaleish.h"
 
-/* One byte more than the longest trace, so that a file with bytes after the end is refused with 7 and not cut to fit. */
+/* One byte more than the longest trace or capture, so that a longer file is refused, with 7 or 13, and not cut to fit. */
 static uint8_t trace[GUNWALEISH_MOST_TRACE + 1];
+static uint8_t samples[GUNWALEISH_MOST_SAMPLES + 1];
+static uint8_t events[GUNWALEISH_MOST_CAPTURED_BYTES];
 static uint8_t answers[GUNWALEISH_MOST_ANSWERS];
 static uint8_t written[GUNWALEISH_MOST_TRACE];
 static uint8_t text[GUNWALEISH_MOST_TEXT];
@@ -62,15 +65,39 @@ static void show_pins(uint8_t address) {
     }
 }
 
-int main(int argc, char **argv) {
-    FILE *file = argc == 2 ? fopen(argv[1], "rb") : NULL;
+static void show_capture(size_t length, uint8_t address) {
+    uint64_t result = gunwaleish_import_capture(samples, length, address, events, sizeof events);
+    printf("capture of %zu samples for %02Xh: ", length, address);
+    if (gunwaleish_number(result) != GUNWALEISH_DONE) {
+        printf("refused, number %u\n", gunwaleish_number(result));
+    } else {
+        printf("%zu events\n", gunwaleish_captured(result));
+    }
+}
+
+/* Reads a file into a buffer. Gives 0 if it cannot be opened. */
+static int read_file(const char *name, uint8_t *bytes, size_t room, size_t *length) {
+    FILE *file = fopen(name, "rb");
     if (file == NULL) {
-        fprintf(stderr, "usage: example TRACE-FILE, which can be read\n");
+        return 0;
+    }
+    *length = fread(bytes, 1, room, file);
+    fclose(file);
+    return 1;
+}
+
+int main(int argc, char **argv) {
+    size_t trace_length = 0;
+    size_t capture_length = 0;
+    if (argc < 2 || argc > 3 || !read_file(argv[1], trace, sizeof trace, &trace_length) ||
+        (argc == 3 && !read_file(argv[2], samples, sizeof samples, &capture_length))) {
+        fprintf(stderr, "usage: example TRACE-FILE [CAPTURE-FILE], which can be read\n");
         return 2;
     }
-    size_t length = fread(trace, 1, sizeof trace, file);
-    fclose(file);
-    show_trace(length);
+    show_trace(trace_length);
+    if (argc == 3) {
+        show_capture(capture_length, 0x71);
+    }
     show_address(1, 1, 1, 3);
     show_address(1, 0, 0, 0);
     show_pins(0x0F);

@@ -3,7 +3,7 @@
  * Link with libgunwaleish.a, which `rt staticlib gunwaleish` writes to target/staticlib/ (x86-64).
  *
  * What a caller owes, since C cannot say it: a pointer is never null, also with length 0; the bytes it points to are there for that
- * length; and the two ranges of one call do not overlap. Any bytes are taken as a trace or as events.
+ * length; and the two ranges of one call do not overlap. Any bytes are taken as a trace, as events or as samples.
  */
 #ifndef GUNWALEISH_H
 #define GUNWALEISH_H
@@ -15,7 +15,7 @@
 extern "C" {
 #endif
 
-/* The numbers of document 01. The first five are outcomes of one event, the others refuse a whole call. */
+/* The numbers of documents 01 and 02. The first five are outcomes of one event, the others refuse a whole call. */
 enum gunwaleish_numbers {
     GUNWALEISH_DONE = 0,                   /* done, accepted */
     GUNWALEISH_NOT_ACKNOWLEDGED = 1,       /* the byte was not acknowledged */
@@ -28,7 +28,9 @@ enum gunwaleish_numbers {
     GUNWALEISH_NO_SUCH_STRAPPING = 8,      /* a pin code above 3, or a strapping without an address */
     GUNWALEISH_TOO_LITTLE_ROOM = 9,        /* the buffer is too short */
     GUNWALEISH_FIRST_COUNT_NOT_FOUR = 10,  /* the first byte, the count of pins, is not 4 */
-    GUNWALEISH_ADDRESS_OUTSIDE = 11        /* the address is not one of 08h to 77h */
+    GUNWALEISH_ADDRESS_OUTSIDE = 11,       /* the address is not one of 08h to 77h */
+    GUNWALEISH_BYTE_CUT = 12,              /* a START or STOP inside a byte of a capture, or its end */
+    GUNWALEISH_TOO_MANY_SAMPLES = 13       /* more than 32,768 samples */
 };
 
 /* The most events of a trace, the answer bytes of such a trace, its own bytes, and the longest listing. */
@@ -36,6 +38,11 @@ enum gunwaleish_numbers {
 #define GUNWALEISH_MOST_ANSWERS (4 * GUNWALEISH_MOST_EVENTS)
 #define GUNWALEISH_MOST_TRACE (7 + 4 * GUNWALEISH_MOST_EVENTS)
 #define GUNWALEISH_MOST_TEXT (8 + 9 * GUNWALEISH_MOST_EVENTS)
+
+/* The most samples of a capture, the most events that it gives, and their bytes. */
+#define GUNWALEISH_MOST_SAMPLES 32768
+#define GUNWALEISH_MOST_CAPTURED 3640
+#define GUNWALEISH_MOST_CAPTURED_BYTES (4 * GUNWALEISH_MOST_CAPTURED)
 
 /* The four bytes of an answer, by their places. */
 #define GUNWALEISH_ANSWER_OUTCOME 0
@@ -69,6 +76,12 @@ uint64_t gunwaleish_run_trace(const uint8_t *trace, size_t trace_len, uint8_t *a
 uint64_t gunwaleish_write_trace(uint8_t ad3, uint8_t ad2, uint8_t ad1, uint8_t ad0, const uint8_t *events, size_t events_len,
                                 uint8_t *trace, size_t trace_len);
 
+/* Writes the events that a logic analyser's capture has for the device of this address, four bytes each. A sample is one byte: bits 0 to 3
+ * are SCL0, SDA0, SCL1 and SDA1, and the others are ignored. The result is packed: number + 256 * the count of events. Refusals, in this
+ * order: 13 above 32,768 samples, 11 for the address, 12 a START or STOP inside a byte or the capture ending inside one, 9 if the buffer is
+ * shorter than the events. A refusal writes nothing, and the count is 0. Bytes past the events stay. */
+uint64_t gunwaleish_import_capture(const uint8_t *samples, size_t samples_len, uint8_t address, uint8_t *events, size_t events_len);
+
 /* The address of a strapping; pin codes are 0 VSS, 1 VDD, 2 pull-down, 3 pull-up. Packed: number + 256 * address; number 0 or 8. */
 uint32_t gunwaleish_address_of(uint8_t ad3, uint8_t ad2, uint8_t ad1, uint8_t ad0);
 
@@ -95,6 +108,11 @@ static inline size_t gunwaleish_events(uint64_t packed) {
 
 /* Out of what gunwaleish_write_trace gave. */
 static inline size_t gunwaleish_length(uint64_t packed) {
+    return (size_t)(packed >> 8);
+}
+
+/* Out of what gunwaleish_import_capture gave. */
+static inline size_t gunwaleish_captured(uint64_t packed) {
     return (size_t)(packed >> 8);
 }
 
