@@ -1,11 +1,11 @@
 //! The plain stepper is held to the independent model, so that its time is that of right answers.
 
-use speed::mixes::mixes;
-use speed::reading;
 use model::damage::{damage, ALL_DAMAGES};
 use model::rng::Rng;
 use model::straps::address_of;
 use model::traces::{seed_of, trace, trace_of};
+use speed::mixes::mixes;
+use speed::reading;
 
 fn assert_same(bytes: &[u8], room: usize) {
     let (mut expected, mut answers) = (vec![0xEE; room], vec![0xEE; room]);
