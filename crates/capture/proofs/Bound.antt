@@ -2,16 +2,16 @@
 -- The weight of a bus: two for each rising clock of the byte in hand, one while SCL is low, and eighteen where a STOP is owed or the address
 -- byte is past. An event takes eighteen from it, and one sample adds at most one to it.
 -- Assumes nothing.
-use Prim.Native.Nat.{_≤_, _<_, suc}
-use mathlib.Core.Path.{_≡_, refl, sym, ap, _∙_}
+use Prim.Native.Nat.{_≤_}
+use mathlib.Core.Path.{_≡_, refl, sym, ap}
 use mathlib.Core.Bool.{true≢false}
 use native.Mathlib.Omega.{arith}
 use lib.ListN.{length-append, length-map}
-use borrow.Author.Tests.{ltb-true, ltb-false}
+use borrow.Author.Tests.{ltb-false}
 use Rattle.arbiter.specs.Traces.{mostEvents}
-use Rattle.arbiter.proofs.Choice.{either, split, if-true, if-false}
-use Rattle.capture.specs.Names.{ℕ, _+_, _*_, Bool, true, false, not, _&&_, _||_, List, [], _∷_, _++_, map, ltb, length, if_then_else_, Master, Zero, One, Event, Stop, Levels, Sign, Steady, Starts, Stops, Clocks, Awaited, NoByte, AddressByte, CommandByte, WriteByte, ReadByte, CallByte, SkippedByte, Listener, Given, Nothing, Written, Gives}
-use Rattle.capture.specs.OneBus.{levels, isStart, isStop, rises, sign, signsAfter, signs, addressed, awaitedAfter, byteGives, owes, isOutside, silent, started, stopped, shifted, ended, atClock, heard, gives, signsOn, heardFrom, givenFrom, given}
+use Rattle.arbiter.proofs.Choice.{either, split}
+use Rattle.capture.specs.Names.{ℕ, _+_, _*_, Bool, true, false, not, _&&_, _||_, List, [], _∷_, map, ltb, length, if_then_else_, Master, Zero, One, Stop, Levels, Sign, Steady, Starts, Stops, Clocks, Awaited, NoByte, AddressByte, CommandByte, WriteByte, ReadByte, CallByte, SkippedByte, Listener, Given, Nothing, Written, Gives}
+use Rattle.capture.specs.OneBus.{levels, isStart, isStop, rises, sign, signsAfter, signs, addressed, awaitedAfter, byteGives, owes, isOutside, silent, started, stopped, shifted, ended, atClock, heard, gives, givenFrom, given}
 use Rattle.capture.specs.Events.{fromOne, besideWrite, together, merged, captured}
 use Rattle.capture.specs.Import.{mostSamples}
 

@@ -1,11 +1,11 @@
 -- An event's four bytes read as that event, and the bytes of several read as those events.
 -- Assumes nothing.
-use Prim.Native.Nat.{ℕ, zero, suc, _+_, _*_}
-use mathlib.Core.Path.{_≡_, refl, sym, ap, _∙_}
+use Prim.Native.Nat.{ℕ, _+_, _*_}
+use mathlib.Core.Path.{_≡_, refl, ap}
 use mathlib.Core.Bool.{true, false}
-use mathlib.Core.List.{List, [], _∷_, _++_, map, append-assoc}
+use mathlib.Core.List.{List, [], _∷_, _++_, map}
 use native.Mathlib.Omega.{arith}
-use lib.ListN.{length, length-append}
+use lib.ListN.{length}
 use Rattle.arbiter.specs.Events.{decode}
 use Rattle.arbiter.specs.Traces.{rawsIn}
 use Rattle.arbiter.specs.declared.Decoded.the-variants.{Reads}

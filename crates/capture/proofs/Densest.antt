@@ -1,16 +1,15 @@
 -- A capture with as many events as any can have, 3,640: both masters read without a pause, and stop while the last ninth clock is still high.
 -- Assumes nothing.
-use Prim.Native.Nat.{ℕ, zero, suc, _+_, _*_, _≤_}
+use Prim.Native.Nat.{ℕ, zero, suc, _+_, _*_}
 use mathlib.Core.Path.{_≡_, refl, sym, ap, _∙_}
 use mathlib.Core.Bool.{true, false, _||_}
-use mathlib.Core.List.{List, [], _∷_, _++_}
+use mathlib.Core.List.{List, [], _∷_}
 use native.Mathlib.Omega.{arith}
-use lib.ListN.{length, length-append}
-use Rattle.arbiter.specs.Straps.{inRange}
-use Rattle.capture.specs.Names.{Zero, One, Event, Read, Stop, ReadByte, Listener, Both}
+use lib.ListN.{length}
+use Rattle.capture.specs.Names.{Zero, One, Read, Stop, ReadByte, Listener, Both}
 use Rattle.capture.specs.OneBus.{sign, addressed, awaitedAfter, byteGives, owes, isOutside, started, stopped, shifted, ended, atClock, heard, gives, isCut}
 use Rattle.capture.specs.Events.{together, captured}
-use Rattle.capture.specs.Import.{isCapturedCut, importNumber}
+use Rattle.capture.specs.Import.{cutOnEither, importNumber}
 use Rattle.capture.specs.Samples.{sampled, bothFrom, eventsFrom, bothAfter, eventsAfter}
 use Rattle.capture.proofs.Joined.{events-joined, cut-joined}
 
@@ -83,7 +82,7 @@ pub densest-long : length densest ≡ 32763
 unfolding densest
 densest-long = omega (arith, bytes-long 1818 (0x0F ∷ []))
 
-densest-whole : isCapturedCut 0x70 densest ≡ false
+densest-whole : cutOnEither 0x70 densest ≡ false
 unfolding densest
 densest-whole =
     let rest = bytes 1818 (0x0F ∷ []) in

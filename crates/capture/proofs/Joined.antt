@@ -1,11 +1,11 @@
 -- Both buses at once give what each gives by itself.
 -- Assumes nothing.
-use mathlib.Core.Path.{_≡_, refl, sym, ap, _∙_}
+use mathlib.Core.Path.{_≡_, refl, ap}
 use mathlib.Core.Bool.{_||_}
-use Rattle.capture.specs.Names.{ℕ, List, [], _∷_, _++_, map, Zero, One, Event, Levels, Both}
-use Rattle.capture.specs.OneBus.{levels, sign, signsAfter, signs, heardFrom, givenFrom, given, silent, isCut, cutOn}
+use Rattle.capture.specs.Names.{ℕ, List, [], _∷_, _++_, map, Zero, One, Event, Both}
+use Rattle.capture.specs.OneBus.{levels, signsAfter, signs, heardFrom, givenFrom, given, isCut, cutOn}
 use Rattle.capture.specs.Events.{merged, captured}
-use Rattle.capture.specs.Import.{isCapturedCut}
+use Rattle.capture.specs.Import.{cutOnEither}
 use Rattle.capture.specs.Samples.{sampled, eventsIn, bothSilent, bothFrom, eventsFrom, bothAfter, eventsAfter}
 
 bus-0 : (address before : ℕ) (s : Both) (rest : List ℕ)
@@ -36,7 +36,7 @@ unfolding eventsAfter captured given signs givenFrom merged
 events-joined address [] = refl
 events-joined address (first ∷ rest) = events-from address first bothSilent rest
 
-pub cut-joined : (address : ℕ) (samples : List ℕ) → (isCut (bothAfter address samples .bus0) || isCut (bothAfter address samples .bus1)) ≡ isCapturedCut address samples
+pub cut-joined : (address : ℕ) (samples : List ℕ) → (isCut (bothAfter address samples .bus0) || isCut (bothAfter address samples .bus1)) ≡ cutOnEither address samples
 unfolding bothAfter cutOn signs heardFrom
 cut-joined address [] = refl
 cut-joined address (first ∷ rest) = rw (bus-0 address first bothSilent rest, bus-1 address first bothSilent rest) refl

@@ -1,17 +1,17 @@
 -- What an auditor may want of any capture: bits 4 to 7 play no part, each bus is heard by itself, and a sample that only repeats the one
 -- before it changes nothing.
 -- Assumes nothing.
-use Prim.Native.Nat.{ℕ, _+_, _*_, _/_, _%_, _<_}
-use mathlib.Core.Path.{_≡_, refl, sym, ap, ap₂, _∙_}
+use Prim.Native.Nat.{ℕ, _+_, _/_, _%_}
+use mathlib.Core.Path.{_≡_, refl, sym, ap, _∙_}
 use mathlib.Core.Bool.{Bool, true, false, _||_}
 use mathlib.Core.List.{List, [], _∷_, _++_, map}
 use native.Mathlib.Omega.{arith}
 use lib.Dec.{eqb}
-use Rattle.capture.specs.Names.{Master, Zero, One, Event, Levels, Sign, Steady, Listener, Given, Nothing, Both, Heard}
-use Rattle.capture.specs.OneBus.{levels, sign, signs, signsOn, heardFrom, givenFrom, given, heard, gives, silent, isCut, cutOn}
+use Rattle.capture.specs.Names.{Master, Zero, One, Event, Levels, Steady, Nothing, Both, Heard}
+use Rattle.capture.specs.OneBus.{levels, sign, signs, heardFrom, givenFrom, given, heard, gives, silent, isCut, cutOn}
 use Rattle.capture.specs.Events.{together, merged, captured}
-use Rattle.capture.specs.Import.{isCapturedCut}
-use Rattle.capture.specs.Samples.{signOf, sampled, eventsIn, bothSilent, bothFrom, eventsFrom, bothAfter, eventsAfter}
+use Rattle.capture.specs.Import.{cutOnEither}
+use Rattle.capture.specs.Samples.{sampled, eventsIn, bothSilent, bothFrom, eventsFrom, bothAfter, eventsAfter}
 use Rattle.capture.proofs.Joined.{events-joined, cut-joined}
 
 -- ---- each bus by itself: what it gives, and whether it refuses, comes of its own two lines alone
@@ -26,7 +26,7 @@ own-lines m address p q h = (
 
 -- captures that agree on both buses give the same, and are refused alike
 pub both-lines : (address : ℕ) (p q : List ℕ) → ((m : Master) → map (levels m) p ≡ map (levels m) q)
-    → (captured address p ≡ captured address q) × (isCapturedCut address p ≡ isCapturedCut address q)
+    → (captured address p ≡ captured address q) × (cutOnEither address p ≡ cutOnEither address q)
 unfolding captured
 both-lines address p q h =
     let z = own-lines Zero address p q (h Zero) in
@@ -51,7 +51,7 @@ same-lines m [] = refl
 same-lines m (x ∷ rest) = λ j. same-levels m x j ∷ same-lines m rest j
 
 pub upper-bits-ignored : (address : ℕ) (samples : List ℕ)
-    → (captured address (map (λ (x : ℕ). x % 16) samples) ≡ captured address samples) × (isCapturedCut address (map (λ (x : ℕ). x % 16) samples) ≡ isCapturedCut address samples)
+    → (captured address (map (λ (x : ℕ). x % 16) samples) ≡ captured address samples) × (cutOnEither address (map (λ (x : ℕ). x % 16) samples) ≡ cutOnEither address samples)
 upper-bits-ignored address samples = both-lines address (map (λ (x : ℕ). x % 16) samples) samples λ m. same-lines m samples
 
 -- ---- the sample before again
@@ -92,7 +92,7 @@ after-again address x [] q =
 after-again address x (first ∷ p) q = from-again address first x bothSilent p q
 
 pub repeated-sample : (address x : ℕ) (p q : List ℕ)
-    → (captured address (p ++ x ∷ x ∷ q) ≡ captured address (p ++ x ∷ q)) × (isCapturedCut address (p ++ x ∷ x ∷ q) ≡ isCapturedCut address (p ++ x ∷ q))
+    → (captured address (p ++ x ∷ x ∷ q) ≡ captured address (p ++ x ∷ q)) × (cutOnEither address (p ++ x ∷ x ∷ q) ≡ cutOnEither address (p ++ x ∷ q))
 repeated-sample address x p q =
     let same = after-again address x p q in (
       sym (events-joined address (p ++ x ∷ x ∷ q)) ∙ same .0 ∙ events-joined address (p ++ x ∷ q),

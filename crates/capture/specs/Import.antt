@@ -9,8 +9,8 @@ use Rattle.capture.specs.Events.{captured, eventBytes}
 abbrev pub mostSamples : ℕ
 mostSamples = 32768
 
-abbrev pub isCapturedCut : ℕ → List ℕ → Bool
-isCapturedCut address samples = cutOn Zero address samples || cutOn One address samples
+abbrev pub cutOnEither : ℕ → List ℕ → Bool
+cutOnEither address samples = cutOn Zero address samples || cutOn One address samples
 
 -- "Refusals .. in order: 13 above 32,768 samples; 11 for the address; 12 a START or STOP inside a byte, or the capture ending inside one; 9."
 -- Room is four bytes an event.
@@ -18,7 +18,7 @@ unfoldable pub importNumber : ℕ → List ℕ → ℕ → ℕ
 importNumber address samples room =
     if ltb mostSamples (length samples) then 13
     else if not (inRange address) then 11
-    else if isCapturedCut address samples then 12
+    else if cutOnEither address samples then 12
     else if ltb room (4 * length (captured address samples)) then 9
     else 0
 

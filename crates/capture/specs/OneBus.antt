@@ -94,7 +94,7 @@ isOutside SkippedByte = false
 abbrev pub inside : Listener → Bool
 inside l = ltb 1 (l .clocks)
 
--- before the first sample's successor: no transfer, nothing owed
+-- at the first sample: no transfer, and nothing owed
 abbrev pub silent : Listener
 silent = record { awaited = NoByte; clocks = 0; value = 0; owed = false; broken = false }
 

@@ -5,7 +5,7 @@ use mathlib.Core.Path.{_≡_, refl, sym, ap, _∙_}
 use mathlib.Core.Bool.{Bool, true, false, not, _&&_, _||_, false≢true}
 use lib.Dec.{eqb, ltb}
 use borrow.Author.Tests.{eqb-true, ltb-true}
-use Rattle.arbiter.specs.Words.{if_then_else_, bit}
+use Rattle.arbiter.specs.Words.{bit}
 use Rattle.arbiter.specs.declared.Master.{Master}
 use Rattle.arbiter.specs.declared.Master.the-variants.{Zero, One}
 use Rattle.arbiter.proofs.Choice.{split, not-true}
@@ -14,7 +14,7 @@ use Rattle.capture.specs.declared.Listener.{Listener}
 use Rattle.capture.specs.declared.Sign.the-variants.{Steady}
 use Rattle.capture.specs.declared.Given.the-variants.{Nothing}
 use Rattle.capture.specs.declared.Both.{Both}
-use Rattle.capture.specs.OneBus.{levels, isStart, isStop, rises, sign, isOutside, shifted, atClock, heard, gives}
+use Rattle.capture.specs.OneBus.{levels, isStart, isStop, rises, sign, isOutside, atClock, heard, gives}
 use Rattle.capture.specs.Samples.{sampled}
 use Rattle.capture.proofs.Laws.{same-steady}
 use Rattle.hearing.specs.Light.{isStill, isLight, areLight, lightly, bothLightly, unheard}

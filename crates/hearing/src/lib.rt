@@ -143,7 +143,7 @@ fn is_outside(awaited: Awaited) -> bool
     }
 }
 
-// ---- one bus after a sign. The listener is written out in each arm: a function for each arm made the loop over a capture half as fast.
+// ---- one bus after a sign. The listener is written out in each arm: a function for each arm nearly doubled the instructions a sample.
 
 fn on_clock(address: u8, b: bool, l: Listener) -> Listener
     ensures { λ r. ⌜ r ≡ atClock address b l ⌝ }

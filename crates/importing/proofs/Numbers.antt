@@ -2,20 +2,19 @@
 -- Assumes nothing.
 use Prim.Native.Nat.{ℕ, _*_, _/_, _≤_, _<_}
 use mathlib.Core.Path.{_≡_, refl, sym, ap, _∙_}
-use mathlib.Core.Bool.{Bool, true, false, not, _||_}
+use mathlib.Core.Bool.{Bool, true, false, _||_}
 use mathlib.Core.List.{List, _++_}
 use native.Mathlib.Omega.{arith}
-use lib.Dec.{eqb, ltb}
+use lib.Dec.{eqb}
 use lib.ListN.{length, drop}
 use borrow.Author.Tests.{lt-ltb, le-ltb}
-use Rattle.arbiter.specs.Words.{if_then_else_}
 use Rattle.arbiter.specs.Straps.{inRange}
 use Rattle.arbiter.proofs.Choice.{if-false}
 use Rattle.capture.specs.declared.Both.{Both}
 use Rattle.capture.specs.declared.Imported.{Imported}
 use Rattle.capture.specs.OneBus.{isCut}
 use Rattle.capture.specs.Events.{captured, eventBytes}
-use Rattle.capture.specs.Import.{isCapturedCut, importNumber, importedBy, bufferBy, imported, importedBuffer}
+use Rattle.capture.specs.Import.{cutOnEither, importNumber, importedBy, bufferBy, imported, importedBuffer}
 use Rattle.capture.specs.Samples.{bothAfter}
 use Rattle.capture.proofs.Bytes.{bytes-length}
 use Rattle.capture.proofs.Joined.{cut-joined}
@@ -28,7 +27,7 @@ unfolding stored
 untouched l left p i h = h
 
 pub cut-found : (address : ℕ) (samples : List ℕ) (s : Both) (b : Bool) → s ≡ bothAfter address samples → b ≡ (isCut (s .bus0) || isCut (s .bus1))
-    → isCapturedCut address samples ≡ b
+    → cutOnEither address samples ≡ b
 cut-found address samples s b h k = sym (cut-joined address samples) ∙ ap (λ (x : Both). isCut (x .bus0) || isCut (x .bus1)) (sym h) ∙ sym k
 
 module _ (address : ℕ) (samples buffer : List ℕ) where
@@ -58,17 +57,17 @@ module _ (address : ℕ) (samples buffer : List ℕ) where
     refused-11 r a h = refusal 11 r refl (simp (le-ltb _ _ short, a)) buffer refl h
 
     module _ (a : inRange address ≡ true) where
-      pub refused-12 : (r : Imported) (left : List ℕ) → isCapturedCut address samples ≡ true → left ≡ buffer → (r .number ≡ 12) × (r .count ≡ 0) → Promised r left
+      pub refused-12 : (r : Imported) (left : List ℕ) → cutOnEither address samples ≡ true → left ≡ buffer → (r .number ≡ 12) × (r .count ≡ 0) → Promised r left
       unfolding importNumber
       refused-12 r left x same h = refusal 12 r refl (simp (le-ltb _ _ short, a, x)) left same h
 
-      pub refused-9 : (r : Imported) (left : List ℕ) → isCapturedCut address samples ≡ false → length buffer < 4 * length (captured address samples)
+      pub refused-9 : (r : Imported) (left : List ℕ) → cutOnEither address samples ≡ false → length buffer < 4 * length (captured address samples)
           → left ≡ buffer → (r .number ≡ 9) × (r .count ≡ 0) → Promised r left
       unfolding importNumber
       refused-9 r left x room same h = refusal 9 r refl (simp (le-ltb _ _ short, a, x, lt-ltb _ _ room)) left same h
 
       -- accepted: n bytes are those of n / 4 events, and they stand at the front
-      pub accepted : (n : ℕ) (left : List ℕ) → isCapturedCut address samples ≡ false → 4 * length (captured address samples) ≤ length buffer
+      pub accepted : (n : ℕ) (left : List ℕ) → cutOnEither address samples ≡ false → 4 * length (captured address samples) ≤ length buffer
           → n ≡ 4 * length (captured address samples) → left ≡ stored true buffer 0 (eventBytes (captured address samples))
           → Promised (record { number = 0; count = n / 4 }) left
       unfolding importNumber imported importedBuffer
