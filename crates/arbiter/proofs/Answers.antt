@@ -2,6 +2,7 @@
 -- Assumes nothing.
 use Rattle.arbiter.specs.Answers.{Answers}
 use Rattle.arbiter.proofs.Runs.{runs-on}
+use Rattle.arbiter.proofs.KindKept.{keeps-kind, runs-of-kind}
 use Rattle.arbiter.proofs.Connected.{one-connected, apart-unowned}
 use Rattle.arbiter.proofs.Seen.{answers-show, answers-show-one, registers-show, registers-show-one}
 use Rattle.arbiter.proofs.Resets.{reset-ends}
@@ -15,6 +16,7 @@ use Rattle.arbiter.proofs.Ended.{ends-disconnected}
 use Rattle.arbiter.proofs.Settled.{refused-unchanged, all-settled}
 use Rattle.arbiter.proofs.Hung.{hung-exact, clock-not-hung}
 use Rattle.arbiter.proofs.HungRows.{hung-rows-hold, slow-clock-never-hung}
+use Rattle.arbiter.proofs.OldTraces.{converted-accepted, old-refused}
 use Rattle.arbiter.proofs.Witnesses.{witnesses-meet}
 use Rattle.arbiter.proofs.Marks.{marks-hold, readings-hold}
 
@@ -22,6 +24,8 @@ pub answers : Answers
 answers =
     record {
       runsOn = runs-on;
+      keepsKind = keeps-kind;
+      runsOfKind = runs-of-kind;
       oneConnected = one-connected;
       apartUnowned = apart-unowned;
       answersShow = answers-show;
@@ -46,6 +50,8 @@ answers =
       clockNotHung = clock-not-hung;
       hungRowsHold = hung-rows-hold;
       slowClockNeverHung = slow-clock-never-hung;
+      convertedAccepted = converted-accepted;
+      oldRefused = old-refused;
       witnessesMeet = witnesses-meet;
       marksHold = marks-hold;
       readingsHold = readings-hold;

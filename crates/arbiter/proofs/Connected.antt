@@ -3,7 +3,7 @@
 use mathlib.Core.Path.{_≡_, refl, sym, ap, _∙_}
 use mathlib.Core.Bool.{Bool, true, false, _&&_, false≢true, and-eq-true-iff}
 use mathlib.Core.List.{List}
-use Rattle.arbiter.specs.Types.{ℕ, _+_, ltb, Master, Zero, One, Turn, Nobody, Claims, Owns, Switch, Apart, Initialising, Closed, Clock, NoClock, ClockLow, ClockHigh, Device, Raw, Event}
+use Rattle.arbiter.specs.Types.{ℕ, _+_, ltb, Master, Zero, One, Turn, Nobody, Claims, Owns, Switch, Apart, Initialising, Closed, Clock, NoClock, ClockLow, ClockHigh, Kind, Device, Raw, Event}
 use Rattle.arbiter.specs.Words.{sameMaster, partner, side}
 use Rattle.arbiter.specs.State.{ownsTurn, owns, closedFor}
 use Rattle.arbiter.specs.Effects.{effect, powerUp}
@@ -140,9 +140,9 @@ parts-served e d h = connect-served (clockOf e) (grant (claim (cut (isTick e) (l
 pub step-served : (d : Device) (r : Raw) → Served d → Served (step d r .device)
 step-served = step-keeps Served parts-served
 
-pub all-served : (rs : List Raw) → Served (run rs)
+pub all-served : (k : Kind) (rs : List Raw) → Served (run k rs)
 unfolding run powerUp
-all-served rs = run-keeps Served parts-served powerUp rs (λ m. refl)
+all-served k rs = run-keeps Served parts-served (powerUp k) rs (λ m. refl)
 
 -- ---- the auditor's first question
 
@@ -163,9 +163,9 @@ closed-once m (Initialising k n) h = refl
 closed-once m (Closed k) h = apart-from m k h
 
 pub one-connected : OneConnected
-one-connected rs m h =
-    let d : Device = run rs in
-    (serves-owner d (all-served rs) m (closed-served m (d .arb .switch) h), closed-once m (d .arb .switch) h)
+one-connected k rs m h =
+    let d : Device = run k rs in
+    (serves-owner d (all-served k rs) m (closed-served m (d .arb .switch) h), closed-once m (d .arb .switch) h)
 
 -- a switch that serves nobody is open
 pub unserved : (w : Switch) → ((m : Master) → serves m w ≡ false) → w ≡ Apart
@@ -174,6 +174,6 @@ unserved (Initialising k n) h = absurd (false≢true (sym (h k) ∙ same-self k)
 unserved (Closed k) h = absurd (false≢true (sym (h k) ∙ same-self k))
 
 pub apart-unowned : ApartUnowned
-apart-unowned rs none =
-    let d : Device = run rs in
-    unserved (d .arb .switch) λ m. all-served rs m ∙ ap (λ (o : Bool). o && asksOn m d) (none m)
+apart-unowned k rs none =
+    let d : Device = run k rs in
+    unserved (d .arb .switch) λ m. all-served k rs m ∙ ap (λ (o : Bool). o && asksOn m d) (none m)

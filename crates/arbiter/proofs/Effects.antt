@@ -3,6 +3,7 @@
 use mathlib.Core.Path.{_≡_, refl, sym, ap, _∙_}
 use mathlib.Core.Bool.{true≢false, false≢true, and-false}
 use Rattle.arbiter.specs.Types.{ℕ, Bool, true, false, not, _&&_, _||_, Master, Zero, One, Turn, Nobody, Claims, Owns, Port, Open, Register, Id, Contr, Status, Rt, IntStatus, IntMask, MailLow, MailHigh, Side, Bus, Device, Event, Command, Write, Read, Stop, Pair, Lines, Tick, Pulse, Reset, GeneralCall}
+use Rattle.arbiter.specs.Rules.{rolls}
 use Rattle.arbiter.specs.Words.{if_then_else_, bit, partner, side}
 use Rattle.arbiter.specs.Parts.{withPort}
 use Rattle.arbiter.specs.State.{ownsTurn, owns, atRest}
@@ -69,8 +70,8 @@ own-port g IntMask v s = refl
 own-port g MailLow v s = refl
 own-port g MailHigh v s = refl
 
-risen-kept : (s : Side) → kept (writeRisen s) ≡ kept s
-risen-kept s = either (λ (x : Side). kept x ≡ kept s) (s .auto) (λ h. refl) (λ h. refl)
+risen-kept : (rolls : Bool) (s : Side) → kept (writeRisen rolls s) ≡ kept s
+risen-kept rolls s = either (λ (x : Side). kept x ≡ kept s) (s .auto) (λ h. refl) (λ h. refl)
 
 -- ---- one side
 
@@ -114,10 +115,10 @@ byte-stands true false q h k = absurd (true≢false h)
 byte-stands false b q h k = k
 
 -- a side's own byte
-writer-moved : (granted : Bool) (v : ℕ) (s : Side) → Moved (clearsRequest v s) false granted s (writeRisen (ownWritten granted (s .pointer) v s))
-writer-moved granted v s =
+writer-moved : (rolls granted : Bool) (v : ℕ) (s : Side) → Moved (clearsRequest v s) false granted s (writeRisen rolls (ownWritten granted (s .pointer) v s))
+writer-moved rolls granted v s =
     let n : Side = ownWritten granted (s .pointer) v s in
-    moved-kept n (writeRisen n) (risen-kept n)
+    moved-kept n (writeRisen rolls n) (risen-kept rolls n)
     (record {
       falls = λ h. own-request granted (s .pointer) v s ∙ byte-falls (isContr (s .pointer)) (bit 0 v) (s .contr .lockreq) h;
       stands = λ h q. own-request granted (s .pointer) v s ∙ byte-stands (isContr (s .pointer)) (bit 0 v) (s .contr .lockreq) h q;
@@ -150,7 +151,7 @@ effect-side m (Command k c) d h =
     (commanded-moved (owns k d) c (side k d)) (unmoved false (owns (partner k) d) refl)
 effect-side m (Write k v) d h =
     of-either (λ (j : Master) (same : Bool) (x y : Side). Moved (same && clearsRequest v x) false (owns j d) x y) m k d _ _
-    (writer-moved (owns k d) v (side k d)) (unmoved false (owns (partner k) d) (mail-kept ((side k d) .pointer) v (side (partner k) d)))
+    (writer-moved (rolls d) (owns k d) v (side k d)) (unmoved false (owns (partner k) d) (mail-kept ((side k d) .pointer) v (side (partner k) d)))
 effect-side m (Read k) d h =
     of-either (λ (j : Master) (same : Bool) (x y : Side). Moved false false (owns j d) x y) m k d _ _
     (read-moved (owns k d) (side k d)) (unmoved false (owns (partner k) d) refl)
@@ -158,8 +159,8 @@ effect-side m (Stop k) d h =
     of-either (λ (j : Master) (same : Bool) (x y : Side). Moved false same (owns j d) x y) m k d _ _
     (record { falls = λ o. absurd (false≢true o); stands = λ o q. q; keeps = λ g. refl; opened = λ o p. absurd (true≢false o) })
     (unmoved false (owns (partner k) d) refl)
-effect-side Zero (Pair v0 v1) d h = moved-kept _ _ (mail-kept (d .side1 .pointer) v1 _) (writer-moved (owns Zero d) v0 (d .side0))
-effect-side One (Pair v0 v1) d h = moved-kept _ _ (mail-kept (d .side0 .pointer) v0 _) (writer-moved (owns One d) v1 (d .side1))
+effect-side Zero (Pair v0 v1) d h = moved-kept _ _ (mail-kept (d .side1 .pointer) v1 _) (writer-moved (rolls d) (owns Zero d) v0 (d .side0))
+effect-side One (Pair v0 v1) d h = moved-kept _ _ (mail-kept (d .side0 .pointer) v0 _) (writer-moved (rolls d) (owns One d) v1 (d .side1))
 effect-side Zero (Lines scl sda intin) d h = unmoved false (owns Zero d) refl
 effect-side One (Lines scl sda intin) d h = unmoved false (owns One d) refl
 effect-side m Tick d h = unmoved false (owns m d) refl

@@ -4,6 +4,7 @@ use mathlib.Core.Path.{_≡_, refl, sym, ap, _∙_}
 use mathlib.Core.Bool.{Bool, true, false, not, _&&_, true≢false, false≢true, and-eq-true-iff, and-not-self}
 use borrow.Author.Tests.{not-true}
 use Rattle.arbiter.specs.Types.{ℕ, Master, Zero, One, Turn, Nobody, Claims, Owns, Register, Id, Contr, Status, Rt, IntStatus, IntMask, MailLow, MailHigh, Control, Side, Clock, Device, Event, Command, Write, Read, Stop, Pair, Lines, Tick, Pulse, Reset, GeneralCall, Stepped}
+use Rattle.arbiter.specs.Rules.{idleLimit, rolls}
 use Rattle.arbiter.specs.Words.{partner, sameMaster, side, device}
 use Rattle.arbiter.specs.Parts.{withContr, withSide}
 use Rattle.arbiter.specs.State.{ownsTurn, owns}
@@ -57,8 +58,8 @@ turn-left MailLow v t = refl
 turn-left MailHigh v t = refl
 
 -- neither the pointer's rise nor the partner's mail changes CONTR
-risen-contr : (s : Side) → (writeRisen s) .contr ≡ s .contr
-risen-contr s = either (λ (x : Side). x .contr ≡ s .contr) (s .auto) (λ h. refl) (λ h. refl)
+risen-contr : (rolls : Bool) (s : Side) → (writeRisen rolls s) .contr ≡ s .contr
+risen-contr rolls s = either (λ (x : Side). x .contr ≡ s .contr) (s .auto) (λ h. refl) (λ h. refl)
 
 mail-contr : (r : Register) (v : ℕ) (s : Side) → (mailWritten r v s) .contr ≡ s .contr
 unfolding mailWritten
@@ -79,7 +80,7 @@ any-master P One mine other Zero = other
 any-master P One mine other One = mine
 
 -- the device of m's side s has it as m's
-asks-mine : (m : Master) (s p : Side) (d : Device) → asksOn m (device m s p (d .bus) (d .arb)) ≡ s .contr .busconnect
+asks-mine : (m : Master) (s p : Side) (d : Device) → asksOn m (device m s p (d .bus) (d .arb) d) ≡ s .contr .busconnect
 asks-mine Zero s p d = refl
 asks-mine One s p d = refl
 
@@ -93,7 +94,7 @@ write-off m v d o = any-master (λ (k : Master). Off m (written k v d)) m mine o
 
     mine : Off m (written m v d)
     mine h =
-        asks-mine m (writeRisen s) (partnerSide m v d (side (partner m) d)) d ∙ ap (λ (c : Control). c .busconnect) (risen-contr s)
+        asks-mine m (writeRisen (rolls d) s) (partnerSide m v d (side (partner m) d)) d ∙ ap (λ (c : Control). c .busconnect) (risen-contr (rolls d) s)
         ∙ byte-off m (owns m d) ((side m d) .pointer) v (side m d) (d .arb .turn) o h
 
     other : Off m (written (partner m) v d)
@@ -112,7 +113,7 @@ pair-off Zero v0 v1 d o h =
     let after : Turn = turnWritten (owns Zero d) p0 v0 t in
     let s : Side = ownWritten (owns Zero d) p0 v0 (d .side0) in
     let left = ap (λ (g : Bool). turnWritten g p1 v1 after) (partner-not Zero t o) ∙ turn-left p1 v1 after in
-    ap (λ (c : Control). c .busconnect) (mail-contr p1 v1 (writeRisen s) ∙ risen-contr s)
+    ap (λ (c : Control). c .busconnect) (mail-contr p1 v1 (writeRisen (rolls d) s) ∙ risen-contr (rolls d) s)
     ∙ byte-off Zero (owns Zero d) p0 v0 (d .side0) t o (ap (ownsTurn Zero) (sym left) ∙ h)
 pair-off One v0 v1 d o h =
     let p0 : Register = d .side0 .pointer in
@@ -120,7 +121,7 @@ pair-off One v0 v1 d o h =
     let t : Turn = d .arb .turn in
     let s : Side = ownWritten (owns One d) p1 v1 (d .side1) in
     let left = ap (λ (g : Bool). turnWritten g p0 v0 t) (partner-not One t o) ∙ turn-left p0 v0 t in
-    ap (λ (c : Control). c .busconnect) (mail-contr p0 v0 (writeRisen s) ∙ risen-contr s)
+    ap (λ (c : Control). c .busconnect) (mail-contr p0 v0 (writeRisen (rolls d) s) ∙ risen-contr (rolls d) s)
     ∙ byte-off One (owns One d) p1 v1 (d .side1) t o (ap (λ (x : Turn). ownsTurn One (turnWritten (owns One d) p1 v1 x)) (sym left) ∙ h)
 
 -- ---- part 1: every event
@@ -169,7 +170,7 @@ unfolding lossesFrom
 losses-off m Nobody d e f = f
 losses-off m (Claims k) d e f = f
 losses-off m (Owns k) d e f =
-    either (Off m) (runsOut (side k d) (d .arb .reserve) (d .bus)) (λ out h. lost-off m k d λ n. f (ap (ownsTurn m) e ∙ n)) (λ out. f)
+    either (Off m) (runsOut (idleLimit d) (side k d) (d .arb .reserve) (d .bus)) (λ out h. lost-off m k d λ n. f (ap (ownsTurn m) e ∙ n)) (λ out. f)
 
 -- part 4 only clears
 cut-off : (m : Master) (on : Bool) (t : Turn) (d : Device) → Off m d → Off m (cutFrom on t d)

@@ -7,7 +7,7 @@ use mathlib.Core.Logic.{_⊎_, inl, inr}
 use mathlib.Core.List.{append-nil}
 use native.Mathlib.Omega.{arith}
 use borrow.Author.Tests.{eq-eqb, eqb-true, ltb-true, ltb-false}
-use Rattle.arbiter.specs.Types.{ℕ, _+_, Bool, true, false, not, _&&_, _||_, List, [], _∷_, _++_, eqb, ltb, Device, Raw}
+use Rattle.arbiter.specs.Types.{ℕ, _+_, Bool, true, false, not, _&&_, _||_, List, [], _∷_, _++_, eqb, ltb, Kind, Device, Raw}
 use Rattle.arbiter.specs.Words.{if_then_else_, worth}
 use Rattle.arbiter.specs.State.{sdaHigh, sclHungLimit, sdaHungLimit, busHung}
 use Rattle.arbiter.specs.Effects.{countedTo, powerUp}
@@ -89,60 +89,61 @@ count-top limit low ends law (r ∷ rs) d s top =
     (subst (λ (n : ℕ). n ≤ limit) (sym (law r d s)) (either (λ (n : ℕ). n ≤ limit) (ends r d) (λ h. omega arith) (λ h. counted-top limit (low d) (tick r d) top)))
 
 -- At power-up both lines are high and both counts 0.
-fresh-still : Still (powerUp .bus)
+fresh-still : (k : Kind) → Still ((powerUp k) .bus)
 unfolding powerUp
-fresh-still = (λ h. refl, λ h. refl, λ h. refl)
+fresh-still k = (λ h. refl, λ h. refl, λ h. refl)
 
 module _ (limit : ℕ) (low : Device → ℕ) (ends : Raw → Device → Bool)
-    (law : (r : Raw) (d : Device) → Still (d .bus) → low (next d r) ≡ (if ends r d then 0 else countedTo limit (tick r d) (low d))) (fresh : low powerUp ≡ 0) where
+    (law : (r : Raw) (d : Device) → Still (d .bus) → low (next d r) ≡ (if ends r d then 0 else countedTo limit (tick r d) (low d))) (fresh : (k : Kind) → low (powerUp k) ≡ 0) where
   -- The count is at its limit exactly where the run ends in such a stretch.
-  pub stuck : (rs : List Raw) → low (run rs) ≡ limit → Stretch ends limit rs
+  pub stuck : (k : Kind) (rs : List Raw) → low (run k rs) ≡ limit → Stretch ends limit k rs
   unfolding run runFrom
-  stuck rs h =
-      elim (lately limit low ends law rs powerUp fresh-still) [
-        | part f ↦ record { before = f .before; since = f .since; whole = f .whole; unbroken = f .unbroken; long = subst (λ (n : ℕ). n ≤ ticksIn (run (f .before)) (f .since)) h (f .long) }
-        | all un long ↦ record { before = []; since = rs; whole = refl; unbroken = un; long = omega arith }
+  stuck k rs h =
+      elim (lately limit low ends law rs (powerUp k) (fresh-still k)) [
+        | part f ↦ record { before = f .before; since = f .since; whole = f .whole; unbroken = f .unbroken; long = subst (λ (n : ℕ). n ≤ ticksIn (run k (f .before)) (f .since)) h (f .long) }
+        | all un long ↦ record { before = []; since = rs; whole = refl; unbroken = un; long = let none = fresh k in omega arith }
       ]
 
-  pub unstuck : (rs : List Raw) → Stretch ends limit rs → low (run rs) ≡ limit
+  pub unstuck : (k : Kind) (rs : List Raw) → Stretch ends limit k rs → low (run k rs) ≡ limit
   unfolding run
-  unstuck rs s =
-      let d : Device = run (s .before) in
-      let still : Still (d .bus) = run-keeps (λ (x : Device). Still (x .bus)) (λ e x h. parts-ready e x .0 .0) powerUp (s .before) fresh-still in
+  unstuck k rs s =
+      let d : Device = run k (s .before) in
+      let still : Still (d .bus) = run-keeps (λ (x : Device). Still (x .bus)) (λ e x h. parts-ready e x .0 .0) (powerUp k) (s .before) (fresh-still k) in
+      let none = fresh k in
       let enough : limit ≤ ticksIn d (s .since) = s .long in
-      ap (λ (l : List Raw). low (run l)) (s .whole)
-      ∙ ap low (from-append (s .before) (s .since) powerUp)
-      ∙ reaches limit low ends law (s .since) d still (count-top limit low ends law (s .before) powerUp fresh-still (omega arith)) (s .unbroken) (omega arith)
+      ap (λ (l : List Raw). low (run k l)) (s .whole)
+      ∙ ap low (from-append (s .before) (s .since) (powerUp k))
+      ∙ reaches limit low ends law (s .since) d still (count-top limit low ends law (s .before) (powerUp k) (fresh-still k) (omega arith)) (s .unbroken) (omega arith)
 
 -- ---- BUS_HUNG
 
-scl-fresh : powerUp .bus .lowscl ≡ 0
+scl-fresh : (k : Kind) → (powerUp k) .bus .lowscl ≡ 0
 unfolding powerUp
-scl-fresh = refl
+scl-fresh k = refl
 
-sda-fresh : powerUp .bus .lowsda ≡ 0
+sda-fresh : (k : Kind) → (powerUp k) .bus .lowsda ≡ 0
 unfolding powerUp
-sda-fresh = refl
+sda-fresh k = refl
 
 pub hung-exact : HungExact
-hung-exact rs =
-    let d : Device = run rs in (
+hung-exact k rs =
+    let d : Device = run k rs in (
       λ h. split (eqb (d .bus .lowscl) sclHungLimit)
-          (λ c. inl (stuck sclHungLimit (λ (x : Device). x .bus .lowscl) endsLowScl scl-next scl-fresh rs (eqb-true (d .bus .lowscl) sclHungLimit c)))
+          (λ c. inl (stuck sclHungLimit (λ (x : Device). x .bus .lowscl) endsLowScl scl-next scl-fresh k rs (eqb-true (d .bus .lowscl) sclHungLimit c)))
           (λ c. inr
-          (stuck sdaHungLimit (λ (x : Device). x .bus .lowsda) endsLowSda sda-next sda-fresh rs
+          (stuck sdaHungLimit (λ (x : Device). x .bus .lowsda) endsLowSda sda-next sda-fresh k rs
           (eqb-true (d .bus .lowsda) sdaHungLimit (sym (ap (λ (b : Bool). b || eqb (d .bus .lowsda) sdaHungLimit) c) ∙ h)))),
       λ s. hung-by rs s,
     )
   where
-    hung-by : (l : List Raw) → SclStuck l ⊎ SdaStuck l → busHung ((run l) .bus) ≡ true
+    hung-by : (l : List Raw) → SclStuck k l ⊎ SdaStuck k l → busHung ((run k l) .bus) ≡ true
     hung-by l (inl s) =
-        ap (λ (b : Bool). b || eqb ((run l) .bus .lowsda) sdaHungLimit)
-        (eq-eqb ((run l) .bus .lowscl) sclHungLimit (unstuck sclHungLimit (λ (x : Device). x .bus .lowscl) endsLowScl scl-next scl-fresh l s))
+        ap (λ (b : Bool). b || eqb ((run k l) .bus .lowsda) sdaHungLimit)
+        (eq-eqb ((run k l) .bus .lowscl) sclHungLimit (unstuck sclHungLimit (λ (x : Device). x .bus .lowscl) endsLowScl scl-next scl-fresh k l s))
     hung-by l (inr s) =
-        ap (λ (b : Bool). eqb ((run l) .bus .lowscl) sclHungLimit || b)
-        (eq-eqb ((run l) .bus .lowsda) sdaHungLimit (unstuck sdaHungLimit (λ (x : Device). x .bus .lowsda) endsLowSda sda-next sda-fresh l s))
-        ∙ or-true (eqb ((run l) .bus .lowscl) sclHungLimit)
+        ap (λ (b : Bool). eqb ((run k l) .bus .lowscl) sclHungLimit || b)
+        (eq-eqb ((run k l) .bus .lowsda) sdaHungLimit (unstuck sdaHungLimit (λ (x : Device). x .bus .lowsda) endsLowSda sda-next sda-fresh k l s))
+        ∙ or-true (eqb ((run k l) .bus .lowscl) sclHungLimit)
 
 -- ---- the fan monitor
 
@@ -160,12 +161,12 @@ unmoved (r ∷ rs) d h =
     last false false c h = h
 
 pub clock-not-hung : ClockNotHung
-clock-not-hung rs runs =
-    split (eqb ((run rs) .bus .lowsda) sdaHungLimit)
-    (λ h. let s : SdaStuck rs = stuck sdaHungLimit (λ (x : Device). x .bus .lowsda) endsLowSda sda-next sda-fresh rs (eqb-true ((run rs) .bus .lowsda) sdaHungLimit h) in
-    let enough : sdaHungLimit ≤ ticksIn (run (s .before)) (s .since) = s .long in
+clock-not-hung k rs runs =
+    split (eqb ((run k rs) .bus .lowsda) sdaHungLimit)
+    (λ h. let s : SdaStuck k rs = stuck sdaHungLimit (λ (x : Device). x .bus .lowsda) endsLowSda sda-next sda-fresh k rs (eqb-true ((run k rs) .bus .lowsda) sdaHungLimit h) in
+    let enough : sdaHungLimit ≤ ticksIn (run k (s .before)) (s .since) = s .long in
     absurd
     (true≢false
-    (sym (unmoved (s .since) (run (s .before)) (s .unbroken))
+    (sym (unmoved (s .since) (run k (s .before)) (s .unbroken))
     ∙ runs (s .before) (s .since) [] (s .whole ∙ sym (append-nil (s .before ++ s .since))) (omega arith))))
     (λ h. h)

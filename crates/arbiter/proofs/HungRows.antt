@@ -1,6 +1,7 @@
 -- Every row of specs/HungRows.antt holds: antt computes each.
 -- Assumes nothing.
 use mathlib.Core.Path.{refl}
+use Rattle.arbiter.specs.Rules.{rulesOf}
 use Rattle.arbiter.specs.Words.{byteOf}
 use Rattle.arbiter.specs.Registers.{contrByte, statusByte, registerByte, isAsserted, ownWritten, mailWritten, drivesWritten, turnWritten}
 use Rattle.arbiter.specs.Events.{decode, inSequence, acknowledged, outcome}
@@ -12,21 +13,21 @@ use Rattle.arbiter.specs.Marks.{AsThePaper}
 use Rattle.arbiter.specs.HungRows.{longRows, changedRows, shownRows, HungRowsHold, SlowClockNeverHung}
 
 long-rows-hold : AsThePaper longRows
-unfolding byteOf contrByte statusByte registerByte isAsserted ownWritten mailWritten drivesWritten turnWritten
+unfolding rulesOf byteOf contrByte statusByte registerByte isAsserted ownWritten mailWritten drivesWritten turnWritten
     decode inSequence acknowledged outcome commanded written paired wasRead lined ticked freshSide wasReset powerUp effect
     levels lost lossesFrom losses cutFrom cut winner claim granted grantFrom grant joined clocked keptJoined connectFrom connect
     parts ownerByte linesByte byteRead refused taken stepEvent stepDecoded step runFrom run longRows
 long-rows-hold = refl
 
 changed-rows-hold : AsThePaper changedRows
-unfolding byteOf contrByte statusByte registerByte isAsserted ownWritten mailWritten drivesWritten turnWritten
+unfolding rulesOf byteOf contrByte statusByte registerByte isAsserted ownWritten mailWritten drivesWritten turnWritten
     decode inSequence acknowledged outcome commanded written paired wasRead lined ticked freshSide wasReset powerUp effect
     levels lost lossesFrom losses cutFrom cut winner claim granted grantFrom grant joined clocked keptJoined connectFrom connect
     parts ownerByte linesByte byteRead refused taken stepEvent stepDecoded step runFrom run changedRows
 changed-rows-hold = refl
 
 shown-rows-hold : AsThePaper shownRows
-unfolding byteOf contrByte statusByte registerByte isAsserted ownWritten mailWritten drivesWritten turnWritten
+unfolding rulesOf byteOf contrByte statusByte registerByte isAsserted ownWritten mailWritten drivesWritten turnWritten
     decode inSequence acknowledged outcome commanded written paired wasRead lined ticked freshSide wasReset powerUp effect
     levels lost lossesFrom losses cutFrom cut winner claim granted grantFrom grant joined clocked keptJoined connectFrom connect
     parts ownerByte linesByte byteRead refused taken stepEvent stepDecoded step runFrom run shownRows
@@ -36,7 +37,7 @@ pub hung-rows-hold : HungRowsHold
 hung-rows-hold = (long-rows-hold, changed-rows-hold, shown-rows-hold)
 
 pub slow-clock-never-hung : SlowClockNeverHung
-unfolding byteOf contrByte statusByte registerByte isAsserted ownWritten mailWritten drivesWritten turnWritten
+unfolding rulesOf byteOf contrByte statusByte registerByte isAsserted ownWritten mailWritten drivesWritten turnWritten
     decode inSequence acknowledged outcome commanded written paired wasRead lined ticked freshSide wasReset powerUp effect
     levels lost lossesFrom losses cutFrom cut winner claim granted grantFrom grant joined clocked keptJoined connectFrom connect
     parts ownerByte linesByte byteRead refused taken stepEvent stepDecoded step throughout

@@ -73,9 +73,9 @@ follows m t d o rt one h q idle rest =
     ]
 
 pub partner-in-time : PartnerInTime
-partner-in-time m rs r later t g l h nr nw q idle rest =
-    let (o, rt, one) = last-tick m r (run rs) later g l nr nw in
-    follows m t (runFrom (next (run rs) r) later) o rt one h q idle rest
+partner-in-time k m rs r later t g l h nr nw q idle rest =
+    let (o, rt, one) = last-tick m r (run k rs) later g l nr nw in
+    follows m t (runFrom (next (run k rs) r) later) o rt one h q idle rest
 
 -- ---- with the partner's request standing all the while
 
@@ -105,8 +105,8 @@ by-the-tick m (r ∷ rs) t d i u rt l h nr st idle rest =
     ]
 
 pub partner-in-time-throughout : PartnerInTimeThroughout
-partner-in-time-throughout m rs r later t g l h nr st idle rest =
-    let d : Device = next (run rs) r in
-    let new = taken-fresh m r (run rs) g in
+partner-in-time-throughout k m rs r later t g l h nr st idle rest =
+    let d : Device = next (run k rs) r in
+    let new = taken-fresh m r (run k rs) g in
     let count : d .arb .reserve ≡ reserveOf m d = new .0 .reserve in
-    by-the-tick m later t d (next-owned r (run rs) (run-owned rs)) (new .1 .turn) (omega arith) (omega arith) h nr st idle rest
+    by-the-tick m later t d (next-owned r (run k rs) (run-owned k rs)) (new .1 .turn) (omega arith) (omega arith) h nr st idle rest

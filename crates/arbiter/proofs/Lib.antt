@@ -2,6 +2,7 @@ pub mod Every
 pub mod Bitwise
 pub mod Choice
 pub mod Cases
+pub mod KindKept
 pub mod Connected
 pub mod Seen
 pub mod Settled
@@ -19,6 +20,8 @@ pub mod Waiting
 pub mod InTime
 pub mod Timer
 pub mod IdleCount
+pub mod Traces
+pub mod OldTraces
 pub mod Marks
 pub mod Witnesses
 pub mod LowCounts

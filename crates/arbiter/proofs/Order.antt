@@ -3,7 +3,7 @@
 use mathlib.Core.Path.{_≡_, refl, sym, ap, _∙_, subst}
 use mathlib.Core.Bool.{true≢false, false≢true, and-eq-true-iff}
 use borrow.Author.Tests.{eqb-true}
-use Rattle.arbiter.specs.Types.{ℕ, Bool, true, false, _&&_, eqb, Master, Zero, One, Turn, Nobody, Claims, Owns, Port, Side, Bus, Device, Clock, Event}
+use Rattle.arbiter.specs.Types.{ℕ, Bool, true, false, _&&_, eqb, Master, Zero, One, Turn, Nobody, Claims, Owns, Port, Side, Bus, Kind, Device, Clock, Event}
 use Rattle.arbiter.specs.Words.{if_then_else_, side}
 use Rattle.arbiter.specs.Parts.{withTurn, withSide, withArb}
 use Rattle.arbiter.specs.State.{atRest}
@@ -18,9 +18,9 @@ use Rattle.arbiter.proofs.Effects.{kept}
 abbrev pub sides : Device → (Bool × Bool × ℕ × Port) × (Bool × Bool × ℕ × Port) × ℕ
 sides d = (kept (d .side0), kept (d .side1), d .bus .hold)
 
--- the same with the whole bus, the reserve count and the turn
-abbrev pub still : Device → (Bool × Bool × ℕ × Port) × (Bool × Bool × ℕ × Port) × Bus × ℕ × Turn
-still d = (kept (d .side0), kept (d .side1), d .bus, d .arb .reserve, d .arb .turn)
+-- the same with the whole bus, the reserve count, the turn and the kind
+abbrev pub still : Device → (Bool × Bool × ℕ × Port) × (Bool × Bool × ℕ × Port) × Bus × ℕ × Turn × Kind
+still d = (kept (d .side0), kept (d .side1), d .bus, d .arb .reserve, d .arb .turn, d .kind)
 
 -- What leaves the second leaves the first,
 pub still-sides : (n d : Device) → still n ≡ still d → sides n ≡ sides d
@@ -33,8 +33,8 @@ side-kept One n d e = ap (λ x. x .1) e
 
 -- A side with the same four in m's place changes none of this.
 alike : (m : Master) (s : Side) (d : Device) → kept s ≡ kept (side m d) → still (withSide m s d) ≡ still d
-alike Zero s d e = ap (λ x. (x, kept (d .side1), d .bus, d .arb .reserve, d .arb .turn)) e
-alike One s d e = ap (λ x. (kept (d .side0), x, d .bus, d .arb .reserve, d .arb .turn)) e
+alike Zero s d e = ap (λ x. (x, kept (d .side1), d .bus, d .arb .reserve, d .arb .turn, d .kind)) e
+alike One s d e = ap (λ x. (kept (d .side0), x, d .bus, d .arb .reserve, d .arb .turn, d .kind)) e
 
 -- ---- part 4 clears BUS_CONNECT at most
 

@@ -5,6 +5,7 @@ use mathlib.Core.Bool.{and-true, true≢false, false≢true}
 use mathlib.Core.Logic.{_⊎_, inl, inr}
 use borrow.Author.Tests.{eq-eqb}
 use Rattle.arbiter.specs.Types.{ℕ, _-_, Bool, true, false, _&&_, _||_, Master, Zero, One, Turn, Nobody, Claims, Owns, Device, Event}
+use Rattle.arbiter.specs.Rules.{idleLimit}
 use Rattle.arbiter.specs.Words.{if_then_else_, partner, side}
 use Rattle.arbiter.specs.State.{ownsTurn, owns, atRest}
 use Rattle.arbiter.specs.Effects.{ticked, effect}
@@ -21,7 +22,7 @@ mid e d = levels (isReset e) (d .bus) (effect e d)
 
 -- what part 3 asks of the owner m
 abbrev pub expired : Master → Device → Bool
-expired m d = runsOut (side m d) (d .arb .reserve) (d .bus)
+expired m d = runsOut (idleLimit d) (side m d) (d .arb .reserve) (d .bus)
 
 -- ---- part 1 once more
 

@@ -147,20 +147,20 @@ last-tick m r x later g l nr nw =
     (k .owner, omega arith, omega arith)
 
 pub reserve-lasts : ReserveLasts
-reserve-lasts m rs r later g l nr nw =
-    let y : Device = runFrom (next (run rs) r) later in
-    turn-owns m (y .arb .turn) (reserved m r (run rs) later g l nr nw .owner .turn)
+reserve-lasts k m rs r later g l nr nw =
+    let y : Device = runFrom (next (run k rs) r) later in
+    turn-owns m (y .arb .turn) (reserved m r (run k rs) later g l nr nw .owner .turn)
 
 pub reserve-ends : ReserveEnds
-reserve-ends m rs r later t g l h nr nw idle =
-    let (o, rt, one) = last-tick m r (run rs) later g l nr nw in
-    ends-at-tick m t (runFrom (next (run rs) r) later) o rt one h idle
+reserve-ends k m rs r later t g l h nr nw idle =
+    let (o, rt, one) = last-tick m r (run k rs) later g l nr nw in
+    ends-at-tick m t (runFrom (next (run k rs) r) later) o rt one h idle
 
 pub reserve-exact : ReserveExact
-reserve-exact m rs r later e g all rt out ok on =
-    let d : Device = next (run rs) r in
+reserve-exact part m rs r later e g all rt out ok on =
+    let d : Device = next (run part rs) r in
     let x : Device = runFrom d later in
-    let new = taken-fresh m r (run rs) g in
+    let new = taken-fresh m r (run part rs) g in
     let k = owned-on m later d (new .1) all in
     let start : d .arb .reserve ≡ reserveOf m d = new .0 .reserve in
     let same : reserveOf m x ≡ reserveOf m d = k .rt in

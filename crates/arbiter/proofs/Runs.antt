@@ -19,7 +19,7 @@ from-append (x ∷ xs) ys d = from-append xs ys (step d x .device)
 
 pub runs-on : RunsOn
 unfolding run runFrom
-runs-on rs r later = from-append rs (r ∷ later) powerUp
+runs-on k rs r later = from-append rs (r ∷ later) (powerUp k)
 
 -- ---- of the events of a run
 

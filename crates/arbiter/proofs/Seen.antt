@@ -78,9 +78,9 @@ connected-told m (Initialising k n) = no-number m
 connected-told m (Closed k) = number-of m k
 
 pub answers-show : AnswersShow
-answers-show rs r m =
-    let a : Arbitration = (next (run rs) r) .arb in
-    let bits = shown-bits (run rs) r in (
+answers-show k rs r m =
+    let a : Arbitration = (next (run k rs) r) .arb in
+    let bits = shown-bits (run k rs) r in (
       ap (λ (x : ℕ). eqb x (masterNumber m)) (bits .0) ∙ owner-told m (a .turn),
       ap (λ (x : ℕ). eqb x (masterNumber m)) (bits .1) ∙ connected-told m (a .switch),
     )
@@ -107,12 +107,12 @@ one-number (Owns One) (Closed Zero) h = absurd (false≢true (h Zero refl))
 one-number (Owns One) (Closed One) h = refl
 
 pub answers-show-one : AnswersShowOne
-answers-show-one rs r =
-    let d : Device = next (run rs) r in
-    let bits = shown-bits (run rs) r in
+answers-show-one k rs r =
+    let d : Device = next (run k rs) r in
+    let bits = shown-bits (run k rs) r in
     ap₂ (λ (s o : ℕ). ltb o 3 && oneNumber s o) (bits .1) (bits .0)
     ∙ ap₂ (λ (x y : Bool). x && y) (owner-low (d .arb .turn))
-    (one-number (d .arb .turn) (d .arb .switch) λ m s. serves-owner d (step-served (run rs) r (all-served rs)) m s)
+    (one-number (d .arb .turn) (d .arb .switch) λ m s. serves-owner d (step-served (run k rs) r (all-served k rs)) m s)
 
 -- ---- the registers
 
@@ -164,11 +164,11 @@ closed-as m (Initialising k n) = sym (and-false (sameMaster m k))
 closed-as m (Closed k) = sym (and-true (sameMaster m k))
 
 pub registers-show : RegistersShow
-registers-show rs m =
-    let d : Device = run rs in
+registers-show k rs m =
+    let d : Device = run k rs in
     let done : Bool = not (isInitialising (d .arb .switch)) in
     let contr = contr-shows m d in (
-      closed-as m (d .arb .switch) ∙ ap (λ (x : Bool). x && done) (all-served rs m ∙ sym (ap₂ _&&_ (contr .1) (contr .0))),
+      closed-as m (d .arb .switch) ∙ ap (λ (x : Bool). x && done) (all-served k rs m ∙ sym (ap₂ _&&_ (contr .1) (contr .0))),
       contr .1,
       status-shows (partner m) d ∙ ap (λ (k : Master). owns k d) (back m),
     )
@@ -178,8 +178,8 @@ one-owner : (m : Master) (t : Turn) → ownsTurn m t && ownsTurn (partner m) t �
 one-owner m t = split (ownsTurn m t) (λ h. ap₂ _&&_ h (partner-not m t h)) (λ h. ap (λ (o : Bool). o && ownsTurn (partner m) t) h)
 
 pub registers-show-one : RegistersShowOne
-registers-show-one rs m =
-    let d : Device = run rs in
+registers-show-one k rs m =
+    let d : Device = run k rs in
     let t : Turn = d .arb .turn in (
       ap₂ _&&_ (contr-shows m d .1) (contr-shows (partner m) d .1) ∙ one-owner m t,
       ap₂ _&&_ (status-shows m d) (status-shows (partner m) d) ∙ one-owner (partner m) t,

@@ -2,12 +2,13 @@
 -- Assumes nothing.
 use mathlib.Core.Path.{_≡_, refl, sym, ap, ap₂, subst, _∙_}
 use mathlib.Core.Bool.{Bool, true, false, not, _&&_, _||_, false≢true, and-eq-true-iff, and-false, or-false}
-use Rattle.arbiter.specs.Types.{ℕ, List, eqb, Master, Zero, One, Turn, Nobody, Claims, Owns, Side, Bus, Switch, Apart, Initialising, Closed, Clock, NoClock, Device, Raw, Event}
+use Rattle.arbiter.specs.Types.{ℕ, List, eqb, Master, Zero, One, Turn, Nobody, Claims, Owns, Side, Bus, Switch, Apart, Initialising, Closed, Clock, NoClock, Kind, Device, Raw, Event}
+use Rattle.arbiter.specs.Rules.{limitOf, idleLimit}
 use Rattle.arbiter.specs.Words.{if_then_else_, sameMaster, side}
 use Rattle.arbiter.specs.Parts.{withBusConnect, withBusInit, withContr, withDrives, withIdle, withTurn, withSwitch, withInitFail, withSide, withBus, withArb}
 use Rattle.arbiter.specs.State.{ownsTurn, owns, atRest, sclHigh, sdaHigh, isIdle}
 use Rattle.arbiter.specs.Registers.{released}
-use Rattle.arbiter.specs.Effects.{idleLimit, freshSide, powerUp, effect}
+use Rattle.arbiter.specs.Effects.{freshSide, powerUp, effect}
 use Rattle.arbiter.specs.Order.{isReset, isTick, clockOf, busyAfter, sclChanged, settledBus, levels, runsOut, lost, lossesFrom, losses, cutFrom, cut, claimBy, winner, newClaim, claimAfter, claim, granted, grantFrom, grant, switched, joined, clocked, keptJoined, connectFrom, connect}
 use Rattle.arbiter.specs.Steps.{parts, run}
 use Rattle.arbiter.specs.AuditWords.{requests}
@@ -15,6 +16,7 @@ use Rattle.arbiter.specs.Audit.{RefusedUnchanged, partsAgain, AllSettled
 use Rattle.arbiter.proofs.Choice.{either, split, if-true, if-false, turn-owns}
 use Rattle.arbiter.proofs.Cases.{cut-cases, claimant-stays, new-cases, claim-cases, connect-cases, run-keeps}
 use Rattle.arbiter.proofs.Raws.{refuses, takes, met}
+use Rattle.arbiter.proofs.KindKept.{limit-some}
 use Rattle.arbiter.proofs.Connected.{serves, asksOn, Served, unserved, all-served}
 
 -- ---- a refused event
@@ -36,7 +38,7 @@ Still b = (sclHigh b ≡ true → b .lowscl ≡ 0) × (sdaHigh b ≡ true → b 
 abbrev pub loses : Turn → Device → Bool
 loses Nobody d = false
 loses (Claims m) d = false
-loses (Owns m) d = runsOut (side m d) (d .arb .reserve) (d .bus)
+loses (Owns m) d = runsOut (idleLimit d) (side m d) (d .arb .reserve) (d .bus)
 
 -- part 6: the claimant is to be granted
 abbrev pub isDue : Turn → Device → Bool
@@ -63,7 +65,7 @@ abbrev bareSide : Side → Side
 bareSide s = withContr (withBusInit false (withBusConnect false (s .contr))) s
 
 abbrev bare : Device → Device
-bare d = record { side0 = bareSide (d .side0); side1 = bareSide (d .side1); bus = d .bus; arb = withInitFail false (withSwitch Apart (d .arb)) }
+bare d = record { side0 = bareSide (d .side0); side1 = bareSide (d .side1); bus = d .bus; arb = withInitFail false (withSwitch Apart (d .arb)); kind = d .kind }
 
 -- whether the owner loses is asked of RT, the idle timer, the reserve count and the bus
 loses-bare : (t : Turn) (d : Device) → loses t (bare d) ≡ loses t d
@@ -104,8 +106,8 @@ module _ (x y : Device) (p : bare x ≡ bare y) where
 
 -- one side put in place of another that is the same but for those
 side-bare : (m : Master) (s : Side) (d : Device) → bareSide s ≡ bareSide (side m d) → bare (withSide m s d) ≡ bare d
-side-bare Zero s d h = λ i. record { side0 = h i; side1 = bareSide (d .side1); bus = d .bus; arb = withInitFail false (withSwitch Apart (d .arb)) }
-side-bare One s d h = λ i. record { side0 = bareSide (d .side0); side1 = h i; bus = d .bus; arb = withInitFail false (withSwitch Apart (d .arb)) }
+side-bare Zero s d h = λ i. record { side0 = h i; side1 = bareSide (d .side1); bus = d .bus; arb = withInitFail false (withSwitch Apart (d .arb)); kind = d .kind }
+side-bare One s d h = λ i. record { side0 = bareSide (d .side0); side1 = h i; bus = d .bus; arb = withInitFail false (withSwitch Apart (d .arb)); kind = d .kind }
 
 -- part 4 clears BUS_CONNECT and nothing else
 cut-bare : (on : Bool) (t : Turn) (d : Device) → bare (cutFrom on t d) ≡ bare d
@@ -131,15 +133,16 @@ levels-still reset before d =
 
 -- ---- part 3: a loss comes only on an idle bus, whose drives are released already
 
--- an idle count of 101 is not 0, so the bus is idle
-counted-idle : (b : Bus) → Still b → eqb (b .idle) idleLimit ≡ true → isIdle b ≡ true
-counted-idle b still h = split (isIdle b) (λ e. e) (λ e. absurd (false≢true (sym (ap (λ (n : ℕ). eqb n idleLimit) (still .2 e)) ∙ h)))
+-- an idle count at a limit that is not 0 is not 0, so the bus is idle
+counted-idle : (limit : ℕ) → eqb 0 limit ≡ false → (b : Bus) → Still b → eqb (b .idle) limit ≡ true → isIdle b ≡ true
+counted-idle limit some b still h =
+    split (isIdle b) (λ e. e) (λ e. absurd (false≢true (sym some ∙ sym (ap (λ (n : ℕ). eqb n limit) (still .2 e)) ∙ h)))
 
 -- a reserve that runs out asks for an idle bus, and the idle timer for its count
-out-idle : (s : Side) (n : ℕ) (b : Bus) → Still b → runsOut s n b ≡ true → isIdle b ≡ true
-out-idle s n b still =
+out-idle : (limit : ℕ) → eqb 0 limit ≡ false → (s : Side) (n : ℕ) (b : Bus) → Still b → runsOut limit s n b ≡ true → isIdle b ≡ true
+out-idle limit some s n b still =
     either (λ (x : Bool). x ≡ true → isIdle b ≡ true) (eqb (s .rt) 0)
-    (λ z h. counted-idle b still (and-eq-true-iff (s .contr .idletimer) (eqb (b .idle) idleLimit) .0 h .1))
+    (λ z h. counted-idle limit some b still (and-eq-true-iff (s .contr .idletimer) (eqb (b .idle) limit) .0 h .1))
     (λ z h. and-eq-true-iff (eqb n 0) (isIdle b) .0 h .1)
 
 -- lines that are high are not driven low
@@ -157,8 +160,8 @@ unfolding lossesFrom lost
 losses-bus Nobody d still = refl
 losses-bus (Claims m) d still = refl
 losses-bus (Owns m) d still =
-    either (λ (n : Device). n .bus ≡ d .bus) (runsOut (side m d) (d .arb .reserve) (d .bus))
-    (λ h. idle-released (d .bus) (out-idle (side m d) (d .arb .reserve) (d .bus) still h)) (λ h. refl)
+    either (λ (n : Device). n .bus ≡ d .bus) (runsOut (idleLimit d) (side m d) (d .arb .reserve) (d .bus))
+    (λ h. idle-released (d .bus) (out-idle (idleLimit d) (limit-some (d .kind)) (side m d) (d .arb .reserve) (d .bus) still h)) (λ h. refl)
 
 -- and nobody is left to lose
 losses-kept : (t : Turn) (d : Device) → d .arb .turn ≡ t → Still (d .bus) → Kept (lossesFrom t d)
@@ -166,8 +169,8 @@ unfolding lossesFrom lost
 losses-kept Nobody d e still = (still, ap (λ (t : Turn). loses t d) e)
 losses-kept (Claims m) d e still = (still, ap (λ (t : Turn). loses t d) e)
 losses-kept (Owns m) d e still =
-    either Kept (runsOut (side m d) (d .arb .reserve) (d .bus))
-    (λ h. (subst Still (sym (idle-released (d .bus) (out-idle (side m d) (d .arb .reserve) (d .bus) still h))) still, refl))
+    either Kept (runsOut (idleLimit d) (side m d) (d .arb .reserve) (d .bus))
+    (λ h. (subst Still (sym (idle-released (d .bus) (out-idle (idleLimit d) (limit-some (d .kind)) (side m d) (d .arb .reserve) (d .bus) still h))) still, refl))
     (λ h. (still, ap (λ (t : Turn). loses t d) e ∙ h))
 
 -- ---- part 5: who claims stays the claimant, and a new claimant has nothing to lose
@@ -225,16 +228,16 @@ module _ (d : Device) where
 fresh-still : (b : Bus) → Still b → Still (withIdle 0 b)
 fresh-still b still = (still .0, still .1, λ h. refl)
 
--- a reserve count of RT is 0 only for RT 00h, and an idle count of 0 is not 101
-fresh-keeps : (s : Side) (b : Bus) → runsOut s (s .rt) (withIdle 0 b) ≡ false
-fresh-keeps s b =
-    either (λ (x : Bool). x ≡ false) (eqb (s .rt) 0) (λ z. and-false (s .contr .idletimer)) (λ z. ap (λ (n : Bool). n && isIdle b) z)
+-- a reserve count of RT is 0 only for RT 00h, and an idle count of 0 is below the limit
+fresh-keeps : (limit : ℕ) → eqb 0 limit ≡ false → (s : Side) (b : Bus) → runsOut limit s (s .rt) (withIdle 0 b) ≡ false
+fresh-keeps limit some s b =
+    either (λ (x : Bool). x ≡ false) (eqb (s .rt) 0) (λ z. ap (λ (x : Bool). s .contr .idletimer && x) some ∙ and-false (s .contr .idletimer)) (λ z. ap (λ (n : Bool). n && isIdle b) z)
 
 -- so a fresh owner does not lose at once, and an owner is the claimant, with no grant due
 granted-ready : (m : Master) (d : Device) → Still (d .bus) → Ready (granted m d)
 unfolding granted
-granted-ready Zero d still = ((fresh-still (d .bus) still, fresh-keeps (d .side0) (d .bus)), refl, refl)
-granted-ready One d still = ((fresh-still (d .bus) still, fresh-keeps (d .side1) (d .bus)), refl, refl)
+granted-ready Zero d still = ((fresh-still (d .bus) still, fresh-keeps (idleLimit d) (limit-some (d .kind)) (d .side0) (d .bus)), refl, refl)
+granted-ready One d still = ((fresh-still (d .bus) still, fresh-keeps (idleLimit d) (limit-some (d .kind)) (d .side1) (d .bus)), refl, refl)
 
 -- whoever is due is granted, so after part 6 nobody is
 grant-ready : (t : Turn) (d : Device) → d .arb .turn ≡ t → Kept d → Claimed d → Ready (grantFrom t d)
@@ -263,9 +266,9 @@ parts-ready e d =
     ready-by six seven (sym (connect-bare (clockOf e) six)) (grant-ready (five .arb .turn) five refl (claimed .0) (claimed .1))
 
 -- so it holds after every run, and at power-up
-pub all-ready : (rs : List Raw) → Ready (run rs)
+pub all-ready : (k : Kind) (rs : List Raw) → Ready (run k rs)
 unfolding run powerUp freshSide
-all-ready rs = run-keeps Ready (λ e d h. parts-ready e d) powerUp rs (((λ h. refl, λ h. refl, λ h. refl), refl), refl, refl)
+all-ready k rs = run-keeps Ready (λ e d h. parts-ready e d) (powerUp k) rs (((λ h. refl, λ h. refl, λ h. refl), refl), refl, refl)
 
 -- ---- where all of it holds, parts 2 to 7 change nothing
 
@@ -383,4 +386,4 @@ settles d ((still, stays), claimed, waits) served =
     ∙ connect-again (d .arb .turn) d refl served
 
 pub all-settled : AllSettled
-all-settled rs = settles (run rs) (all-ready rs) (all-served rs)
+all-settled k rs = settles (run k rs) (all-ready k rs) (all-served k rs)

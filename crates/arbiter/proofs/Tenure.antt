@@ -5,17 +5,19 @@ use mathlib.Core.Path.{_≡_, refl, sym, ap, _∙_, subst}
 use mathlib.Core.Bool.{true≢false, false≢true, and-eq-true-iff, and-false}
 use mathlib.Core.Logic.{⊎-elim}
 use native.Mathlib.Nat.{sub-zero}
-use Rattle.arbiter.specs.Types.{ℕ, _-_, Bool, true, false, not, _&&_, _||_, List, eqb, Master, Nobody, Owns, Control, Side, Device, Raw, Event}
+use Rattle.arbiter.specs.Types.{ℕ, _-_, Bool, true, false, not, _&&_, _||_, List, eqb, Master, Nobody, Owns, Control, Side, Kind, Device, Raw, Event}
+use Rattle.arbiter.specs.Rules.{limitOf, idleLimit}
 use Rattle.arbiter.specs.Words.{if_then_else_, worth, side}
 use Rattle.arbiter.specs.Parts.{withContr, withRt}
 use Rattle.arbiter.specs.State.{owns, isIdle}
-use Rattle.arbiter.specs.Effects.{idleLimit, ticked, effect, powerUp}
+use Rattle.arbiter.specs.Effects.{ticked, effect, powerUp}
 use Rattle.arbiter.specs.Order.{isReset, isTick, levels, runsOut}
 use Rattle.arbiter.specs.Steps.{parts, run}
 use Rattle.arbiter.specs.Audit.{GrantedAtRest}
 use Rattle.arbiter.specs.AuditWords.{next, reserveOf, letsGo, reset, tick, withdrawalOf, grantTaken, levelled}
 use Rattle.arbiter.proofs.Choice.{split, if-true, if-false, not-true, owns-turn, turn-owns}
 use Rattle.arbiter.proofs.Cases.{step-keeps, run-keeps}
+use Rattle.arbiter.proofs.KindKept.{limit-some}
 use Rattle.arbiter.proofs.Effects.{effect-side, ownerLetsGo, effect-turn, counts, effect-counts}
 use Rattle.arbiter.proofs.Order.{still, still-sides, side-kept, owned, Fresh}
 use Rattle.arbiter.proofs.Owner.{mid, expired, unheld, Over, Stays, stays, ends, fate, origin}
@@ -32,7 +34,7 @@ pub record Owner (m : Master) (d : Device) : Type 0 where
 -- What part 3 asks is read off what `still` names.
 expired-still : (m : Master) (n d : Device) → still n ≡ still d → expired m n ≡ expired m d
 expired-still m n d e =
-    ap (λ k. runsOut (asked (k .1) (k .2)) (n .arb .reserve) (n .bus)) (side-kept m n d (still-sides n d e)) ∙ ap (λ s. runsOut (side m d) (s .3) (s .2)) e
+    ap (λ k. runsOut (idleLimit n) (asked (k .1) (k .2)) (n .arb .reserve) (n .bus)) (side-kept m n d (still-sides n d e)) ∙ ap (λ s. runsOut (limitOf (s .5)) (side m d) (s .3) (s .2)) e
   where
     -- m's side with such an idle timer and such an RT
     asked : Bool → ℕ → Side
@@ -50,7 +52,7 @@ fresh-owner m d t f =
       turn = t;
       hold = f .hold;
       unlost =
-          split (eqb rt 0) (λ z. if-true _ _ z ∙ ap (λ (n : ℕ). timer && eqb n idleLimit) (f .idle) ∙ and-false timer)
+          split (eqb rt 0) (λ z. if-true _ _ z ∙ ap (λ (n : ℕ). timer && eqb n (idleLimit d)) (f .idle) ∙ ap (λ (b : Bool). timer && b) (limit-some (d .kind)) ∙ and-false timer)
           (λ z. if-false _ _ z ∙ ap (λ (n : ℕ). eqb n 0 && isIdle (d .bus)) (f .reserve) ∙ ap (λ (b : Bool). b && isIdle (d .bus)) z);
     }
 
@@ -88,9 +90,9 @@ parts-owned e d i m h =
 pub next-owned : (r : Raw) (d : Device) → Owned d → Owned (next d r)
 next-owned r d i = step-keeps Owned parts-owned d r i
 
-pub run-owned : (rs : List Raw) → Owned (run rs)
+pub run-owned : (k : Kind) (rs : List Raw) → Owned (run k rs)
 unfolding run powerUp
-run-owned rs = run-keeps Owned parts-owned powerUp rs λ m h. absurd (false≢true (ap owned h))
+run-owned k rs = run-keeps Owned parts-owned (powerUp k) rs λ m h. absurd (false≢true (ap owned h))
 
 -- ---- a new grant
 

@@ -1,16 +1,17 @@
--- What does a reserve of 00h mean? Over every run, the grant lasts until it is let go, or with the idle timer on until the idle count is 101.
+-- What does a reserve of 00h mean? Over every run, the grant lasts until it is let go, or with the idle timer on until the idle count is at the limit.
 -- Assumes nothing.
 use mathlib.Core.Path.{_≡_, refl, sym, ap, _∙_}
 use mathlib.Core.Bool.{true≢false}
 use borrow.Author.Tests.{eq-eqb}
-use Rattle.arbiter.specs.Types.{Bool, true, false, not, _&&_, List, [], _∷_, eqb, Master, Zero, One, Turn, Nobody, Claims, Owns, Device, Raw}
+use Rattle.arbiter.specs.Types.{Bool, true, false, not, _&&_, List, [], _∷_, eqb, Master, Zero, One, Turn, Nobody, Claims, Owns, Kind, Device, Raw}
 use Rattle.arbiter.specs.State.{owns}
-use Rattle.arbiter.specs.Effects.{idleLimit}
+use Rattle.arbiter.specs.Rules.{limitOf, idleLimit}
 use Rattle.arbiter.specs.Order.{lost, lossesFrom, losses}
 use Rattle.arbiter.specs.Steps.{parts, runFrom, run}
 use Rattle.arbiter.specs.AuditWords.{next, reserveOf, idleTimerOn, reset, withdrawalOf, levelled, never, throughout}
 use Rattle.arbiter.specs.Audit.{HeldUntilLetGo, IdleTimerExact}
 use Rattle.arbiter.proofs.Choice.{either, if-true, not-true, owns-turn, turn-owns}
+use Rattle.arbiter.proofs.KindKept.{levelled-kind, runs-of-kind}
 use Rattle.arbiter.proofs.Runs.{never-comes, now, hence}
 use Rattle.arbiter.proofs.Order.{side-kept, after, after-sides}
 use Rattle.arbiter.proofs.Owner.{mid, expired, over-unowned}
@@ -19,7 +20,7 @@ use Rattle.arbiter.proofs.Tenure.{Owner, run-owned, keeps, over, lot, t
 use Rattle.arbiter.proofs.Reserve.{rt-kept}
 
 -- With a reserve of 00h part 3 asks for the idle timer and the idle count.
-pub expires : (m : Master) (d : Device) → reserveOf m d ≡ 0 → expired m d ≡ (idleTimerOn m d && eqb (d .bus .idle) idleLimit)
+pub expires : (m : Master) (d : Device) → reserveOf m d ≡ 0 → expired m d ≡ (idleTimerOn m d && eqb (d .bus .idle) (idleLimit d))
 expires m d z = if-true _ _ (eq-eqb (reserveOf m d) 0 z)
 
 -- ---- the idle timer
@@ -73,27 +74,31 @@ held m (r ∷ rs) d o z nr nw off =
           sym (timer-left m r d) ∙ not-true (idleTimerOn m n) (now (λ (x : Device). not (idleTimerOn m x)) rs n later)
           in
           absurd
-          (true≢false (sym (c (on .0)) ∙ expires m l zl ∙ ap (λ (b : Bool). b && eqb (l .bus .idle) idleLimit) ol)))
+          (true≢false (sym (c (on .0)) ∙ expires m l zl ∙ ap (λ (b : Bool). b && eqb (l .bus .idle) (idleLimit l)) ol)))
     ]
 
 pub held-until-let-go : HeldUntilLetGo
-held-until-let-go m rs r later g z nr nw off = held m later (next (run rs) r) (taken-fresh m r (run rs) g .1) z nr nw off
+held-until-let-go k m rs r later g z nr nw off = held m later (next (run k rs) r) (taken-fresh m r (run k rs) g .1) z nr nw off
 
 -- ---- with the timer on
 
 -- From any device in which m owns with a reserve of 00h.
 exact : (m : Master) (r : Raw) (d : Device) → Owner m d → reserveOf m d ≡ 0 → reset r d ≡ false → withdrawalOf m r d ≡ false
-    → owns m (next d r) ≡ not (idleTimerOn m (levelled r d) && eqb ((levelled r d) .bus .idle) idleLimit)
+    → owns m (next d r) ≡ not (idleTimerOn m (levelled r d) && eqb ((levelled r d) .bus .idle) (idleLimit d))
 exact m r d o z ok on =
     let l : Device = levelled r d in
     let own : owns m d ≡ true = turn-owns m (d .arb .turn) (o .turn) in
-    let x : expired m l ≡ (idleTimerOn m l && eqb (l .bus .idle) idleLimit) = expires m l (rt-found m r d own ok ∙ z) in
+    let x : expired m l ≡ (idleTimerOn m l && eqb (l .bus .idle) (idleLimit d)) =
+    expires m l (rt-found m r d own ok ∙ z) ∙ ap (λ (k : Kind). idleTimerOn m l && eqb (l .bus .idle) (limitOf k)) (levelled-kind r d)
+    in
     elim (lot m r d o ok) [
       | keeps k ↦ turn-owns m ((next d r) .arb .turn) (k .owner .turn) ∙ sym (ap not (sym x ∙ k .unlost))
       | over h c ↦ over-unowned m (next d r) h ∙ sym (ap not (sym x ∙ c on))
     ]
 
 pub idle-timer-exact : IdleTimerExact
-idle-timer-exact m rs r own z ok on =
-    let d : Device = run rs in
-    exact m r d (run-owned rs m (owns-turn m (d .arb .turn) own)) z ok on
+idle-timer-exact k m rs r own z ok on =
+    let d : Device = run k rs in
+    let l : Device = levelled r d in
+    exact m r d (run-owned k rs m (owns-turn m (d .arb .turn) own)) z ok on
+    ∙ ap (λ (j : Kind). not (idleTimerOn m l && eqb (l .bus .idle) (limitOf j))) (runs-of-kind k rs)

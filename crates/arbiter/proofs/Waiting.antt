@@ -88,7 +88,7 @@ is-next : (p : Master) (d : Device) → Next p d → IsNext p d
 is-next p d x = (λ rest. turn-owns p (d .arb .turn) (next-owns p d x rest), λ rest later. until-stop p later d (next-waits p d x rest))
 
 pub partner-next : PartnerNext
-partner-next m rs r g ok q =
-    let d : Device = run rs in
+partner-next k m rs r g ok q =
+    let d : Device = run k rs in
     let own : owns m d ≡ true = and-eq-true-iff (owns m d) (not (owns m (next d r))) .0 g .0 in
-    is-next (partner m) (next d r) (follows-next m r d (run-owned rs m (owns-turn m (d .arb .turn) own)) g ok q)
+    is-next (partner m) (next d r) (follows-next m r d (run-owned k rs m (owns-turn m (d .arb .turn) own)) g ok q)

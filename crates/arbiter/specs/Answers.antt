@@ -1,14 +1,18 @@
 -- All answers in one record, one field a statement. proofs/Answers.antt fills it with one term, so that a lost proof fails the check.
 -- Assumes nothing.
-use Rattle.arbiter.specs.Audit.{RunsOn, OneConnected, ApartUnowned, AnswersShow, AnswersShowOne, RegistersShow, RegistersShowOne, ResetEnds, ReserveLasts, ReserveEnds, ReserveExact, PartnerNext, PartnerInTime, PartnerInTimeThroughout, HeldUntilLetGo, IdleTimerExact, IdleTimerEnds, GrantedAtRest, EndsDisconnected, RefusedUnchanged, AllSettled}
+use Rattle.arbiter.specs.Audit.{RunsOn, KeepsKind, RunsOfKind, OneConnected, ApartUnowned, AnswersShow, AnswersShowOne, RegistersShow, RegistersShowOne, ResetEnds, ReserveLasts, ReserveEnds, ReserveExact, PartnerNext, PartnerInTime, PartnerInTimeThroughout, HeldUntilLetGo, IdleTimerExact, IdleTimerEnds, GrantedAtRest, EndsDisconnected, RefusedUnchanged, AllSettled}
 use Rattle.arbiter.specs.Hung.{HungExact, ClockNotHung}
 use Rattle.arbiter.specs.HungRows.{HungRowsHold, SlowClockNeverHung}
+use Rattle.arbiter.specs.OldTraces.{ConvertedAccepted, OldRefused}
 use Rattle.arbiter.specs.Marks.{MarksHold, ReadingsHold}
 use Rattle.arbiter.specs.Witnesses.{WitnessesMeet}
 
 pub record Answers : Type 0 where
   -- A run gone on is a run.
   pub runsOn : RunsOn
+  -- Every run is one of a kind of part.
+  pub keepsKind : KeepsKind
+  pub runsOfKind : RunsOfKind
   -- Can both controllers ever be connected at once?
   pub oneConnected : OneConnected
   pub apartUnowned : ApartUnowned
@@ -39,6 +43,9 @@ pub record Answers : Type 0 where
   pub clockNotHung : ClockNotHung
   pub hungRowsHold : HungRowsHold
   pub slowClockNeverHung : SlowClockNeverHung
+  -- What becomes of a trace from before the kind of part?
+  pub convertedAccepted : ConvertedAccepted
+  pub oldRefused : OldRefused
   -- Are there runs that meet the premises?
   pub witnessesMeet : WitnessesMeet
   -- Are the definitions the paper's?

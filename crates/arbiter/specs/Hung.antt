@@ -4,7 +4,7 @@
 use Prim.Native.Nat.{_≤_}
 use mathlib.Core.Path.{_≡_}
 use mathlib.Core.Logic.{_⊎_}
-use Rattle.arbiter.specs.Types.{ℕ, Bool, true, false, not, _||_, List, _++_, eqb, Device, Raw}
+use Rattle.arbiter.specs.Types.{ℕ, Bool, true, false, not, _||_, List, _++_, eqb, Kind, Device, Raw}
 use Rattle.arbiter.specs.State.{sclHigh, sdaHigh, sclHungLimit, sdaHungLimit, busHung}
 use Rattle.arbiter.specs.Steps.{run}
 use Rattle.arbiter.specs.AuditWords.{next, reset, ticksIn, never}
@@ -32,32 +32,33 @@ endsLowSda r d = reset r d || (sdaHigh ((next d r) .bus) || sclMoves r d)
 -- ---- the two sentences of 003, as 02 has them, of a run
 
 -- the run ends in a stretch that none of these ends, with so many ticks in it
-pub record Stretch (ends : Raw → Device → Bool) (ticks : ℕ) (rs : List Raw) : Type 0 where
+pub record Stretch (ends : Raw → Device → Bool) (ticks : ℕ) (k : Kind) (rs : List Raw) : Type 0 where
   pub before : List Raw
   pub since : List Raw
   pub whole : rs ≡ before ++ since
-  pub unbroken : never ends (run before) since ≡ true
-  pub long : ticks ≤ ticksIn (run before) since
+  pub unbroken : never ends (run k before) since ≡ true
+  pub long : ticks ≤ ticksIn (run k before) since
 
 -- "SCL low for 500 ms"
-abbrev pub SclStuck : List Raw → Type 0
-SclStuck rs = Stretch endsLowScl sclHungLimit rs
+abbrev pub SclStuck : Kind → List Raw → Type 0
+SclStuck k rs = Stretch endsLowScl sclHungLimit k rs
 
 -- "SDA low and SCL not toggling for more than 500 ms"
-abbrev pub SdaStuck : List Raw → Type 0
-SdaStuck rs = Stretch endsLowSda sdaHungLimit rs
+abbrev pub SdaStuck : Kind → List Raw → Type 0
+SdaStuck k rs = Stretch endsLowSda sdaHungLimit k rs
 
 -- BUS_HUNG is shown exactly where one of the two holds.
 abbrev pub HungExact : Type 0
-HungExact = (rs : List Raw) → (busHung ((run rs) .bus) ≡ true → SclStuck rs ⊎ SdaStuck rs) × (SclStuck rs ⊎ SdaStuck rs → busHung ((run rs) .bus) ≡ true)
+HungExact =
+    (k : Kind) (rs : List Raw) → (busHung ((run k rs) .bus) ≡ true → SclStuck k rs ⊎ SdaStuck k rs) × (SclStuck k rs ⊎ SdaStuck k rs → busHung ((run k rs) .bus) ≡ true)
 
 -- ---- the fan monitor
 
 -- in any 500 consecutive ticks of the run SCL's level changes at least once
-abbrev pub ClockRuns : List Raw → Type 0
-ClockRuns rs =
-    (before since after : List Raw) → rs ≡ before ++ since ++ after → sclHungLimit ≤ ticksIn (run before) since → never sclMoves (run before) since ≡ false
+abbrev pub ClockRuns : Kind → List Raw → Type 0
+ClockRuns k rs =
+    (before since after : List Raw) → rs ≡ before ++ since ++ after → sclHungLimit ≤ ticksIn (run k before) since → never sclMoves (run k before) since ≡ false
 
 -- Then BUS_HUNG is never set by SDA, however long SDA is low and however slow the polling.
 abbrev pub ClockNotHung : Type 0
-ClockNotHung = (rs : List Raw) → ClockRuns rs → eqb ((run rs) .bus .lowsda) sdaHungLimit ≡ false
+ClockNotHung = (k : Kind) (rs : List Raw) → ClockRuns k rs → eqb ((run k rs) .bus .lowsda) sdaHungLimit ≡ false

@@ -1,7 +1,7 @@
 -- Request #102 by examples, as STATUS and the interrupt output show them: bit 2 of STATUS is BUS_HUNG. proofs/HungRows.antt proves the table.
 -- Assumes nothing.
 use mathlib.Core.Path.{_≡_}
-use Rattle.arbiter.specs.Types.{ℕ, true, not, List, [], _∷_, _++_, Device, Raw}
+use Rattle.arbiter.specs.Types.{ℕ, true, not, List, [], _∷_, _++_, Pca9641, Device, Raw}
 use Rattle.arbiter.specs.State.{busHung}
 use Rattle.arbiter.specs.Effects.{powerUp}
 use Rattle.arbiter.specs.AuditWords.{throughout}
@@ -89,4 +89,4 @@ HungRowsHold = AsThePaper longRows × AsThePaper changedRows × AsThePaper shown
 
 -- the fan monitor: SDA stays low over 2,994 ticks of a clock that runs, and BUS_HUNG is shown at no time
 abbrev pub SlowClockNeverHung : Type 0
-SlowClockNeverHung = throughout (λ (d : Device). not (busHung (d .bus))) powerUp (lines 1 0 1 ∷ slowClock ++ slowClock ++ slowClock) ≡ true
+SlowClockNeverHung = throughout (λ (d : Device). not (busHung (d .bus))) (powerUp Pca9641) (lines 1 0 1 ∷ slowClock ++ slowClock ++ slowClock) ≡ true

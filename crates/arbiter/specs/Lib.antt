@@ -1,4 +1,5 @@
 pub mod Types
+pub mod Rules
 pub mod Words
 pub mod Parts
 pub mod Straps
@@ -12,6 +13,7 @@ pub mod Steps
 pub mod AuditWords
 pub mod Audit
 pub mod Traces
+pub mod OldTraces
 pub mod Listing
 pub mod Writing
 pub mod Marks

@@ -50,7 +50,7 @@ mostChars = headChars + lineChars * mostEvents
 
 -- "A refused trace prints one line only, R and its number"; R is 52h
 unfoldable pub listingOf : TraceRead → List ℕ → List ℕ
-listingOf (Accepted address n) t = headLine address n ++ answerLines (answersIn n t)
+listingOf (Accepted address n k) t = headLine address n ++ answerLines (answersIn k n t)
 listingOf (Refused r) t = 0x52 ∷ decimal (refusalNumber r) ++ newline
 
 -- the listing program has room for the answers of any trace

@@ -4,7 +4,7 @@
 use mathlib.Core.Path.{_≡_}
 use Prim.Native.Char.{code}
 use Prim.Native.String.{String, [] as empty, _∷_ as _then_}
-use Rattle.arbiter.specs.Types.{ℕ, zero, suc, List, [], _∷_, _++_, map, Zero, One, Turn, Claims, Raw, Answer, Strapped, Address, Unlisted}
+use Rattle.arbiter.specs.Types.{ℕ, zero, suc, List, [], _∷_, _++_, map, Zero, One, Turn, Claims, Kind, Pca9641, Tpt29641, Raw, Answer, Strapped, Address, Unlisted}
 use Rattle.arbiter.specs.Straps.{pins, addressOf}
 use Rattle.arbiter.specs.Steps.{step, run}
 use Rattle.arbiter.specs.Listing.{listing}
@@ -74,12 +74,20 @@ times (suc n) e = e ∷ times n e
 -- ---- what is asked of a fresh device
 
 -- the answer to an event that comes after these events
+abbrev pub answerOf : Kind → List Raw → Raw → Shown
+answerOf k es e = answers (step (run k es) e .answer)
+
 infix 18 after_on_
 abbrev pub after_on_ : List Raw → Raw → Shown
-after es on e = answers (step (run es) e .answer)
+after es on e = answerOf Pca9641 es e
+
+-- the same of the second source
+infix 18 second_on_
+abbrev pub second_on_ : List Raw → Raw → Shown
+second es on e = answerOf Tpt29641 es e
 
 abbrev pub turnAfter : List Raw → Shown
-turnAfter es = turn ((run es) .arb .turn)
+turnAfter es = turn ((run Pca9641 es) .arb .turn)
 
 -- ---- what the paper says
 
@@ -93,7 +101,7 @@ characters (c then s) = code c ∷ characters s
 -- ---- M1 to M11
 
 abbrev pub m1 : List ℕ
-m1 = 0x04 ∷ 0 ∷ 0 ∷ 0 ∷ 0 ∷ 0x04 ∷ 0 ∷ 0 ∷ 0 ∷ 1 ∷ 0 ∷ 1 ∷ 0 ∷ 5 ∷ 0 ∷ 3 ∷ 0 ∷ 0 ∷ 0 ∷ 2 ∷ 0 ∷ 0 ∷ 0 ∷ []
+m1 = 0x04 ∷ 0 ∷ 0 ∷ 0 ∷ 0 ∷ 0x04 ∷ 0 ∷ 0 ∷ 0 ∷ 1 ∷ 0 ∷ 1 ∷ 0 ∷ 5 ∷ 0 ∷ 3 ∷ 0 ∷ 0 ∷ 0 ∷ 2 ∷ 0 ∷ 0 ∷ 0 ∷ 1 ∷ 0 ∷ []
 
 abbrev pub reserve2 : List Raw
 reserve2 = sets 0 3 2 ++ sets 0 1 0x01
@@ -167,6 +175,19 @@ paidFor =
     -- a write pointer stays at 7: a second byte is still acknowledged; a read pointer goes to 0, the ID
     ∷ (after command 0 0x87 ∷ write 0 0x11 ∷ [] on write 0 0x22 is bytes 0 0 0x00 0x0C)
     ∷ (after command 0 0x87 ∷ read 0 ∷ [] on read 0 is bytes 0 0x38 0x00 0x0C)
+    -- but the second source's rolls to 0, where a byte is not acknowledged and moves it to 1
+    ∷ (second command 0 0x87 ∷ write 0 0x11 ∷ [] on write 0 0x22 is bytes 1 0 0x00 0x0C)
+    ∷ (second command 0 0x87 ∷ write 0 0x11 ∷ write 0 0x22 ∷ write 0 0x01 ∷ [] on stop 0 is bytes 0 0 0x01 0x0C)
+    -- so too in a PAIR, and the byte after that is CONTR's
+    ∷ (second command 0 0x87 ∷ command 1 0x87 ∷ pair 0x11 0x22 ∷ [] on pair 0x33 0x44 is bytes 1 0 0x00 0x0C)
+    ∷ (second command 0 0x87 ∷ command 1 0x87 ∷ pair 0x11 0x22 ∷ pair 0x33 0x44 ∷ pair 0x01 0x00 ∷ [] on stop 0 is bytes 0 0 0x01 0x0C)
+    -- and its idle timer, M5: owner after 150 idle ticks, lost at 151; so too after a reset
+    ∷ (second sets 0 1 0x21 ++ times 149 tick on tick is bytes 0 0 0x01 0x0C)
+    ∷ (second sets 0 1 0x21 ++ times 150 tick on tick is bytes 0 0 0x00 0x0C)
+    ∷ (second raw 8 0 0 0 ∷ sets 0 1 0x21 ++ times 149 tick on tick is bytes 0 0 0x01 0x0C)
+    -- a timer set late: at 150 idle ticks the grant stays, at 151 it ends in that WRITE
+    ∷ (second sets 0 1 0x01 ++ times 150 tick ++ command 0 1 ∷ [] on write 0 0x21 is bytes 0 0 0x01 0x0C)
+    ∷ (second sets 0 1 0x01 ++ times 151 tick ++ command 0 1 ∷ [] on write 0 0x21 is bytes 0 0 0x00 0x0C)
     ∷ []
 
 -- ---- the winner table, seen from outside: both ask in one PAIR, and both stop

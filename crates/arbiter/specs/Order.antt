@@ -6,7 +6,7 @@ use Rattle.arbiter.specs.Parts.{withLockReq, withBusConnect, withBusInit
 use Rattle.arbiter.specs.State.{atRest, sclHigh, sdaHigh, isIdle}
 use Rattle.arbiter.specs.Registers.{grantedInt, lostInt, raised, disconnected, released}
 use Rattle.arbiter.specs.Events.{master, softReset}
-use Rattle.arbiter.specs.Effects.{idleLimit}
+use Rattle.arbiter.specs.Rules.{idleLimit}
 
 -- ---- what a part asks of the event
 
@@ -88,22 +88,22 @@ levels reset before d = withBus (settledBus (busyAfter reset before (d .bus)) (s
 -- ---- 3. losses
 
 -- "The granted master loses if its reserve was 1 to 255 and that many ticks have passed since the grant, and the bus is idle. With
--- reserve 00h, it loses exactly if IDLE_TIMER_DIS is 1 and the idle count is 101." RT does not change while granted, so the owner's RT
+-- reserve 00h, it loses exactly if IDLE_TIMER_DIS is 1 and the idle count is" at its limit. RT does not change while granted, so the owner's RT
 -- is the reserve of its grant.
-abbrev pub runsOut : Side → ℕ → Bus → Bool
-runsOut s reserve b = if eqb (s .rt) 0 then s .contr .idletimer && eqb (b .idle) idleLimit else eqb reserve 0 && isIdle b
+abbrev pub runsOut : ℕ → Side → ℕ → Bus → Bool
+runsOut limit s reserve b = if eqb (s .rt) 0 then s .contr .idletimer && eqb (b .idle) limit else eqb reserve 0 && isIdle b
 
 -- "A loss clears LOCK_REQ and sets its bit 1."
 abbrev pub loser : Side → Side
 loser s = withInts (raised lostInt true (s .ints)) (withContr (withLockReq false (s .contr)) s)
 
 unfoldable pub lost : Master → Device → Device
-lost m d = device m (disconnected (loser (side m d))) (side (partner m) d) (released (d .bus)) (withTurn Nobody (d .arb))
+lost m d = device m (disconnected (loser (side m d))) (side (partner m) d) (released (d .bus)) (withTurn Nobody (d .arb)) d
 
 unfoldable pub lossesFrom : Turn → Device → Device
 lossesFrom Nobody d = d
 lossesFrom (Claims m) d = d
-lossesFrom (Owns m) d = if runsOut (side m d) (d .arb .reserve) (d .bus) then lost m d else d
+lossesFrom (Owns m) d = if runsOut (idleLimit d) (side m d) (d .arb .reserve) (d .bus) then lost m d else d
 
 unfoldable pub losses : Device → Device
 losses d = lossesFrom (d .arb .turn) d
@@ -173,7 +173,7 @@ grantedArb m rt a = record { last = Was m; initfail = a .initfail; switch = a .s
 
 unfoldable pub granted : Master → Device → Device
 granted m d =
-    device m (withInts (raised grantedInt true ((side m d) .ints)) (side m d)) (side (partner m) d) (withIdle 0 (d .bus)) (grantedArb m ((side m d) .rt) (d .arb))
+    device m (withInts (raised grantedInt true ((side m d) .ints)) (side m d)) (side (partner m) d) (withIdle 0 (d .bus)) (grantedArb m ((side m d) .rt) (d .arb)) d
 
 unfoldable pub grantFrom : Turn → Device → Device
 grantFrom Nobody d = d

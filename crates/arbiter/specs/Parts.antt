@@ -70,10 +70,10 @@ withInitFail x a = record { last = a .last; initfail = x; switch = a .switch; re
 -- ---- the device
 
 abbrev pub withSide : Master → Side → Device → Device
-withSide m x d = device m x (side (partner m) d) (d .bus) (d .arb)
+withSide m x d = device m x (side (partner m) d) (d .bus) (d .arb) d
 
 abbrev pub withBus : Bus → Device → Device
-withBus x d = record { side0 = d .side0; side1 = d .side1; bus = x; arb = d .arb }
+withBus x d = record { side0 = d .side0; side1 = d .side1; bus = x; arb = d .arb; kind = d .kind }
 
 abbrev pub withArb : Arbitration → Device → Device
-withArb x d = record { side0 = d .side0; side1 = d .side1; bus = d .bus; arb = x }
+withArb x d = record { side0 = d .side0; side1 = d .side1; bus = d .bus; arb = x; kind = d .kind }

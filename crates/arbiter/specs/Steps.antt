@@ -1,6 +1,6 @@
 -- Document 01, "Order inside a step" as a whole, "Answers", and a run of events from power-up.
 -- Assumes nothing.
-use Rattle.arbiter.specs.Types.{ℕ, _+_, _*_, List, [], _∷_, Master, Zero, One, Turn, Nobody, Claims, Owns, Switch, Apart, Initialising, Closed, Device, Raw, Event, Command, Write, Read, Stop, Pair, Lines, Tick, Pulse, Reset, GeneralCall, Decoded, Reads, UnknownKind, BadField, OutOfSequence, Answer, Stepped}
+use Rattle.arbiter.specs.Types.{ℕ, _+_, _*_, List, [], _∷_, Master, Zero, One, Turn, Nobody, Claims, Owns, Switch, Apart, Initialising, Closed, Kind, Device, Raw, Event, Command, Write, Read, Stop, Pair, Lines, Tick, Pulse, Reset, GeneralCall, Decoded, Reads, UnknownKind, BadField, OutOfSequence, Answer, Stepped}
 use Rattle.arbiter.specs.Words.{if_then_else_, worth, side}
 use Rattle.arbiter.specs.State.{isInitialising, sclHigh, sdaHigh}
 use Rattle.arbiter.specs.Registers.{readsAt, output}
@@ -84,5 +84,5 @@ unfoldable pub answersFrom : Device → List Raw → List Answer
 answersFrom d [] = []
 answersFrom d (r ∷ rs) = step d r .answer ∷ answersFrom (step d r .device) rs
 
-unfoldable pub run : List Raw → Device
-run rs = runFrom powerUp rs
+unfoldable pub run : Kind → List Raw → Device
+run k rs = runFrom (powerUp k) rs

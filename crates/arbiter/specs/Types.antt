@@ -23,6 +23,8 @@ pub use Rattle.arbiter.specs.declared.Bus.{Bus}
 pub use Rattle.arbiter.specs.declared.Switch.{Switch}
 pub use Rattle.arbiter.specs.declared.Switch.the-variants.{Apart, Initialising, Closed}
 pub use Rattle.arbiter.specs.declared.Arbitration.{Arbitration}
+pub use Rattle.arbiter.specs.declared.Kind.{Kind}
+pub use Rattle.arbiter.specs.declared.Kind.the-variants.{Pca9641, Tpt29641}
 pub use Rattle.arbiter.specs.declared.Device.{Device}
 pub use Rattle.arbiter.specs.declared.Raw.{Raw}
 pub use Rattle.arbiter.specs.declared.Event.{Event}
@@ -41,7 +43,7 @@ pub use Rattle.arbiter.specs.declared.Strapped.the-variants.{Address, Un
 pub use Rattle.arbiter.specs.declared.Strapping.{Strapping}
 pub use Rattle.arbiter.specs.declared.Strapping.the-variants.{Straps, Outside}
 pub use Rattle.arbiter.specs.declared.Refusal.{Refusal}
-pub use Rattle.arbiter.specs.declared.Refusal.the-variants.{TraceCut, TooManyEvents, BytesAfterEnd, BadStraps, NoRoom, BadCount}
+pub use Rattle.arbiter.specs.declared.Refusal.the-variants.{TraceCut, TooManyEvents, BytesAfterEnd, BadStraps, NoRoom, BadCount, UnknownPart}
 pub use Rattle.arbiter.specs.declared.TraceRead.{TraceRead}
 pub use Rattle.arbiter.specs.declared.TraceRead.the-variants.{Accepted, Refused}
 pub use Rattle.arbiter.specs.declared.Report.{Report}

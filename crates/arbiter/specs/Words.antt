@@ -43,6 +43,6 @@ of One x y = y
 abbrev pub side : Master → Device → Side
 side m d = of m (d .side0) (d .side1)
 
--- the device of m's side, its partner's side, the bus and the arbitration
-abbrev pub device : Master → Side → Side → Bus → Arbitration → Device
-device m s p b a = record { side0 = of m s p; side1 = of m p s; bus = b; arb = a }
+-- the device d with m's side, its partner's side, the bus and the arbitration replaced
+abbrev pub device : Master → Side → Side → Bus → Arbitration → Device → Device
+device m s p b a d = record { side0 = of m s p; side1 = of m p s; bus = b; arb = a; kind = d .kind }

@@ -2,8 +2,10 @@
 
 // ---- limits
 
-// The idle count stops here, and an owner with RT 00h and IDLE_TIMER_DIS then loses: idleLimit in specs/Effects.
-pub const IDLE_LIMIT: u8 = 101;
+// The idle count stops here, and an owner with RT 00h and IDLE_TIMER_DIS then loses: rulesOf in specs/Rules, one for each kind of part.
+pub const PCA9641_IDLE_LIMIT: u8 = 101;
+
+pub const TPT29641_IDLE_LIMIT: u8 = 151;
 
 // A low count stops here, and the bus is hung: sclHungLimit and sdaHungLimit in specs/State.
 pub const SCL_HUNG_LIMIT: u16 = 500;
@@ -120,7 +122,14 @@ pub struct Arbitration {
     pub turn: Turn,
 }
 
+// The kind of part: the PCA9641 of source document 003, or the TPT29641 of 000.
+pub enum Kind {
+    Pca9641,
+    Tpt29641,
+}
+
 pub struct Device {
+    pub kind: Kind,
     pub side0: Side,
     pub side1: Side,
     pub bus: Bus,
@@ -216,11 +225,12 @@ pub enum Refusal {
     BadStraps,
     NoRoom,
     BadCount,
+    UnknownPart,
 }
 
-// A trace is accepted, with its address and its count of events, or refused.
+// A trace is accepted, with its address, its count of events and its kind of part, or refused.
 pub enum TraceRead {
-    Accepted(u8, usize),
+    Accepted(u8, usize, Kind),
     Refused(Refusal),
 }
 
