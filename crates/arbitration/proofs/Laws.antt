@@ -5,6 +5,7 @@ use mathlib.Core.Bool.{Bool, true, false, not, _&&_, _||_}
 use Prim.Native.Nat.{ℕ}
 use lib.Dec.{eqb}
 use lib.Bits.{bitOr}
+use Rattle.arbiter.specs.Rules.{idleLimit}
 use Rattle.arbiter.specs.Words.{if_then_else_}
 use Rattle.arbiter.specs.Parts.{withContr, withInts, withIdle, withTurn}
 use Rattle.arbiter.specs.State.{atRest, ownsTurn}
@@ -38,31 +39,31 @@ abbrev lossesWith : Bool → Bool → Device → Device
 lossesWith lost0 lost1 d =
     deviceWith (if lost0 then disconnected (loser (d .side0)) else d .side0) (if lost1 then disconnected (loser (d .side1)) else d .side1)
     (if lost0 || lost1 then released (d .bus) else d .bus)
-    (withTurn (if lost0 || lost1 then Nobody else d .arb .turn) (d .arb))
+    (withTurn (if lost0 || lost1 then Nobody else d .arb .turn) (d .arb)) d
 
-losses-from : (t : Turn) (d : Device) → lossesWith (ownsTurn Zero t && runsOut (d .side0) (d .arb .reserve) (d .bus)) (ownsTurn One t && runsOut (d .side1) (d .arb .reserve) (d .bus)) d ≡ lossesFrom t d
+losses-from : (t : Turn) (d : Device) → lossesWith (ownsTurn Zero t && runsOut (idleLimit d) (d .side0) (d .arb .reserve) (d .bus)) (ownsTurn One t && runsOut (idleLimit d) (d .side1) (d .arb .reserve) (d .bus)) d ≡ lossesFrom t d
 unfolding lossesFrom lost
 losses-from Nobody d = refl
 losses-from (Claims m) d = refl
-losses-from (Owns Zero) d = go (runsOut (d .side0) (d .arb .reserve) (d .bus))
+losses-from (Owns Zero) d = go (runsOut (idleLimit d) (d .side0) (d .arb .reserve) (d .bus))
   where
     go : (out : Bool) → lossesWith out false d ≡ (if out then lost Zero d else d)
     go true = refl
     go false = refl
-losses-from (Owns One) d = go (runsOut (d .side1) (d .arb .reserve) (d .bus))
+losses-from (Owns One) d = go (runsOut (idleLimit d) (d .side1) (d .arb .reserve) (d .bus))
   where
     go : (out : Bool) → lossesWith false out d ≡ (if out then lost One d else d)
     go true = refl
     go false = refl
 
-pub losses-law : (d : Device) → lossesWith (ownsTurn Zero (d .arb .turn) && runsOut (d .side0) (d .arb .reserve) (d .bus)) (ownsTurn One (d .arb .turn) && runsOut (d .side1) (d .arb .reserve) (d .bus)) d ≡ lossesFrom (d .arb .turn) d
+pub losses-law : (d : Device) → lossesWith (ownsTurn Zero (d .arb .turn) && runsOut (idleLimit d) (d .side0) (d .arb .reserve) (d .bus)) (ownsTurn One (d .arb .turn) && runsOut (idleLimit d) (d .side1) (d .arb .reserve) (d .bus)) d ≡ lossesFrom (d .arb .turn) d
 losses-law d = losses-from (d .arb .turn) d
 
 -- ---- the cut
 
 abbrev cutWith : Bool → Bool → Device → Device
 cutWith cut0 cut1 d =
-    deviceWith (if cut0 then disconnected (d .side0) else d .side0) (if cut1 then disconnected (d .side1) else d .side1) (d .bus) (d .arb)
+    deviceWith (if cut0 then disconnected (d .side0) else d .side0) (if cut1 then disconnected (d .side1) else d .side1) (d .bus) (d .arb) d
 
 cut-from : (tick : Bool) (t : Turn) (d : Device) → cutWith (ownsTurn Zero t && (tick && eqb (d .bus .lowscl) cutTicks && d .side0 .contr .smbusdis)) (ownsTurn One t && (tick && eqb (d .bus .lowscl) cutTicks && d .side1 .contr .smbusdis)) d ≡ cutFrom tick t d
 unfolding cutFrom
@@ -70,12 +71,12 @@ cut-from tick Nobody d = refl
 cut-from tick (Claims m) d = refl
 cut-from tick (Owns Zero) d = go (tick && eqb (d .bus .lowscl) cutTicks && d .side0 .contr .smbusdis)
   where
-    go : (on : Bool) → cutWith on false d ≡ (if on then deviceWith (disconnected (d .side0)) (d .side1) (d .bus) (d .arb) else d)
+    go : (on : Bool) → cutWith on false d ≡ (if on then deviceWith (disconnected (d .side0)) (d .side1) (d .bus) (d .arb) d else d)
     go true = refl
     go false = refl
 cut-from tick (Owns One) d = go (tick && eqb (d .bus .lowscl) cutTicks && d .side1 .contr .smbusdis)
   where
-    go : (on : Bool) → cutWith false on d ≡ (if on then deviceWith (d .side0) (disconnected (d .side1)) (d .bus) (d .arb) else d)
+    go : (on : Bool) → cutWith false on d ≡ (if on then deviceWith (d .side0) (disconnected (d .side1)) (d .bus) (d .arb) d else d)
     go true = refl
     go false = refl
 
@@ -92,13 +93,13 @@ abbrev grantWith : Bool → Bool → Device → Device
 grantWith to0 to1 d =
     deviceWith (withInts (raised grantedInt to0 (d .side0 .ints)) (d .side0)) (withInts (raised grantedInt to1 (d .side1 .ints)) (d .side1))
     (withIdle (if not (to0 || to1) then d .bus .idle else 0) (d .bus))
-    (if to0 || to1 then grantedArb (if to1 then One else Zero) (if to1 then d .side1 .rt else d .side0 .rt) (d .arb) else d .arb)
+    (if to0 || to1 then grantedArb (if to1 then One else Zero) (if to1 then d .side1 .rt else d .side0 .rt) (d .arb) else d .arb) d
 
 -- granted to nobody
 ungranted : (d : Device) → grantWith false false d ≡ d
 ungranted d =
-    ap (λ (s : Side). deviceWith s (withInts (bitOr (d .side1 .ints) 0) (d .side1)) (d .bus) (d .arb)) (unraised (d .side0))
-    ∙ ap (λ (s : Side). deviceWith (d .side0) s (d .bus) (d .arb)) (unraised (d .side1))
+    ap (λ (s : Side). deviceWith s (withInts (bitOr (d .side1 .ints) 0) (d .side1)) (d .bus) (d .arb) d) (unraised (d .side0))
+    ∙ ap (λ (s : Side). deviceWith (d .side0) s (d .bus) (d .arb) d) (unraised (d .side1))
 
 grant-from : (t : Turn) (d : Device) → grantWith (claimsTurn Zero t && (atRest (d .side0 .port) && eqb (d .bus .hold) 0)) (claimsTurn One t && (atRest (d .side1 .port) && eqb (d .bus .hold) 0)) d ≡ grantFrom t d
 unfolding grantFrom granted
@@ -107,12 +108,12 @@ grant-from (Owns m) d = ungranted d
 grant-from (Claims Zero) d = go (atRest (d .side0 .port) && eqb (d .bus .hold) 0)
   where
     go : (on : Bool) → grantWith on false d ≡ (if on then granted Zero d else d)
-    go true = ap (λ (s : Side). deviceWith (withInts (raised grantedInt true (d .side0 .ints)) (d .side0)) s (withIdle 0 (d .bus)) (grantedArb Zero (d .side0 .rt) (d .arb))) (unraised (d .side1))
+    go true = ap (λ (s : Side). deviceWith (withInts (raised grantedInt true (d .side0 .ints)) (d .side0)) s (withIdle 0 (d .bus)) (grantedArb Zero (d .side0 .rt) (d .arb)) d) (unraised (d .side1))
     go false = ungranted d
 grant-from (Claims One) d = go (atRest (d .side1 .port) && eqb (d .bus .hold) 0)
   where
     go : (on : Bool) → grantWith false on d ≡ (if on then granted One d else d)
-    go true = ap (λ (s : Side). deviceWith s (withInts (raised grantedInt true (d .side1 .ints)) (d .side1)) (withIdle 0 (d .bus)) (grantedArb One (d .side1 .rt) (d .arb))) (unraised (d .side0))
+    go true = ap (λ (s : Side). deviceWith s (withInts (raised grantedInt true (d .side1 .ints)) (d .side1)) (withIdle 0 (d .bus)) (grantedArb One (d .side1 .rt) (d .arb)) d) (unraised (d .side0))
     go false = ungranted d
 
 pub grant-law : (d : Device) → grantWith (claimsTurn Zero (d .arb .turn) && (atRest (d .side0 .port) && eqb (d .bus .hold) 0)) (claimsTurn One (d .arb .turn) && (atRest (d .side1 .port) && eqb (d .bus .hold) 0)) d ≡ grantFrom (d .arb .turn) d

@@ -2,6 +2,7 @@
 -- Assumes nothing.
 use mathlib.Core.Path.{_≡_, refl, ap}
 use mathlib.Core.Bool.{Bool, true, false, not, _&&_, false≢true}
+use Rattle.arbiter.specs.Rules.{idleLimit}
 use Rattle.arbiter.specs.Words.{side}
 use Rattle.arbiter.specs.Parts.{withTurn, withArb, withSide}
 use Rattle.arbiter.specs.Registers.{disconnected}
@@ -19,7 +20,7 @@ losses-quiet : (t : Turn) (d : Device) → noLoss t d ≡ true → lossesFrom t 
 unfolding lossesFrom
 losses-quiet Nobody d q = refl
 losses-quiet (Claims m) d q = refl
-losses-quiet (Owns m) d q = if-false (lost m d) d (not-true (runsOut (side m d) (d .arb .reserve) (d .bus)) q)
+losses-quiet (Owns m) d q = if-false (lost m d) d (not-true (runsOut (idleLimit d) (side m d) (d .arb .reserve) (d .bus)) q)
 
 pub no-loss : (d : Device) → noLoss (d .arb .turn) d ≡ true → losses d ≡ d
 unfolding losses

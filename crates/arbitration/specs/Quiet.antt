@@ -2,6 +2,7 @@
 -- Assumes nothing.
 use mathlib.Core.Bool.{Bool, true, not, _&&_}
 use lib.Dec.{eqb}
+use Rattle.arbiter.specs.Rules.{idleLimit}
 use Rattle.arbiter.specs.Words.{side}
 use Rattle.arbiter.specs.State.{atRest}
 use Rattle.arbiter.specs.Order.{runsOut, cutTicks}
@@ -15,7 +16,7 @@ use Rattle.arbiter.specs.declared.Device.{Device}
 abbrev pub noLoss : Turn → Device → Bool
 noLoss Nobody d = true
 noLoss (Claims m) d = true
-noLoss (Owns m) d = not (runsOut (side m d) (d .arb .reserve) (d .bus))
+noLoss (Owns m) d = not (runsOut (idleLimit d) (side m d) (d .arb .reserve) (d .bus))
 
 -- part 4: the owner is not cut off
 abbrev pub isCut : Bool → Side → Bus → Bool

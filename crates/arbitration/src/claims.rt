@@ -114,6 +114,7 @@ pub fn claim_of(d: Device) -> Device
         d.side1,
         d.bus,
         with_turn(claim_after(turn_of(d.arb), d), d.arb),
+        d,
     )
 }
 
@@ -199,6 +200,7 @@ pub fn grant_of(d: Device) -> Device
         told_if(to1, d.side1),
         idle_kept(!(to0 | to1), d.bus),
         granted_if(to0 | to1, m, rt, d.arb),
+        d,
     )
 }
 

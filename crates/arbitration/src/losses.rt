@@ -10,13 +10,13 @@ use arbiter::Bus;
 use arbiter::CUT_TICKS;
 use arbiter::Control;
 use arbiter::Device;
-use arbiter::IDLE_LIMIT;
 use arbiter::Master;
 use arbiter::Side;
 use arbiter::Turn;
 use bus::is_idle;
 use bus::released_if;
 use fields::device_with;
+use fields::idle_limit;
 use fields::owns_turn;
 use fields::pick_turn;
 use fields::pointer_of;
@@ -28,12 +28,12 @@ use registers::raised_in;
 
 // ---- 3. losses
 
-// The grant of the master with this side runs out.
-fn runs_out(s: Side, reserve: u8, b: Bus) -> bool
-    ensures { λ r. ⌜ r ≡ runsOut s reserve b ⌝ }
+// The grant of the master with this side runs out, the idle timer's limit being this one.
+fn runs_out(limit: u8, s: Side, reserve: u8, b: Bus) -> bool
+    ensures { λ r. ⌜ r ≡ runsOut limit s reserve b ⌝ }
 {
     if s.rt == 0 {
-        s.contr.idletimer & (b.idle == IDLE_LIMIT)
+        s.contr.idletimer & (b.idle == limit)
     } else {
         (reserve == 0) & is_idle(b)
     }
@@ -72,14 +72,18 @@ fn lost_if(on: bool, s: Side) -> Side
 pub fn losses_of(d: Device) -> Device
     ensures { λ r. ⌜ r ≡ losses d ⌝ }
 {
-    let lost0 = owns_turn(Master::Zero, turn_of(d.arb)) & runs_out(d.side0, d.arb.reserve, d.bus);
-    let lost1 = owns_turn(Master::One, turn_of(d.arb)) & runs_out(d.side1, d.arb.reserve, d.bus);
+    let limit = idle_limit(d);
+    let lost0 = owns_turn(Master::Zero, turn_of(d.arb))
+        & runs_out(limit, d.side0, d.arb.reserve, d.bus);
+    let lost1 = owns_turn(Master::One, turn_of(d.arb))
+        & runs_out(limit, d.side1, d.arb.reserve, d.bus);
     let turn = pick_turn(lost0 | lost1, Turn::Nobody, turn_of(d.arb));
     device_with(
         lost_if(lost0, d.side0),
         lost_if(lost1, d.side1),
         released_if(lost0 | lost1, d.bus),
         with_turn(turn, d.arb),
+        d,
     )
 }
 
@@ -87,12 +91,13 @@ pub fn losses_of(d: Device) -> Device
 pub fn no_loss(t: Turn, d: Device) -> bool
     ensures { λ r. ⌜ r ≡ noLoss t d ⌝ }
 {
+    let limit = idle_limit(d);
     match t {
         Turn::Nobody => true,
         Turn::Claims(_) => true,
         Turn::Owns(m) => match m {
-            Master::Zero => !runs_out(d.side0, d.arb.reserve, d.bus),
-            Master::One => !runs_out(d.side1, d.arb.reserve, d.bus),
+            Master::Zero => !runs_out(limit, d.side0, d.arb.reserve, d.bus),
+            Master::One => !runs_out(limit, d.side1, d.arb.reserve, d.bus),
         },
     }
 }
@@ -141,7 +146,13 @@ pub fn cut_at(tick: bool, d: Device) -> Device
 {
     let cut0 = owns_turn(Master::Zero, turn_of(d.arb)) & is_cut(tick, d.side0, d.bus);
     let cut1 = owns_turn(Master::One, turn_of(d.arb)) & is_cut(tick, d.side1, d.bus);
-    device_with(cut_if(cut0, d.side0), cut_if(cut1, d.side1), d.bus, d.arb)
+    device_with(
+        cut_if(cut0, d.side0),
+        cut_if(cut1, d.side1),
+        d.bus,
+        d.arb,
+        d,
+    )
 }
 
 // Part 4 has nothing to do: there is no owner, or it is not cut off.

@@ -1,15 +1,21 @@
 // The bench: one standing device, lent to each event of the trace on standard input. It prints what the listing does.
 ghost use Prim.Native.Nat.{_≤_};
 ghost use mathlib.Core.Path.{_≡_};
+ghost use Rattle.arbiter.specs.Effects.{powerUp};
 ghost use Rattle.arbiter.specs.Steps.{run};
 ghost use Rattle.arbiter.specs.Traces.{mostEvents, rawsIn, eventCount};
+ghost use Rattle.format.specs.Places.{eventsPart, eventAt, kindIn};
 use arbiter::Answer;
 use arbiter::Device;
+use arbiter::Raw;
 use arbiter::TraceRead;
 use format::ANSWER_ROOM;
 use format::MOST_BYTES;
+use format::count_in;
 use format::event_at;
 use format::events_in;
+use format::kind_at;
+use format::kind_of;
 use lent::step_lent;
 use libc::STDIN_FILENO;
 use libc::STDOUT_FILENO;
@@ -58,16 +64,30 @@ fn print_answer(a: Answer) {
 
 // ---- the standing device
 
-// The first n events of these bytes, each answered by a line. The device stands here from power-up on: each step has it lent, and leaves
-// the new state in it.
-fn drive(events: &[u8], n: usize) -> Device
-    requires { ⌜ n ≤ eventCount (now events) ⌝ }
-    ensures { λ r. ⌜ r ≡ run (rawsIn n (now (events .entry))) ⌝ }
+// Power-up of the kind of part that a trace names.
+fn fresh_for(t: &[u8]) -> Device
+    ensures { λ r. ⌜ r ≡ powerUp (kindIn (now (t .entry))) ⌝ }
 {
-    let mut standing = fresh();
+    fresh(kind_of(kind_at(t, count_in(t))))
+}
+
+// Event i of a trace.
+fn event_of(t: &[u8], i: usize) -> Raw
+    ensures { λ r. ⌜ r ≡ eventAt i (eventsPart (now (t .entry))) ⌝ }
+{
+    event_at(events_in(t), i)
+}
+
+// The first n events of a trace, each answered by a line. The device stands here from power-up on: each step has it lent, and leaves
+// the new state in it.
+fn drive(t: &[u8], n: usize) -> Device
+    requires { ⌜ n ≤ eventCount (eventsPart (now t)) ⌝ }
+    ensures { λ r. ⌜ r ≡ run (kindIn (now (t .entry))) (rawsIn n (eventsPart (now (t .entry)))) ⌝ }
+{
+    let mut standing = fresh_for(t);
     let mut i: usize = 0;
     while i < n {
-        let r = event_at(events, i);
+        let r = event_of(t, i);
         let a = step_lent(&mut standing, r);
         print_answer(a);
         i += 1;
@@ -77,11 +97,11 @@ fn drive(events: &[u8], n: usize) -> Device
 
 // ---- the program
 
-fn print_accepted(events: &[u8], address: u8, n: usize)
-    requires { ⌜ (n ≤ eventCount (now events)) × (n ≤ mostEvents) ⌝ }
+fn print_accepted(t: &[u8], address: u8, n: usize)
+    requires { ⌜ (n ≤ eventCount (eventsPart (now t))) × (n ≤ mostEvents) ⌝ }
 {
     print_head(address, n);
-    drive(events, n);
+    drive(t, n);
 }
 
 // A refused trace has no events to drive: its listing is its number.
@@ -91,7 +111,7 @@ fn print_trace(t: &[u8]) {
         TraceRead::Refused(_) => {
             print_listing(t);
         }
-        TraceRead::Accepted(address, n) => print_accepted(events_in(t), address, n),
+        TraceRead::Accepted(address, n, _) => print_accepted(t, address, n),
     }
 }
 

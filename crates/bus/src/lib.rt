@@ -8,7 +8,6 @@ ghost use Rattle.arbiter.specs.Registers.{released};
 ghost use Rattle.arbiter.specs.Effects.{outside, tickedBus};
 ghost use Rattle.arbiter.specs.Order.{busyAfter, sclChanged, settledBus};
 use arbiter::Bus;
-use arbiter::IDLE_LIMIT;
 use arbiter::SCL_HUNG_LIMIT;
 use arbiter::SDA_HUNG_LIMIT;
 use bits::counted_u8;
@@ -59,9 +58,9 @@ pub fn outside_of(scl: bool, sda: bool, intin: bool, b: Bus) -> Bus
     }
 }
 
-// A tick of the hold and of the counts, by the levels before it.
-pub fn ticked_bus(b: Bus) -> Bus
-    ensures { λ r. ⌜ r ≡ tickedBus b ⌝ }
+// A tick of the hold and of the counts, by the levels before it; the idle count stops at this limit.
+pub fn ticked_bus(limit: u8, b: Bus) -> Bus
+    ensures { λ r. ⌜ r ≡ tickedBus limit b ⌝ }
 {
     let scl = scl_high(b);
     let sda = sda_high(b);
@@ -74,7 +73,7 @@ pub fn ticked_bus(b: Bus) -> Bus
         drivesda: b.drivesda,
         busy: b.busy,
         hold: less_one(b.hold),
-        idle: counted_u8(IDLE_LIMIT, idle, b.idle),
+        idle: counted_u8(limit, idle, b.idle),
         lowscl: counted_u16(SCL_HUNG_LIMIT, !scl, b.lowscl),
         lowsda: counted_u16(SDA_HUNG_LIMIT, !sda, b.lowsda),
     }

@@ -28,10 +28,10 @@ endedSide ends fails s = withContr (contrEnded ends fails (s .contr)) s
 
 -- the owner's link, put into the device
 abbrev put : Master → Link → Device → Device
-put m l d = device m (endedSide (l .ends) (l .fails) (side m d)) (side (partner m) d) (d .bus) (arbLinked l (d .arb))
+put m l d = device m (endedSide (l .ends) (l .fails) (side m d)) (side (partner m) d) (d .bus) (arbLinked l (d .arb)) d
 
 -- both sides as they were
-kept-sides : (m : Master) (a : Arbitration) (d : Device) → device m (side m d) (side (partner m) d) (d .bus) a ≡ withArb a d
+kept-sides : (m : Master) (a : Arbitration) (d : Device) → device m (side m d) (side (partner m) d) (d .bus) a d ≡ withArb a d
 kept-sides Zero a d = refl
 kept-sides One a d = refl
 
@@ -89,7 +89,7 @@ put-owner c m d = go ((side m d) .contr .busconnect)
 abbrev connectWith : Bool → Bool → Link → Device → Device
 connectWith owns0 owns1 l d =
     deviceWith (endedSide (owns0 && l .ends) (owns0 && l .fails) (d .side0)) (endedSide (owns1 && l .ends) (owns1 && l .fails) (d .side1)) (d .bus)
-    (arbLinked l (d .arb))
+    (arbLinked l (d .arb)) d
 
 connect-from : (c : Clock) (t : Turn) (d : Device) → connectWith (ownsTurn Zero t) (ownsTurn One t) (linkOf c t (d .side0 .contr) (d .side1 .contr) (d .arb .switch)) d ≡ connectFrom c t d
 unfolding linkOf connectFrom

@@ -195,6 +195,7 @@ pub fn connect_of(c: Clock, d: Device) -> Device
         ended_side(owns1 & l.ends, owns1 & l.fails, d.side1),
         d.bus,
         linked_arb(l, d.arb),
+        d,
     )
 }
 

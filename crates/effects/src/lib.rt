@@ -17,6 +17,7 @@ use events::acknowledged_number;
 use events::outcome_number;
 use fields::arb_with;
 use fields::device_with;
+use fields::idle_limit;
 use fields::last_of;
 use fields::owns_turn;
 use fields::pointer_of;
@@ -63,12 +64,12 @@ fn on_command(m: Master, c: u8, d: Device) -> Effect
     let number = acknowledged_number(c / 8 % 16 == 0);
     match m {
         Master::Zero => did_so(
-            device_with(commanded_side(c, d.side0), d.side1, d.bus, d.arb),
+            device_with(commanded_side(c, d.side0), d.side1, d.bus, d.arb, d),
             number,
             0,
         ),
         Master::One => did_so(
-            device_with(d.side0, commanded_side(c, d.side1), d.bus, d.arb),
+            device_with(d.side0, commanded_side(c, d.side1), d.bus, d.arb, d),
             number,
             0,
         ),
@@ -133,6 +134,7 @@ fn on_read(m: Master, d: Device) -> Effect
                 sender_side(empties_own(d.side0), d.side1),
                 d.bus,
                 d.arb,
+                d,
             ),
             outcome_number(Outcome::Done),
             register_byte(owns0, owns1, d.side0, d.side1, d.bus, d.arb.initfail),
@@ -143,6 +145,7 @@ fn on_read(m: Master, d: Device) -> Effect
                 reader_side(d.side1),
                 d.bus,
                 d.arb,
+                d,
             ),
             outcome_number(Outcome::Done),
             register_byte(owns1, owns0, d.side1, d.side0, d.bus, d.arb.initfail),
@@ -159,7 +162,7 @@ fn stop_by_0(d: Device) -> Effect
         did_so(d, outcome_number(Outcome::OutOfSequence), 0)
     } else {
         did_so(
-            device_with(stopped_side(d.side0), d.side1, d.bus, d.arb),
+            device_with(stopped_side(d.side0), d.side1, d.bus, d.arb, d),
             outcome_number(Outcome::Done),
             0,
         )
@@ -173,7 +176,7 @@ fn stop_by_1(d: Device) -> Effect
         did_so(d, outcome_number(Outcome::OutOfSequence), 0)
     } else {
         did_so(
-            device_with(d.side0, stopped_side(d.side1), d.bus, d.arb),
+            device_with(d.side0, stopped_side(d.side1), d.bus, d.arb, d),
             outcome_number(Outcome::Done),
             0,
         )
@@ -201,6 +204,7 @@ fn on_lines(scl: bool, sda: bool, intin: bool, d: Device) -> Effect
             fallen_side(fell, d.side1),
             outside_of(scl, sda, intin, d.bus),
             d.arb,
+            d,
         ),
         outcome_number(Outcome::Done),
         0,
@@ -222,8 +226,15 @@ fn ticked_arb(a: Arbitration) -> Arbitration
 fn on_tick(d: Device) -> Effect
     ensures { λ r. ⌜ r ≡ effectOf Tick d ⌝ }
 {
+    let limit = idle_limit(d);
     did_so(
-        device_with(d.side0, d.side1, ticked_bus(d.bus), ticked_arb(d.arb)),
+        device_with(
+            d.side0,
+            d.side1,
+            ticked_bus(limit, d.bus),
+            ticked_arb(d.arb),
+            d,
+        ),
         outcome_number(Outcome::Done),
         0,
     )

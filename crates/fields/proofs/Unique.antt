@@ -12,6 +12,8 @@ use Rattle.fields.proofs.device_with.Reads as device-with
 use Rattle.fields.proofs.with_turn.Reads as with-turn
 use Rattle.fields.proofs.pick_turn.Reads as pick-turn
 use Rattle.fields.proofs.pick_register.Reads as pick-register
+use Rattle.fields.proofs.idle_limit.Reads as idle-limit
+use Rattle.fields.proofs.rolls_over.Reads as rolls-over
 use Rattle.fields.proofs.same_master.Reads as same-master
 use Rattle.fields.proofs.owns_turn.Reads as owns-turn
 
@@ -47,6 +49,12 @@ pick-turn-once κ a x y s t p q = once p q
 
 pub pick-register-once : OneResult pick-register.Post
 pick-register-once κ a x y s t p q = once p q
+
+pub idle-limit-once : OneResult idle-limit.Post
+idle-limit-once κ a x y s t p q = once p q
+
+pub rolls-over-once : OneResult rolls-over.Post
+rolls-over-once κ a x y s t p q = once p q
 
 pub same-master-once : OneResult same-master.Post
 same-master-once κ a x y s t p q = once p q

@@ -21,5 +21,6 @@ sideWith pointer rt contr ints mail auto port mask =
 abbrev pub arbWith : Last → Bool → Switch → ℕ → Turn → Arbitration
 arbWith last initfail switch reserve turn = record { last = last; initfail = initfail; switch = switch; reserve = reserve; turn = turn }
 
-abbrev pub deviceWith : Side → Side → Bus → Arbitration → Device
-deviceWith side0 side1 bus arb = record { side0 = side0; side1 = side1; bus = bus; arb = arb }
+-- the kind is that of the device that was
+abbrev pub deviceWith : Side → Side → Bus → Arbitration → Device → Device
+deviceWith side0 side1 bus arb d = record { side0 = side0; side1 = side1; bus = bus; arb = arb; kind = d .kind }

@@ -3,6 +3,7 @@
 // Structs are passed on as they stand and built by one call, never through a local copy: the step runs half as fast otherwise, since
 // the compiler then packs neighbouring fields into one word and takes them apart again at every step.
 ghost use mathlib.Core.Path.{_≡_};
+ghost use Rattle.arbiter.specs.Rules.{idleLimit, rolls};
 ghost use Rattle.arbiter.specs.Words.{if_then_else_, sameMaster};
 ghost use Rattle.arbiter.specs.State.{ownsTurn};
 ghost use Rattle.arbiter.specs.Parts.{withTurn};
@@ -11,13 +12,16 @@ use arbiter::Arbitration;
 use arbiter::Bus;
 use arbiter::Control;
 use arbiter::Device;
+use arbiter::Kind;
 use arbiter::Last;
 use arbiter::Mailbox;
 use arbiter::Master;
+use arbiter::PCA9641_IDLE_LIMIT;
 use arbiter::Port;
 use arbiter::Register;
 use arbiter::Side;
 use arbiter::Switch;
+use arbiter::TPT29641_IDLE_LIMIT;
 use arbiter::Turn;
 
 // ---- taken out
@@ -95,10 +99,13 @@ pub fn arb_with(last: Last, initfail: bool, switch: Switch, reserve: u8, turn: T
     }
 }
 
-pub fn device_with(side0: Side, side1: Side, bus: Bus, arb: Arbitration) -> Device
-    ensures { λ r. ⌜ r ≡ deviceWith side0 side1 bus arb ⌝ }
+// The device d with these four in place of its own: its kind stays.
+pub fn device_with(side0: Side, side1: Side, bus: Bus, arb: Arbitration, d: Device) -> Device
+    ensures { λ r. ⌜ r ≡ deviceWith side0 side1 bus arb d ⌝ }
 {
+    let kind = d.kind;
     Device {
+        kind,
         side0,
         side1,
         bus,
@@ -126,6 +133,29 @@ pub fn pick_register(test: bool, x: Register, y: Register) -> Register
     ensures { λ r. ⌜ r ≡ (if test then x else y) ⌝ }
 {
     if test { x } else { y }
+}
+
+// ---- the rules of a device's kind
+
+pub fn idle_limit(d: Device) -> u8
+    ensures { λ r. ⌜ r ≡ idleLimit d ⌝ }
+{
+    let kind = d.kind;
+    match kind {
+        Kind::Pca9641 => PCA9641_IDLE_LIMIT,
+        Kind::Tpt29641 => TPT29641_IDLE_LIMIT,
+    }
+}
+
+// The pointer of a WRITE rolls from 7 to 0.
+pub fn rolls_over(d: Device) -> bool
+    ensures { λ r. ⌜ r ≡ rolls d ⌝ }
+{
+    let kind = d.kind;
+    match kind {
+        Kind::Pca9641 => false,
+        Kind::Tpt29641 => true,
+    }
 }
 
 // ---- what they show

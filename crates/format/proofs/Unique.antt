@@ -6,6 +6,7 @@ use denote.Ref.{now}
 use denote.Triple.Clauses.{AtExit}
 use denote.Triple.Entry.{Args, Res}
 use Rattle.arbiter.proofs.Once.{OneResult, OneLeft, once}
+use Rattle.format.proofs.events_end.Reads as events-end
 use Rattle.format.proofs.whole_bytes.Reads as whole-bytes
 use Rattle.format.proofs.pins_in.Reads as pins-in
 use Rattle.format.proofs.count_in.Reads as count-in
@@ -13,7 +14,16 @@ use Rattle.format.proofs.put_head.Reads as put-head
 use Rattle.format.proofs.events_in.{signature, ended}
 use Rattle.format.proofs.events_in.Reads as events-in
 use Rattle.format.proofs.event_at.Reads as event-at
+use Rattle.format.proofs.kind_count_at.Reads as kind-count-at
+use Rattle.format.proofs.kind_at.Reads as kind-at
+use Rattle.format.proofs.is_kind.Reads as is-kind
+use Rattle.format.proofs.kind_of.Reads as kind-of
+use Rattle.format.proofs.kind_number.Reads as kind-number
+use Rattle.format.proofs.put_kind.Reads as put-kind
 use Rattle.format.proofs.put_answer.Reads as put-answer
+
+pub events-end-once : OneResult events-end.Post
+events-end-once κ a x y s t p q = once p q
 
 pub whole-bytes-once : OneResult whole-bytes.Post
 whole-bytes-once κ a x y s t p q = once p q
@@ -33,6 +43,24 @@ events-in-once κ a x y s t p q = once p q
 
 pub event-at-once : OneResult event-at.Post
 event-at-once κ a x y s t p q = once p q
+
+pub kind-count-at-once : OneResult kind-count-at.Post
+kind-count-at-once κ a x y s t p q = once p q
+
+pub kind-at-once : OneResult kind-at.Post
+kind-at-once κ a x y s t p q = once p q
+
+pub is-kind-once : OneResult is-kind.Post
+is-kind-once κ a x y s t p q = once p q
+
+pub kind-of-once : OneResult kind-of.Post
+kind-of-once κ a x y s t p q = once p q
+
+pub kind-number-once : OneResult kind-number.Post
+kind-number-once κ a x y s t p q = once p q
+
+pub put-kind-once : OneLeft (λ κ s. now (s .0)) put-kind.Post
+put-kind-once κ a x y s t p q = (refl, once p q)
 
 pub put-answer-once : OneLeft (λ κ s. now (s .0)) put-answer.Post
 put-answer-once κ a x y s t p q = (refl, once p q)

@@ -1,10 +1,12 @@
 // The format of a trace: its sections, where each begins and how long it is. Whoever reads, runs, lists or writes a trace has these from
-// here. A trace is a count byte and the four pins, a two-byte count of events, then the events, four bytes each.
+// here. A trace is a count byte and the four pins, a two-byte count of events, then the events, four bytes each, and last a count byte and
+// the kind of part.
 ghost use Prim.Native.Nat.{_<_};
 ghost use mathlib.Core.Path.{_≡_};
-ghost use Rattle.arbiter.specs.Traces.{byteAt, pinsIn, countIn, wholeBytes};
-ghost use Rattle.format.specs.Places.{withHead, eventsPart, eventAt, withAnswer};
+ghost use Rattle.arbiter.specs.Traces.{byteAt, pinsIn, countIn, eventsEnd, wholeBytes, kindNumber, isKind, kindOf, kindAt};
+ghost use Rattle.format.specs.Places.{withHead, eventsPart, eventAt, withKind, withAnswer};
 use arbiter::Answer;
+use arbiter::Kind;
 use arbiter::Pins;
 use arbiter::Raw;
 
@@ -24,22 +26,33 @@ pub const EVENT_BYTES: usize = 4;
 
 pub const MOST_EVENTS: usize = 4096;
 
+// The count byte that goes before the kind of part, and the length of both.
+pub const KIND_COUNT: u8 = 1;
+
+pub const KIND_BYTES: usize = 2;
+
 // The longest trace.
-pub const MOST_BYTES: usize = HEAD_BYTES + EVENT_BYTES * MOST_EVENTS;
+pub const MOST_BYTES: usize = HEAD_BYTES + EVENT_BYTES * MOST_EVENTS + KIND_BYTES;
 
 // Room for the answers of any trace.
 pub const ANSWER_ROOM: usize = EVENT_BYTES * MOST_EVENTS;
 
-// The length of a trace of n events.
-pub fn whole_bytes(n: u16) -> usize
-    ensures { λ r. ⌜ r ≡ wholeBytes n ⌝ }
+// Where the events of a trace of n end, and its length.
+pub fn events_end(n: u16) -> usize
+    ensures { λ r. ⌜ r ≡ eventsEnd n ⌝ }
 {
     HEAD_BYTES + EVENT_BYTES * (n as usize)
 }
 
+pub fn whole_bytes(n: u16) -> usize
+    ensures { λ r. ⌜ r ≡ wholeBytes n ⌝ }
+{
+    events_end(n) + KIND_BYTES
+}
+
 // ---- the head
 
-// A byte of the head, and 0 past the end: whoever asks for pins or count has seen that the trace is long enough.
+// A byte of a trace, and 0 past the end: whoever asks for pins, count or kind has seen that the trace is long enough.
 fn byte_at(t: &[u8], i: usize) -> u8
     ensures { λ r. ⌜ r ≡ byteAt i (now (t .entry)) ⌝ }
 {
@@ -90,7 +103,7 @@ pub fn put_head(out: &mut [u8], p: Pins, n: u16)
 pub fn events_in(t: &[u8]) -> &[u8]
     ensures { λ r. ⌜ now r ≡ eventsPart (now (t .entry)) ⌝ }
 {
-    let end = whole_bytes(count_in(t));
+    let end = events_end(count_in(t));
     if t.len() < end {
         return &t[..0];
     }
@@ -115,6 +128,58 @@ pub fn event_at(events: &[u8], i: usize) -> Raw
         x: 0,
         y: 0,
         z: 0,
+    }
+}
+
+// ---- the kind of part
+
+// The count byte after n events, and the kind's byte after that.
+pub fn kind_count_at(t: &[u8], n: u16) -> u8
+    ensures { λ r. ⌜ r ≡ byteAt (eventsEnd n) (now (t .entry)) ⌝ }
+{
+    byte_at(t, events_end(n))
+}
+
+pub fn kind_at(t: &[u8], n: u16) -> u8
+    ensures { λ r. ⌜ r ≡ kindAt n (now (t .entry)) ⌝ }
+{
+    byte_at(t, events_end(n) + 1)
+}
+
+// A byte names a kind of part, and which.
+pub fn is_kind(b: u8) -> bool
+    ensures { λ r. ⌜ r ≡ isKind b ⌝ }
+{
+    b < 2
+}
+
+pub fn kind_of(b: u8) -> Kind
+    ensures { λ r. ⌜ r ≡ kindOf b ⌝ }
+{
+    if b == 0 {
+        Kind::Pca9641
+    } else {
+        Kind::Tpt29641
+    }
+}
+
+pub fn kind_number(k: Kind) -> u8
+    ensures { λ r. ⌜ r ≡ kindNumber k ⌝ }
+{
+    match k {
+        Kind::Pca9641 => 0,
+        Kind::Tpt29641 => 1,
+    }
+}
+
+// The count byte and the kind after n events, in a buffer that has room for the whole trace.
+pub fn put_kind(out: &mut [u8], n: u16, k: Kind)
+    ensures { λ _. ⌜ now (out .exit) ≡ withKind (now (out .entry)) n k ⌝ }
+{
+    if whole_bytes(n) <= out.len() {
+        let at = events_end(n);
+        out[at] = KIND_COUNT;
+        out[at + 1] = kind_number(k);
     }
 }
 

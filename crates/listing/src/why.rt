@@ -16,6 +16,8 @@ const ROOM: [u8; 8] = [b'n', b'o', b' ', b'r', b'o', b'o', b'm', b'\n'];
 
 const COUNT: [u8; 10] = [b'b', b'a', b'd', b' ', b'c', b'o', b'u', b'n', b't', b'\n'];
 
+const KIND: [u8; 9] = [b'b', b'a', b'd', b' ', b'k', b'i', b'n', b'd', b'\n'];
+
 fn write_reason(why: Refusal) -> bool {
     match why {
         Refusal::TraceCut => io::write_all(STDERR_FILENO, &CUT),
@@ -24,6 +26,7 @@ fn write_reason(why: Refusal) -> bool {
         Refusal::BadStraps => io::write_all(STDERR_FILENO, &STRAPS),
         Refusal::NoRoom => io::write_all(STDERR_FILENO, &ROOM),
         Refusal::BadCount => io::write_all(STDERR_FILENO, &COUNT),
+        Refusal::UnknownPart => io::write_all(STDERR_FILENO, &KIND),
     }
 }
 

@@ -8,6 +8,7 @@ use arbiter::Bus;
 use arbiter::Control;
 use arbiter::Device;
 use arbiter::HOLD_TICKS;
+use arbiter::Kind;
 use arbiter::Last;
 use arbiter::Mailbox;
 use arbiter::Master;
@@ -76,7 +77,7 @@ fn fresh_bus(scl: bool, sda: bool, intin: bool, hold: u8) -> Bus
     }
 }
 
-// A reset keeps the outside levels alone, and SCL may be held for so many ticks.
+// A reset keeps the outside levels and the kind of part alone, and SCL may be held for so many ticks.
 pub fn reset_device(hold: u8, d: Device) -> Device
     ensures { λ r. ⌜ r ≡ wasReset hold d ⌝ }
 {
@@ -85,6 +86,7 @@ pub fn reset_device(hold: u8, d: Device) -> Device
         fresh_side(),
         fresh_bus(d.bus.outscl, d.bus.outsda, d.bus.intin, hold),
         fresh_arb(),
+        d,
     )
 }
 
@@ -104,14 +106,15 @@ pub fn soft_reset(m: Master, d: Device) -> Device
     reset_device(worth_of(HOLD_TICKS, swrst_of(m, d)), d)
 }
 
-// Power-up is a reset with all outside levels high.
-pub fn fresh_device() -> Device
-    ensures { λ r. ⌜ r ≡ powerUp ⌝ }
+// Power-up of a part of this kind is a reset with all outside levels high.
+pub fn fresh_device(kind: Kind) -> Device
+    ensures { λ r. ⌜ r ≡ powerUp kind ⌝ }
 {
-    device_with(
-        fresh_side(),
-        fresh_side(),
-        fresh_bus(true, true, true, 0),
-        fresh_arb(),
-    )
+    Device {
+        kind,
+        side0: fresh_side(),
+        side1: fresh_side(),
+        bus: fresh_bus(true, true, true, 0),
+        arb: fresh_arb(),
+    }
 }

@@ -15,6 +15,7 @@ use arbiter::Clock;
 use arbiter::Decoded;
 use arbiter::Device;
 use arbiter::Event;
+use arbiter::Kind;
 use arbiter::Master;
 use arbiter::Outcome;
 use arbiter::Raw;
@@ -55,7 +56,7 @@ use resets::fresh_device;
 fn levelled(before: Bus, d: Device) -> Device
     ensures { λ r. ⌜ r ≡ levels false before d ⌝ }
 {
-    device_with(d.side0, d.side1, settled_bus(before, d.bus), d.arb)
+    device_with(d.side0, d.side1, settled_bus(before, d.bus), d.arb, d)
 }
 
 fn is_silent(c: Clock) -> bool
@@ -185,11 +186,11 @@ fn moved_by(d: Device, r: Raw) -> Effect
     finish(e, d.bus, effect_of(e, d))
 }
 
-// A device after power-up.
-pub fn fresh() -> Device
-    ensures { λ r. ⌜ r ≡ powerUp ⌝ }
+// A device of this kind after power-up.
+pub fn fresh(kind: Kind) -> Device
+    ensures { λ r. ⌜ r ≡ powerUp kind ⌝ }
 {
-    fresh_device()
+    fresh_device(kind)
 }
 
 fn stepped_with(device: Device, answer: Answer) -> Stepped

@@ -11,10 +11,11 @@ use Rattle.arbiter.specs.Traces.{headBytes, eventBytes, mostEvents, answerRoom,
 use Rattle.arbiter.specs.Listing.{headLine, answerLine, answerLines, mostChars, listingOf, listing}
 use Rattle.traces.specs.declared.Head.{Head}
 use Rattle.traces.specs.Bodies.{headOf}
+use Rattle.arbiter.specs.declared.Kind.{Kind}
 use Rattle.arbiter.specs.declared.Device.{Device}
 use Rattle.arbiter.specs.declared.Answer.{Answer}
 use Rattle.arbiter.specs.declared.Refusal.{Refusal}
-use Rattle.arbiter.specs.declared.Refusal.the-variants.{TraceCut, TooManyEvents, BytesAfterEnd, BadStraps, NoRoom, BadCount}
+use Rattle.arbiter.specs.declared.Refusal.the-variants.{TraceCut, TooManyEvents, BytesAfterEnd, BadStraps, NoRoom, BadCount, UnknownPart}
 use Rattle.arbiter.specs.declared.TraceRead.{TraceRead}
 use Rattle.arbiter.specs.declared.TraceRead.the-variants.{Accepted, Refused}
 use Rattle.traces.proofs.Reading.{accepted-fits}
@@ -33,11 +34,12 @@ unfolding answersFrom rawsIn
 answers-count d zero l = refl
 answers-count d (suc k) l = ap suc (answers-count (step d (rawIn l) .device) k (drop eventBytes l))
 
-lines-in : (n : ℕ) (t rest : List ℕ) → answerLines (answersIn n t) ≡ linesIn n (bytesOf (answersIn n t) ++ rest)
-lines-in n t rest =
-    sym (lines-of (answersIn n t) rest) ∙ ap (λ (k : ℕ). linesIn k (bytesOf (answersIn n t) ++ rest)) (answers-count powerUp n (drop headBytes t))
+lines-in : (k : Kind) (n : ℕ) (t rest : List ℕ) → answerLines (answersIn k n t) ≡ linesIn n (bytesOf (answersIn k n t) ++ rest)
+lines-in k n t rest =
+    sym (lines-of (answersIn k n t) rest)
+    ∙ ap (λ (m : ℕ). linesIn m (bytesOf (answersIn k n t) ++ rest)) (answers-count (powerUp k) n (drop headBytes t))
 
--- ---- a refusal's number is 5 to 10
+-- ---- a refusal's number is 3 or 5 to 10
 
 some-number : (r : Refusal) → refusalNumber r ≡ 0 → ⊥
 some-number TraceCut h = omega arith
@@ -46,6 +48,7 @@ some-number BytesAfterEnd h = omega arith
 some-number BadStraps h = omega arith
 some-number NoRoom h = omega arith
 some-number BadCount h = omega arith
+some-number UnknownPart h = omega arith
 
 two-digits : (r : Refusal) → refusalNumber r < 100
 two-digits TraceCut = omega arith
@@ -54,6 +57,7 @@ two-digits BytesAfterEnd = omega arith
 two-digits BadStraps = omega arith
 two-digits NoRoom = omega arith
 two-digits BadCount = omega arith
+two-digits UnknownPart = omega arith
 
 refusal-short : (r : Refusal) → length (refusalLine (refusalNumber r)) ≤ 4
 refusal-short TraceCut = omega arith
@@ -62,6 +66,7 @@ refusal-short BytesAfterEnd = omega arith
 refusal-short BadStraps = omega arith
 refusal-short NoRoom = omega arith
 refusal-short BadCount = omega arith
+refusal-short UnknownPart = omega arith
 
 -- ---- no listing is longer than that of 4,096 events
 
@@ -70,9 +75,9 @@ unfolding listing listingOf
 listing-short t = go (readTrace t answerRoom) refl
   where
     go : (x : TraceRead) → readTrace t answerRoom ≡ x → length (listingOf x t) ≤ mostChars
-    go (Accepted a n) h =
-        let few = accepted-fits t answerRoom a n h .2 in
-        let l = ap length (ap (λ (l : List ℕ). headLine a n ++ l) (lines-in n t [])) ∙ sym (listed-length a n (bytesOf (answersIn n t) ++ [])) in
+    go (Accepted a n k) h =
+        let few = accepted-fits t answerRoom a n k h .2 in
+        let l = ap length (ap (λ (l : List ℕ). headLine a n ++ l) (lines-in k n t [])) ∙ sym (listed-length a n (bytesOf (answersIn k n t) ++ [])) in
         omega (arith, few, l)
     go (Refused r) h = omega (arith, refusal-short r)
 
@@ -88,7 +93,7 @@ module _ (t room : List ℕ) (e : answerRoom ≡ length room) where
   accepted-listing h = go (readTrace t (length room)) h ∙ sym same-reading
     where
       go : (x : TraceRead) → reportOf x t .number ≡ 0 → headLine (reportOf x t .address) (reportOf x t .events) ++ linesIn (reportOf x t .events) (bufferOf x t room) ≡ listingOf x t
-      go (Accepted a n) z = ap (λ (l : List ℕ). headLine a n ++ l) (sym (lines-in n t (drop (eventBytes * n) room)))
+      go (Accepted a n k) z = ap (λ (l : List ℕ). headLine a n ++ l) (sym (lines-in k n t (drop (eventBytes * n) room)))
       go (Refused r) z = absurd (some-number r z)
 
   answers-fit : (eventBytes * report t room .events ≤ length room) × (report t room .events ≤ mostEvents)
@@ -96,7 +101,7 @@ module _ (t room : List ℕ) (e : answerRoom ≡ length room) where
   answers-fit = go (readTrace t (length room)) refl
     where
       go : (x : TraceRead) → readTrace t (length room) ≡ x → (eventBytes * reportOf x t .events ≤ length room) × (reportOf x t .events ≤ mostEvents)
-      go (Accepted a n) h = let fits = accepted-fits t (length room) a n h in (fits .1, fits .2)
+      go (Accepted a n k) h = let fits = accepted-fits t (length room) a n k h in (fits .1, fits .2)
       go (Refused r) h = (omega arith, omega arith)
 
   refused-listing : (report t room .number ≡ 0 → ⊥) → (refusalLine (report t room .number) ≡ listing t) × (report t room .number < 100)
@@ -104,7 +109,7 @@ module _ (t room : List ℕ) (e : answerRoom ≡ length room) where
   refused-listing h = let told = go (readTrace t (length room)) h in (told .0 ∙ sym same-reading, told .1)
     where
       go : (x : TraceRead) → (reportOf x t .number ≡ 0 → ⊥) → (refusalLine (reportOf x t .number) ≡ listingOf x t) × (reportOf x t .number < 100)
-      go (Accepted a n) z = absurd (z refl)
+      go (Accepted a n k) z = absurd (z refl)
       go (Refused r) z = (refl, two-digits r)
 
   -- ---- the same of any head r and buffer b that are the run's

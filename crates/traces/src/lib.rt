@@ -4,9 +4,10 @@ ghost use mathlib.Core.Path.{_≡_};
 ghost use mathlib.Core.List.{List, _++_};
 ghost use lib.ListN.{length, drop};
 ghost use Rattle.arbiter.specs.Steps.{step, runFrom, answersFrom};
-ghost use Rattle.arbiter.specs.Traces.{eventBytes, rawsIn, readCounted, readTrace, refusalNumber, readNumber, bytesOf, report, bufferAfter, ran, bufferRan};
-ghost use Rattle.traces.specs.Bodies.{bodyRead, ranWith, reportWith, headOf};
+ghost use Rattle.arbiter.specs.Traces.{eventBytes, rawsIn, kindNumber, readKind, readCounted, readTrace, refusalNumber, readNumber, bytesOf, report, bufferAfter, ran, bufferRan};
+ghost use Rattle.traces.specs.Bodies.{kindRead, ranWith, reportWith, headOf};
 use arbiter::Device;
+use arbiter::Kind;
 use arbiter::Ran;
 use arbiter::Raw;
 use arbiter::Refusal;
@@ -16,12 +17,19 @@ use arbiter::Strapped;
 use arbiter::TraceRead;
 use format::EVENT_BYTES;
 use format::HEAD_BYTES;
+use format::KIND_COUNT;
 use format::MOST_EVENTS;
 use format::PIN_BYTES;
 use format::PIN_COUNT;
 use format::count_in;
 use format::event_at;
+use format::events_end;
 use format::events_in;
+use format::is_kind;
+use format::kind_at;
+use format::kind_count_at;
+use format::kind_number;
+use format::kind_of;
 use format::pins_in;
 use format::put_answer;
 use format::whole_bytes;
@@ -29,33 +37,49 @@ use step::fresh;
 use step::step_device;
 use straps::address_of;
 
-// A report without its device.
+// A report with the kind of its device alone, by its number.
 pub struct Head {
     pub number: u8,
     pub address: u8,
     pub events: usize,
+    pub kind: u8,
 }
 
 // ---- reading
 
-fn body_read(address: u8, len: usize, n: u16, room: usize) -> TraceRead
-    ensures { λ r. ⌜ r ≡ bodyRead address len n room ⌝ }
+// From the kind's byte on.
+fn kind_read(address: u8, n: u16, len: usize, kind: u8, room: usize) -> TraceRead
+    ensures { λ r. ⌜ r ≡ kindRead address n len kind room ⌝ }
 {
-    let events = n as usize;
-    if MOST_EVENTS < events {
-        return TraceRead::Refused(Refusal::TooManyEvents);
-    }
     if len < whole_bytes(n) {
         return TraceRead::Refused(Refusal::TraceCut);
     }
-    if whole_bytes(n) < len {
-        return TraceRead::Refused(Refusal::BytesAfterEnd);
+    if is_kind(kind) {
+        if whole_bytes(n) < len {
+            return TraceRead::Refused(Refusal::BytesAfterEnd);
+        }
+        if room < EVENT_BYTES * (n as usize) {
+            return TraceRead::Refused(Refusal::NoRoom);
+        }
+        return TraceRead::Accepted(address, n as usize, kind_of(kind));
     }
-    if room < EVENT_BYTES * events {
-        return TraceRead::Refused(Refusal::NoRoom);
-    }
-    TraceRead::Accepted(address, events)
+    TraceRead::Refused(Refusal::UnknownPart)
 }
+
+// From the third section on.
+fn read_kind(address: u8, n: u16, t: &[u8], room: usize) -> TraceRead
+    ensures { λ r. ⌜ r ≡ readKind address n (now (t .entry)) room ⌝ }
+{
+    if t.len() < events_end(n) + 1 {
+        return TraceRead::Refused(Refusal::TraceCut);
+    }
+    if kind_count_at(t, n) == KIND_COUNT {
+        return kind_read(address, n, t.len(), kind_at(t, n), room);
+    }
+    TraceRead::Refused(Refusal::BadCount)
+}
+
+// From the count of events on.
 
 fn read_counted(address: u8, t: &[u8], room: usize) -> TraceRead
     ensures { λ r. ⌜ r ≡ readCounted address (now (t .entry)) room ⌝ }
@@ -63,10 +87,17 @@ fn read_counted(address: u8, t: &[u8], room: usize) -> TraceRead
     if t.len() < HEAD_BYTES {
         return TraceRead::Refused(Refusal::TraceCut);
     }
-    body_read(address, t.len(), count_in(t), room)
+    let n = count_in(t);
+    if MOST_EVENTS < (n as usize) {
+        return TraceRead::Refused(Refusal::TooManyEvents);
+    }
+    if t.len() < events_end(n) {
+        return TraceRead::Refused(Refusal::TraceCut);
+    }
+    read_kind(address, n, t, room)
 }
 
-// A trace and the room for its answers: accepted, or refused in the order of document 01.
+// A trace and the room for its answers: accepted, or refused in the order of document 01 and request #105.
 pub fn read_trace(t: &[u8], room: usize) -> TraceRead
     ensures { λ r. ⌜ (r ≡ readTrace (now (t .entry)) room) × ((buffer : List ℕ) → length buffer ≡ room → readNumber r ≡ report (now (t .entry)) buffer .number) ⌝ }
 {
@@ -151,6 +182,7 @@ fn refusal_number(r: Refusal) -> u8
         Refusal::BadStraps => 8,
         Refusal::NoRoom => 9,
         Refusal::BadCount => 10,
+        Refusal::UnknownPart => 3,
     }
 }
 
@@ -166,7 +198,7 @@ fn reported(number: u8, address: u8, events: usize, device: Device) -> Report
 }
 
 // A whole trace: the report, and each answer in the lent buffer. A refused trace leaves the buffer as it was and reports its number, no
-// events and a fresh device.
+// events and a fresh device of kind 0.
 pub fn run_trace(t: &[u8], out: &mut [u8]) -> Report
     ensures { λ r. ⌜ (r ≡ report (now (t .entry)) (now (out .entry))) × (now (out .exit) ≡ bufferAfter (now (t .entry)) (now (out .entry))) ⌝ }
 {
@@ -174,13 +206,20 @@ pub fn run_trace(t: &[u8], out: &mut [u8]) -> Report
     match read {
         TraceRead::Refused(why) => {
             let number = refusal_number(why);
-            reported(number, 0, 0, fresh())
+            reported(number, 0, 0, fresh(Kind::Pca9641))
         }
-        TraceRead::Accepted(address, _) => {
-            let r = run_events(fresh(), events_in(t), out);
+        TraceRead::Accepted(address, _, kind) => {
+            let r = run_events(fresh(kind), events_in(t), out);
             reported(r.number, address, r.events, r.device)
         }
     }
+}
+
+fn device_kind(d: Device) -> u8
+    ensures { λ r. ⌜ r ≡ kindNumber (d .kind) ⌝ }
+{
+    let kind = d.kind;
+    kind_number(kind)
 }
 
 // The same without the device, for callers that want the answers alone: the step is faster where nobody asks for the last state.
@@ -192,5 +231,6 @@ pub fn answer_trace(t: &[u8], out: &mut [u8]) -> Head
         number: r.number,
         address: r.address,
         events: r.events,
+        kind: device_kind(r.device),
     }
 }

@@ -1,4 +1,4 @@
-// A trace written from its pins and its events into a lent buffer, as the reader takes it.
+// A trace written from its pins, its kind of part and its events into a lent buffer, as the reader takes it.
 ghost use Prim.Native.Nat.{_+_, _≤_};
 ghost use mathlib.Core.Path.{_≡_};
 ghost use lib.ListN.{length};
@@ -11,35 +11,42 @@ use arbiter::Strapped;
 use arbiter::Written;
 use format::EVENT_BYTES;
 use format::HEAD_BYTES;
+use format::KIND_BYTES;
 use format::MOST_EVENTS;
+use format::is_kind;
+use format::kind_of;
 use format::put_head;
+use format::put_kind;
 use straps::address_of;
 
 // ---- the refusals, in their order
 
-// The number for so many bytes of events and this room, of pins that have an address.
-fn body_number(len: usize, room: usize) -> u8
-    ensures { λ r. ⌜ r ≡ bodyNumber len room ⌝ }
+// The number for this kind, so many bytes of events and this room, of pins that have an address.
+fn body_number(kind: u8, len: usize, room: usize) -> u8
+    ensures { λ r. ⌜ r ≡ bodyNumber kind len room ⌝ }
 {
     let n = len / EVENT_BYTES;
     if len % EVENT_BYTES == 0 {
         if MOST_EVENTS < n {
             return 6;
         }
-        if room < HEAD_BYTES + EVENT_BYTES * n {
-            return 9;
+        if is_kind(kind) {
+            if room < HEAD_BYTES + EVENT_BYTES * n + KIND_BYTES {
+                return 9;
+            }
+            return 0;
         }
-        return 0;
+        return 3;
     }
     5
 }
 
-fn write_number(p: Pins, events: &[u8], room: usize) -> u8
-    ensures { λ r. ⌜ r ≡ writtenNumber p (now (events .entry)) room ⌝ }
+fn write_number(p: Pins, kind: u8, events: &[u8], room: usize) -> u8
+    ensures { λ r. ⌜ r ≡ writtenNumber p kind (now (events .entry)) room ⌝ }
 {
     let strapped = address_of(p);
     match strapped {
-        Strapped::Address(_) => body_number(events.len(), room),
+        Strapped::Address(_) => body_number(kind, events.len(), room),
         Strapped::Unlisted => 8,
     }
 }
@@ -58,19 +65,20 @@ fn put_events(out: &mut [u8], events: &[u8])
     }
 }
 
-// The trace of these pins and events: its length, and its bytes in the lent buffer. A refusal by number leaves the buffer as it was and
-// has length 0. No event is looked at.
-pub fn write_trace(p: Pins, events: &[u8], out: &mut [u8]) -> Written
-    ensures { λ r. ⌜ (r ≡ written p (now (events .entry)) (now (out .entry))) × (now (out .exit) ≡ bufferWritten p (now (events .entry)) (now (out .entry))) ⌝ }
+// The trace of these pins, this kind of part and these events: its length, and its bytes in the lent buffer. A refusal by number leaves
+// the buffer as it was and has length 0. No event is looked at.
+pub fn write_trace(p: Pins, kind: u8, events: &[u8], out: &mut [u8]) -> Written
+    ensures { λ r. ⌜ (r ≡ written p kind (now (events .entry)) (now (out .entry))) × (now (out .exit) ≡ bufferWritten p kind (now (events .entry)) (now (out .entry))) ⌝ }
 {
-    let number = write_number(p, events, out.len());
+    let number = write_number(p, kind, events, out.len());
     if number == 0 {
-        let n = events.len() / EVENT_BYTES;
-        put_head(out, p, n as u16);
+        let n = (events.len() / EVENT_BYTES) as u16;
+        put_head(out, p, n);
         put_events(out, events);
+        put_kind(out, n, kind_of(kind));
         return Written {
             number: 0,
-            length: HEAD_BYTES + events.len(),
+            length: HEAD_BYTES + events.len() + KIND_BYTES,
         };
     }
     Written { number, length: 0 }

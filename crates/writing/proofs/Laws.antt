@@ -27,20 +27,20 @@ control-law false v = refl
 
 -- ---- the writer's own side
 
-abbrev risenPointer : Side → Register
-risenPointer s = if s .auto then afterWrite (s .pointer) else s .pointer
+abbrev risenPointer : Bool → Side → Register
+risenPointer rolls s = if s .auto then afterWrite rolls (s .pointer) else s .pointer
 
-risen : (s : Side) → withPointer (risenPointer s) s ≡ writeRisen s
-risen s = go (s .auto)
+risen : (rolls : Bool) (s : Side) → withPointer (risenPointer rolls s) s ≡ writeRisen rolls s
+risen rolls s = go (s .auto)
   where
-    go : (a : Bool) → withPointer (if a then afterWrite (s .pointer) else s .pointer) s ≡ (if a then withPointer (afterWrite (s .pointer)) s else s)
+    go : (a : Bool) → withPointer (if a then afterWrite rolls (s .pointer) else s .pointer) s ≡ (if a then withPointer (afterWrite rolls (s .pointer)) s else s)
     go true = refl
     go false = refl
 
-abbrev writerLiteral : Bool → Register → ℕ → Side → Side
-writerLiteral granted r v s =
+abbrev writerLiteral : Bool → Bool → Register → ℕ → Side → Side
+writerLiteral rolls granted r v s =
     record {
-      pointer = risenPointer s;
+      pointer = risenPointer rolls s;
       rt = if eqb (registerNumber r) 3 && not granted then v else s .rt;
       contr = if eqb (registerNumber r) 1 then contrWritten granted v else s .contr;
       ints = intsWritten (eqb (registerNumber r) 4) (eqb (registerNumber r) 2) v (s .ints);
@@ -77,29 +77,29 @@ own-alone granted IntMask v s = refl
 own-alone granted MailLow v s = refl
 own-alone granted MailHigh v s = refl
 
-literal-alone : (granted : Bool) (r : Register) (v : ℕ) (s : Side) → writerLiteral granted r v s ≡ withPointer (risenPointer s) (ownAlone granted r v s)
-literal-alone granted Id v s = ap (withPointer (risenPointer s)) (unraised s)
-literal-alone granted Contr v s = ap (λ (t : Side). withPointer (risenPointer s) (withContr (contrWritten granted v) t)) (unraised s)
-literal-alone granted Status v s = refl
-literal-alone granted Rt v s = ap (λ (t : Side). withPointer (risenPointer s) (withRt (if not granted then v else s .rt) t)) (unraised s)
-literal-alone granted IntStatus v s = ap (λ (i : ℕ). withPointer (risenPointer s) (withInts (cleared v i) s)) (or-zero-r (s .ints))
-literal-alone granted IntMask v s = ap (λ (t : Side). withPointer (risenPointer s) (withMask (v % 128) t)) (unraised s)
-literal-alone granted MailLow v s = ap (withPointer (risenPointer s)) (unraised s)
-literal-alone granted MailHigh v s = ap (withPointer (risenPointer s)) (unraised s)
+literal-alone : (rolls granted : Bool) (r : Register) (v : ℕ) (s : Side) → writerLiteral rolls granted r v s ≡ withPointer (risenPointer rolls s) (ownAlone granted r v s)
+literal-alone rolls granted Id v s = ap (withPointer (risenPointer rolls s)) (unraised s)
+literal-alone rolls granted Contr v s = ap (λ (t : Side). withPointer (risenPointer rolls s) (withContr (contrWritten granted v) t)) (unraised s)
+literal-alone rolls granted Status v s = refl
+literal-alone rolls granted Rt v s = ap (λ (t : Side). withPointer (risenPointer rolls s) (withRt (if not granted then v else s .rt) t)) (unraised s)
+literal-alone rolls granted IntStatus v s = ap (λ (i : ℕ). withPointer (risenPointer rolls s) (withInts (cleared v i) s)) (or-zero-r (s .ints))
+literal-alone rolls granted IntMask v s = ap (λ (t : Side). withPointer (risenPointer rolls s) (withMask (v % 128) t)) (unraised s)
+literal-alone rolls granted MailLow v s = ap (withPointer (risenPointer rolls s)) (unraised s)
+literal-alone rolls granted MailHigh v s = ap (withPointer (risenPointer rolls s)) (unraised s)
 
 -- pointer and auto-increment are not the byte's business
-risen-alone : (granted : Bool) (r : Register) (v : ℕ) (s : Side) → withPointer (risenPointer s) (ownAlone granted r v s) ≡ writeRisen (ownAlone granted r v s)
-risen-alone granted Id v s = risen s
-risen-alone granted Contr v s = risen (ownAlone granted Contr v s)
-risen-alone granted Status v s = risen (ownAlone granted Status v s)
-risen-alone granted Rt v s = risen (ownAlone granted Rt v s)
-risen-alone granted IntStatus v s = risen (ownAlone granted IntStatus v s)
-risen-alone granted IntMask v s = risen (ownAlone granted IntMask v s)
-risen-alone granted MailLow v s = risen s
-risen-alone granted MailHigh v s = risen s
+risen-alone : (rolls granted : Bool) (r : Register) (v : ℕ) (s : Side) → withPointer (risenPointer rolls s) (ownAlone granted r v s) ≡ writeRisen rolls (ownAlone granted r v s)
+risen-alone rolls granted Id v s = risen rolls s
+risen-alone rolls granted Contr v s = risen rolls (ownAlone granted Contr v s)
+risen-alone rolls granted Status v s = risen rolls (ownAlone granted Status v s)
+risen-alone rolls granted Rt v s = risen rolls (ownAlone granted Rt v s)
+risen-alone rolls granted IntStatus v s = risen rolls (ownAlone granted IntStatus v s)
+risen-alone rolls granted IntMask v s = risen rolls (ownAlone granted IntMask v s)
+risen-alone rolls granted MailLow v s = risen rolls s
+risen-alone rolls granted MailHigh v s = risen rolls s
 
-pub writer-law : (granted : Bool) (r : Register) (v : ℕ) (s : Side) → writerLiteral granted r v s ≡ writeRisen (ownWritten granted r v s)
-writer-law granted r v s = literal-alone granted r v s ∙ risen-alone granted r v s ∙ ap writeRisen (own-alone granted r v s)
+pub writer-law : (rolls granted : Bool) (r : Register) (v : ℕ) (s : Side) → writerLiteral rolls granted r v s ≡ writeRisen rolls (ownWritten granted r v s)
+writer-law rolls granted r v s = literal-alone rolls granted r v s ∙ risen-alone rolls granted r v s ∙ ap (writeRisen rolls) (own-alone granted r v s)
 
 -- ---- mail
 

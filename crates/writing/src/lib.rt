@@ -20,9 +20,11 @@ use bits::pick_bool;
 use bits::pick_u8;
 use fields::device_with;
 use fields::owns_turn;
+use fields::pick_register;
 use fields::pick_turn;
 use fields::pointer_of;
 use fields::port_of;
+use fields::rolls_over;
 use fields::side_with;
 use fields::turn_of;
 use fields::with_turn;
@@ -61,8 +63,9 @@ pub fn writable_at(r: Register) -> bool
     }
 }
 
-fn after_write(r: Register) -> Register
-    ensures { λ n. ⌜ n ≡ afterWrite r ⌝ }
+// The pointer one further: at 7 it stays or, if it rolls, goes to 0.
+fn after_write(rolls: bool, r: Register) -> Register
+    ensures { λ n. ⌜ n ≡ afterWrite rolls r ⌝ }
 {
     match r {
         Register::Id => Register::Contr,
@@ -72,15 +75,15 @@ fn after_write(r: Register) -> Register
         Register::IntStatus => Register::IntMask,
         Register::IntMask => Register::MailLow,
         Register::MailLow => Register::MailHigh,
-        Register::MailHigh => Register::MailHigh,
+        Register::MailHigh => pick_register(rolls, Register::Id, Register::MailHigh),
     }
 }
 
 // The pointer after a WRITE.
-fn risen(auto: bool, r: Register) -> Register
-    ensures { λ n. ⌜ n ≡ (if auto then afterWrite r else r) ⌝ }
+fn risen(rolls: bool, auto: bool, r: Register) -> Register
+    ensures { λ n. ⌜ n ≡ (if auto then afterWrite rolls r else r) ⌝ }
 {
-    if auto { after_write(r) } else { r }
+    if auto { after_write(rolls, r) } else { r }
 }
 
 // ---- the writer's side
@@ -116,12 +119,12 @@ fn ints_after(clears: bool, tests: bool, v: u8, ints: u8) -> u8
 }
 
 // The writer's own side after its byte, with the pointer risen.
-fn writer_side(granted: bool, v: u8, s: Side) -> Side
-    ensures { λ r. ⌜ r ≡ writeRisen (ownWritten granted (s .pointer) v s) ⌝ }
+fn writer_side(rolls: bool, granted: bool, v: u8, s: Side) -> Side
+    ensures { λ r. ⌜ r ≡ writeRisen rolls (ownWritten granted (s .pointer) v s) ⌝ }
 {
     let n = register_number(pointer_of(s));
     side_with(
-        risen(s.auto, pointer_of(s)),
+        risen(rolls, s.auto, pointer_of(s)),
         pick_u8((n == 3) & !granted, v, s.rt),
         contr_after(n == 1, granted, v, s.contr),
         ints_after(n == 4, n == 2, v, s.ints),
@@ -204,15 +207,17 @@ fn is_connect(c: Control) -> bool
 pub fn written_by_0(v: u8, d: Device) -> Device
     ensures { λ r. ⌜ r ≡ written Zero v d ⌝ }
 {
+    let rolls = rolls_over(d);
     let at = pointer_of(d.side0);
     let granted = owns_turn(Master::Zero, turn_of(d.arb));
     let connect = is_connect(d.side0.contr);
     let turn = turn_written(granted, at, v, turn_of(d.arb));
     device_with(
-        writer_side(granted, v, d.side0),
+        writer_side(rolls, granted, v, d.side0),
         mail_written(at, v, d.side1),
         drives_written(granted, connect, at, v, d.bus),
         with_turn(turn, d.arb),
+        d,
     )
 }
 
@@ -220,15 +225,17 @@ pub fn written_by_0(v: u8, d: Device) -> Device
 pub fn written_by_1(v: u8, d: Device) -> Device
     ensures { λ r. ⌜ r ≡ written One v d ⌝ }
 {
+    let rolls = rolls_over(d);
     let at = pointer_of(d.side1);
     let granted = owns_turn(Master::One, turn_of(d.arb));
     let connect = is_connect(d.side1.contr);
     let turn = turn_written(granted, at, v, turn_of(d.arb));
     device_with(
         mail_written(at, v, d.side0),
-        writer_side(granted, v, d.side1),
+        writer_side(rolls, granted, v, d.side1),
         drives_written(granted, connect, at, v, d.bus),
         with_turn(turn, d.arb),
+        d,
     )
 }
 
@@ -236,6 +243,7 @@ pub fn written_by_1(v: u8, d: Device) -> Device
 pub fn paired_by(v0: u8, v1: u8, d: Device) -> Device
     ensures { λ r. ⌜ r ≡ paired v0 v1 d ⌝ }
 {
+    let rolls = rolls_over(d);
     let at0 = pointer_of(d.side0);
     let at1 = pointer_of(d.side1);
     let owns0 = owns_turn(Master::Zero, turn_of(d.arb));
@@ -244,8 +252,8 @@ pub fn paired_by(v0: u8, v1: u8, d: Device) -> Device
     let connect1 = is_connect(d.side1.contr);
     let turn = turn_written(owns1, at1, v1, turn_written(owns0, at0, v0, turn_of(d.arb)));
     device_with(
-        mail_written(at1, v1, writer_side(owns0, v0, d.side0)),
-        mail_written(at0, v0, writer_side(owns1, v1, d.side1)),
+        mail_written(at1, v1, writer_side(rolls, owns0, v0, d.side0)),
+        mail_written(at0, v0, writer_side(rolls, owns1, v1, d.side1)),
         drives_written(
             owns1,
             connect1,
@@ -254,5 +262,6 @@ pub fn paired_by(v0: u8, v1: u8, d: Device) -> Device
             drives_written(owns0, connect0, at0, v0, d.bus),
         ),
         with_turn(turn, d.arb),
+        d,
     )
 }

@@ -51,6 +51,7 @@ use denote.Exit.{yes}
 use Rattle.arbiter.specs.Effects.{powerUp}
 use Rattle.arbiter.specs.Steps.{step, runFrom, run}
 use Rattle.arbiter.specs.Traces.{rawsIn, eventCount}
+use Rattle.arbiter.specs.declared.Kind.{Kind}
 use Rattle.arbiter.specs.declared.Device.{Device}
 use Rattle.arbiter.specs.declared.Answer.{Answer}
 use Rattle.arbiter.specs.declared.Raw.{Raw}
@@ -60,20 +61,20 @@ use Rattle.arbiter.proofs.Raw as E
 use Rattle.arbiter.proofs.Raw.Laws as E′
 use Rattle.arbiter.proofs.Answer as U
 use Rattle.arbiter.proofs.Answer.Laws as U′
-use Rattle.format.specs.Places.{eventAt}
+use Rattle.format.specs.Places.{eventsPart, eventAt, kindIn}
 use Rattle.traces.proofs.Runs.{again-device}
-use Rattle.step.proofs.fresh as fr
-use Rattle.step.proofs.fresh.Symbol as fr-def
-use Rattle.step.proofs.fresh.Symbol.{name as #fr}
-use Rattle.step.proofs.fresh.Met as fr-thm
+use Rattle.bench.proofs.fresh_for as fr
+use Rattle.bench.proofs.fresh_for.Symbol as fr-def
+use Rattle.bench.proofs.fresh_for.Symbol.{name as #fr}
+use Rattle.bench.proofs.fresh_for.Met as fr-thm
 use Rattle.lent.proofs.step_lent as sl
 use Rattle.lent.proofs.step_lent.Symbol as sl-def
 use Rattle.lent.proofs.step_lent.Symbol.{name as #sl}
 use Rattle.lent.proofs.step_lent.Met as sl-thm
-use Rattle.format.proofs.event_at as ea
-use Rattle.format.proofs.event_at.Symbol as ea-def
-use Rattle.format.proofs.event_at.Symbol.{name as #ea}
-use Rattle.format.proofs.event_at.Met as ea-thm
+use Rattle.bench.proofs.event_of as ea
+use Rattle.bench.proofs.event_of.Symbol as ea-def
+use Rattle.bench.proofs.event_of.Symbol.{name as #ea}
+use Rattle.bench.proofs.event_of.Met as ea-thm
 use Rattle.bench.proofs.print_answer as pa
 use Rattle.bench.proofs.print_answer.Symbol as pa-def
 use Rattle.bench.proofs.print_answer.Symbol.{name as #pa}
@@ -148,26 +149,29 @@ module _ {M : Type 1} (𝓤 : URA M) (H : Heap 𝓤) (A : Atoms 𝓤) (at-mem : 
   abbrev Pa : Contract 𝓤
   Pa = tripleOf 𝓤 H A pa.signature (pa.spec 𝓤 H A at-mem run″)
 
-  fr-of : (d : Device) → ent 𝓤 (ensured 𝓤 H A fr.ended (fr.clauses 𝓤 H A at-mem run″) tt tt tt d) (fact 𝓤 (d ≡ powerUp))
-  fr-of d = exE 𝓤 _ (λ ws. snd∗ 𝓤 (sem 𝓤 H A (lasts fr.ended tt tt ws)) (fact 𝓤 (d ≡ powerUp)))
+  fr-of : (κ : Lft) (s : RefT (List ℕ)) (d : Device) → ent 𝓤 (ensured 𝓤 H A fr.ended (fr.clauses 𝓤 H A at-mem run″) (κ, tt) (s, tt) tt d) (fact 𝓤 (d ≡ powerUp (kindIn (now s))))
+  fr-of κ s d = exE 𝓤 _ (λ ws. snd∗ 𝓤 (sem 𝓤 H A (lasts fr.ended (κ, tt) (s, tt) ws)) (fact 𝓤 (d ≡ powerUp (kindIn (now s)))))
 
-  ea-of : (κ : Lft) (s : RefT (List ℕ)) (i : ℕ) (r : Raw) → ent 𝓤 (ensured 𝓤 H A ea.ended (ea.clauses 𝓤 H A at-mem run″) (κ, tt) (s, (i, tt)) tt r) (fact 𝓤 (r ≡ eventAt i (now s)))
-  ea-of κ s i r = exE 𝓤 _ (λ ws. snd∗ 𝓤 (sem 𝓤 H A (lasts ea.ended (κ, tt) (s, (i, tt)) ws)) (fact 𝓤 (r ≡ eventAt i (now s))))
+  ea-of : (κ : Lft) (s : RefT (List ℕ)) (i : ℕ) (r : Raw) → ent 𝓤 (ensured 𝓤 H A ea.ended (ea.clauses 𝓤 H A at-mem run″) (κ, tt) (s, (i, tt)) tt r) (fact 𝓤 (r ≡ eventAt i (eventsPart (now s))))
+  ea-of κ s i r = exE 𝓤 _ (λ ws. snd∗ 𝓤 (sem 𝓤 H A (lasts ea.ended (κ, tt) (s, (i, tt)) ws)) (fact 𝓤 (r ≡ eventAt i (eventsPart (now s)))))
 
-module _ {M : Type 1} (𝓤 : URA M) (H : Heap 𝓤) (A : Atoms 𝓤) (W : Given 𝓤 H A) (at-mem : Memory → SProp 𝓤) (run″ : Routine → Fun 𝓤) (κ : Lft) (q : Share) (s : RefT (List ℕ)) (n : ℕ) (s-is : Is (ShrSlice (named 0) κ u8) s (sliceVal (s .ptr) (length (s .now)) ∷ [])) (n-fits : n < 2 ^ 64) (holds : n ≤ eventCount (s .now)) where
-  -- the events' bytes, the device after the first i of them, and the machine value of the slice
+module _ {M : Type 1} (𝓤 : URA M) (H : Heap 𝓤) (A : Atoms 𝓤) (W : Given 𝓤 H A) (at-mem : Memory → SProp 𝓤) (run″ : Routine → Fun 𝓤) (κ : Lft) (q : Share) (s : RefT (List ℕ)) (n : ℕ) (s-is : Is (ShrSlice (named 0) κ u8) s (sliceVal (s .ptr) (length (s .now)) ∷ [])) (n-fits : n < 2 ^ 64) (holds : n ≤ eventCount (eventsPart (s .now))) where
+  -- the kind of part and the events' bytes, the device after the first i of them, and the machine value of the slice
+  abbrev kind : Kind
+  kind = kindIn (s .now)
+
   abbrev events : List ℕ
-  events = s .now
+  events = eventsPart (s .now)
 
   abbrev after : ℕ → Device
-  after i = runFrom powerUp (rawsIn i events)
+  after i = runFrom (powerUp kind) (rawsIn i events)
 
-  after-run : after n ≡ run (rawsIn n events)
+  after-run : after n ≡ run kind (rawsIn n events)
   unfolding run
   after-run = refl
 
   abbrev v : Val
-  v = sliceVal (s .ptr) (length events)
+  v = sliceVal (s .ptr) (length (s .now))
 
   abbrev Own : Fml
   Own = ShrSlice (named 0) κ u8 .own s (v ∷ [])
@@ -201,10 +205,11 @@ module _ {M : Type 1} (𝓤 : URA M) (H : Heap 𝓤) (A : Atoms 𝓤) (W : Given
 
   -- the calls: what each binds, and what it asks
   abbrev to-fr : Fr 𝓤 H A at-mem run″ .Ghost
-  to-fr = ((tt, tt, tt, tt, tt), tt)
+  to-fr = (((κ, tt), (q, tt), tt, (s, tt), (v ∷ [], tt)), tt)
 
-  goes-fr : ent 𝓤 (emp 𝓤) (Fr 𝓤 H A at-mem run″ .pre to-fr)
-  goes-fr = qed W [] ∵ nothing ! $ nothing ! $ join ! $ frame ! $ done !
+  goes-fr : ent 𝓤 (sep 𝓤 (A .lft κ q) (sem 𝓤 H A Own)) (Fr 𝓤 H A at-mem run″ .pre to-fr)
+  goes-fr =
+      qed W (‵ (flft κ q) ∷ ‵ Own ∷ []) ∵ nothing ! $ move ! (2 ∷ 0 ∷ []) $ join ! $ nothing ! $ move ! (2 ∷ 0 ∷ []) $ join ! $ join ! $ frame ! $ done !
 
   abbrev to-ea : ℕ → Ea 𝓤 H A at-mem run″ .Ghost
   to-ea i = (((κ, tt), (q, tt), tt, (s, (i, tt)), (v ∷ [], (vint w64 i ∷ [], tt))), tt)
@@ -323,7 +328,7 @@ module _ {M : Type 1} (𝓤 : URA M) (H : Heap 𝓤) (A : Atoms 𝓤) (W : Given
         move ! (1 ∷ []) $ peeks ! T.the-row (Is T.the-row) (shows 𝓤 H A T.the-row) (ws .0) (devVal (ws .0) ∷ []) (λ g′. drop ! $
         use1 W (‵ (fat fullShare T′.mir l₃ 0 (devVal (ws .0)))) (W .laws .raw-at fullShare T′.mir l₃ 0 (devVal (ws .0))) $
         keep ! (0 ∷ 3 ∷ 4 ∷ 5 ∷ 6 ∷ 7 ∷ 8 ∷ 9 ∷ 10 ∷ 11 ∷ 12 ∷ 13 ∷ 14 ∷ 15 ∷ 16 ∷ 17 ∷ 18 ∷ 19 ∷ 20 ∷ 21 ∷ 22 ∷ 23 ∷ 24 ∷ 25 ∷ []) $
-        third y (ws .0) (evVal r) c z (vptr l₃ 0) small g′ (ans-is c w is) (did .0 ∙ ap (λ (e : Raw). step d e .device) r-eq ∙ again-device powerUp events (y .0) d (step d (eventAt (y .0) events)) (has-event (y .0) small) d-eq refl))))))))))
+        third y (ws .0) (evVal r) c z (vptr l₃ 0) small g′ (ans-is c w is) (did .0 ∙ ap (λ (e : Raw). step d e .device) r-eq ∙ again-device (powerUp kind) events (y .0) d (step d (eventAt (y .0) events)) (has-event (y .0) small) d-eq refl))))))))))
 
     -- a turn, from its start: there is an event left, and it is read
     more : (y : X) → ltb (y .0) n ≡ true → ent 𝓤 (⋆ 𝓤 H A (Inv y)) (Wp 𝓤 H C Λ En pieces.turn-1 (afterTurn 𝓤 H (Below 𝓤 H A ≺ Inv y) Left))
@@ -333,7 +338,7 @@ module _ {M : Type 1} (𝓤 : URA M) (H : Heap 𝓤) (A : Atoms 𝓤) (W : Given
         rewrite ! 4 (λ (z : Bool). ‵ (fat fullShare tyBool l₈ 0 (vbool z))) e refl $ stays ! (load ! (from ! (stop !)) (look ! 4 refl)) $
         move ! (8 ∷ []) $ use1 W (‵ Own ⊛ ‵ Own) (shr-slice-copy 𝓤 H A W (named 0) κ u8 .twice s (v ∷ [])) $ split ! $
         move ! (9 ∷ 0 ∷ []) $ use2 W (raw (Ea 𝓤 H A at-mem run″ .pre (to-ea i))) (goes-ea i i-fits) $
-        -- [what `event_at` asks; the slice's; the device; i at 3; room for r, a; the test; room; room; t at 9; …]
+        -- [what `event_of` asks; the slice's; the device; i at 3; room for r, a; the test; room; room; t at 9; …]
         calls-at ! (fmOf 𝓤 H (W .laws) 𝓣) (Ea 𝓤 H A at-mem run″) known-ea (to-ea i) (and-then ! (load ! (from ! (stop !)) (look ! 9 refl)) (and-then ! (load ! (from ! (stop !)) (look ! 3 refl)) (no-more !))) (λ u.
         use1 W (later (some (λ (r : Raw). ((‵ (flft κ q) ⊛ ‵ ftrue) ⊛ ‵ (E.the-row .own r (u ∷ []))) ⊛ raw (ensured 𝓤 H A ea.ended (ea.clauses 𝓤 H A at-mem run″) (κ, tt) (s, (i, tt)) tt r)))) (id⊢ 𝓤 _) $ await ! tt $ pick ! (λ r.
         split ! $ move ! (1 ∷ []) $ use1 W (raw (fact 𝓤 (r ≡ eventAt i events))) (ea-of 𝓤 H A at-mem run″ κ s i r) $ heard ! (r ≡ eventAt i events) (λ r-eq. split ! $ move ! (1 ∷ []) $
@@ -378,7 +383,7 @@ module _ {M : Type 1} (𝓤 : URA M) (H : Heap 𝓤) (A : Atoms 𝓤) (W : Given
     loops : (d : Device) → DevIs d → d ≡ after 0 → Sq W (At 0 d) (runs C Λ En pieces.t-4 (atRet En Post))
     loops d g e = record { prf = loop-rule 𝓤 H (W .laws) 𝓣 ≺ wf En pieces.turn-1 Left (λ y. ⋆ 𝓤 H A (Inv y)) (λ y. turn-by y (ltb (y .0) n) refl) (0, (d, (omega arith, (e, g)))) }
 
-  start : powerUp ≡ after 0
+  start : powerUp kind ≡ after 0
   unfolding runFrom rawsIn
   start = refl
 
@@ -390,23 +395,26 @@ module _ {M : Type 1} (𝓤 : URA M) (H : Heap 𝓤) (A : Atoms 𝓤) (W : Given
       alloc1 ! (λ l₀. alloc1 ! (λ l₁. alloc1 ! (λ l₂. alloc1 ! (λ l₃. alloc1 ! (λ l₄. alloc1 ! (λ l₅. alloc1 ! (λ l₆. alloc1 ! (λ l₇. alloc1 ! (λ l₈. alloc1 ! (λ l₉. alloc1 ! (λ l₁₀. alloc0 ! $ params1 ! $
       pass1 ! (init ! 18 refl (shr-slice-lawful 𝓤 H A W (named 0) κ u8 .typed s (v ∷ []) s-is .0)) $ pass1 ! (init ! 16 refl (tt, record { fits = n-fits })) $ pass0 ! $
       -- [_10; …; _9; …; _8; …; _7 at 6; …; _6; …; _5; …; _4 at 12; …; _3 at 14; …; _2; …; _1; …; _0; …; the token; what the parameters own]
-      use0 W (raw (Fr 𝓤 H A at-mem run″ .pre to-fr)) goes-fr $
-      calls-at ! (fmOf 𝓤 H (W .laws) 𝓣) (Fr 𝓤 H A at-mem run″) known-fr to-fr (no-more !) (λ w.
-      use1 W (later (some (λ (d : Device). (‵ ftrue ⊛ ‵ (T.the-row .own d (w ∷ []))) ⊛ raw (ensured 𝓤 H A fr.ended (fr.clauses 𝓤 H A at-mem run″) tt tt tt d)))) (id⊢ 𝓤 _) $ await ! tt $ pick ! (λ d.
-      split ! $ move ! (1 ∷ []) $ use1 W (raw (fact 𝓤 (d ≡ powerUp))) (fr-of 𝓤 H A at-mem run″ d) $ heard ! (d ≡ powerUp) (λ e. split ! $ drop ! $
-      peeks ! T.the-row (Is T.the-row) (shows 𝓤 H A T.the-row) d (w ∷ []) (λ is. drop ! $
-      land ! (from ! (stop !)) (init ! 6 refl (LL.lawful T.the-type T′.the-laws 𝓤 H A W .typed d _ is .0)) $ rewrite ! 6 (λ (u : Val). ‵ (fat fullShare T′.mir l₇ 0 u)) (ap only (LL.tells T.the-type T′.the-laws d _ is)) refl $
-      assigns ! (of-opd ! (load ! (from ! (stop !)) (look ! 6 refl))) (from ! (stop !)) (init ! 14 refl (dev-has d (dev-is d w is))) $
-      assigns ! (of-opd ! (lit ! tt)) (from ! (stop !)) (init ! 12 refl (tt, record { fits = lit< tt })) $ forget ! 6 refl $
-      move ! (23 ∷ []) $ fsplit ! $ move ! (24 ∷ []) $ split ! $
-      keep ! (18 ∷ 16 ∷ 14 ∷ 12 ∷ 8 ∷ 6 ∷ 4 ∷ 0 ∷ 2 ∷ 22 ∷ 20 ∷ 10 ∷ 24 ∷ 25 ∷ 23 ∷ 21 ∷ 19 ∷ 17 ∷ 15 ∷ 13 ∷ 11 ∷ 9 ∷ 7 ∷ 5 ∷ []) $
+      -- the token and the slice's are split off, and the slice's is there twice: one is handed to `fresh_for`
+      move ! (23 ∷ []) $ fsplit ! $ move ! (24 ∷ []) $ split ! $ move ! (2 ∷ []) $ use1 W (‵ Own ⊛ ‵ Own) (shr-slice-copy 𝓤 H A W (named 0) κ u8 .twice s (v ∷ [])) $ split ! $
+      move ! (2 ∷ 0 ∷ []) $ use2 W (raw (Fr 𝓤 H A at-mem run″ .pre to-fr)) goes-fr $
+      -- [what `fresh_for` asks; the slice's; true; n's; _10 at 4; …; _1 at 22; …]
+      calls-at ! (fmOf 𝓤 H (W .laws) 𝓣) (Fr 𝓤 H A at-mem run″) known-fr to-fr (and-then ! (load ! (from ! (stop !)) (look ! 22 refl)) (no-more !)) (λ w.
+      use1 W (later (some (λ (d : Device). ((‵ (flft κ q) ⊛ ‵ ftrue) ⊛ ‵ (T.the-row .own d (w ∷ []))) ⊛ raw (ensured 𝓤 H A fr.ended (fr.clauses 𝓤 H A at-mem run″) (κ, tt) (s, tt) tt d)))) (id⊢ 𝓤 _) $ await ! tt $ pick ! (λ d.
+      split ! $ move ! (1 ∷ []) $ use1 W (raw (fact 𝓤 (d ≡ powerUp kind))) (fr-of 𝓤 H A at-mem run″ κ s d) $ heard ! (d ≡ powerUp kind) (λ e. split ! $ move ! (1 ∷ []) $
+      peeks ! T.the-row (Is T.the-row) (shows 𝓤 H A T.the-row) d (w ∷ []) (λ is. drop ! $ split ! $
+      -- [the token; true; the slice's; true; n's; _10 at 5; …; _7 at 11; …; _4 at 17; …; _3 at 19; …]
+      land ! (from ! (stop !)) (init ! 11 refl (LL.lawful T.the-type T′.the-laws 𝓤 H A W .typed d _ is .0)) $ rewrite ! 11 (λ (u : Val). ‵ (fat fullShare T′.mir l₇ 0 u)) (ap only (LL.tells T.the-type T′.the-laws d _ is)) refl $
+      assigns ! (of-opd ! (load ! (from ! (stop !)) (look ! 11 refl))) (from ! (stop !)) (init ! 19 refl (dev-has d (dev-is d w is))) $
+      assigns ! (of-opd ! (lit ! tt)) (from ! (stop !)) (init ! 17 refl (tt, record { fits = lit< tt })) $ forget ! 11 refl $
+      keep ! (19 ∷ 17 ∷ 15 ∷ 13 ∷ 9 ∷ 7 ∷ 5 ∷ 0 ∷ 2 ∷ 23 ∷ 21 ∷ 11 ∷ 25 ∷ 26 ∷ 24 ∷ 22 ∷ 20 ∷ 18 ∷ 16 ∷ 14 ∷ 12 ∷ 10 ∷ 8 ∷ 6 ∷ []) $
       loops 𝓣 known-ea known-sl known-pa l₀ l₁ l₂ l₃ l₄ l₅ l₆ l₇ l₈ l₉ l₁₀ d (dev-is d w is) (e ∙ start))))))))))))))))
 
 module _ {M : Type 1} (𝓤 : URA M) (H : Heap 𝓤) (A : Atoms 𝓤) (W : Given 𝓤 H A) (at-mem : Memory → SProp 𝓤) (run″ : Routine → Fun 𝓤) (𝓣 : Tables 𝓤 H)
     (known-fr : Triple 𝓤 (𝓣 .C #fr) (Fr 𝓤 H A at-mem run″)) (known-ea : Triple 𝓤 (𝓣 .C #ea) (Ea 𝓤 H A at-mem run″)) (known-sl : Triple 𝓤 (𝓣 .C #sl) (Sl 𝓤 H A at-mem run″)) (known-pa : Triple 𝓤 (𝓣 .C #pa) (Pa 𝓤 H A at-mem run″)) where
   self-walks : Walks 𝓤 H A self.ended stayed (WpFn 𝓤 H (𝓣 .C) (𝓣 .Λ) code.function) (self.clauses 𝓤 H A at-mem run″)
   self-walks = walked 𝓤 H A self.ended stayed (self.clauses 𝓤 H A at-mem run″) (WpFn 𝓤 H (𝓣 .C) (𝓣 .Λ) code.function) (λ κs. (slice-vals, (uint-vals w64, tt))) (λ κs. (shr-slice-tells (named 0) (κs .0) u8, (uint-tells w64, tt)))
-      (λ κs qs bounds a _ are. needs 𝓤 (a .1 .0 ≤ eventCount (a .0 .now)) _ (λ holds. walk 𝓤 H A W at-mem run″ (κs .0) (qs .0) (a .0) (a .1 .0) (are .0) (are .1 .0 .1) holds 𝓣 known-fr known-ea known-sl known-pa))
+      (λ κs qs bounds a _ are. needs 𝓤 (a .1 .0 ≤ eventCount (eventsPart (a .0 .now))) _ (λ holds. walk 𝓤 H A W at-mem run″ (κs .0) (qs .0) (a .0) (a .1 .0) (are .0) (are .1 .0 .1) holds 𝓣 known-fr known-ea known-sl known-pa))
 
   self-meets : Meets 𝓤 H A self.signature (WpFn 𝓤 H (𝓣 .C) (𝓣 .Λ) code.function) (self.spec 𝓤 H A at-mem run″)
   self-meets =
@@ -419,7 +427,7 @@ drive-spec 𝓤 H 𝓜 𝓖 𝓡 =
     entered 𝓤 H (tripleOf 𝓤 H (𝓖 .A) self.signature (self.spec 𝓤 H (𝓖 .A) (𝓜 .mem) (𝓡 .run)))
     (tables 𝓤 H 𝓜 𝓡 code.env .C) (tables 𝓤 H 𝓜 𝓡 code.env .Λ) #self code.function (code.unfolded 𝓤 H 𝓜 𝓡)
     (self-meets 𝓤 H (𝓖 .A) (givenOf 𝓤 H 𝓜 𝓖) (𝓜 .mem) (𝓡 .run) (tablesOf 𝓤 H 𝓜 (tables 𝓤 H 𝓜 𝓡 code.env))
-    (cited 𝓤 H (Fr 𝓤 H (𝓖 .A) (𝓜 .mem) (𝓡 .run)) 𝓜 𝓡 code.env #fr fr-def.routine code.calls-step·fresh (fr-thm.met 𝓤 H 𝓜 𝓖 𝓡))
-    (cited 𝓤 H (Ea 𝓤 H (𝓖 .A) (𝓜 .mem) (𝓡 .run)) 𝓜 𝓡 code.env #ea ea-def.routine code.calls-format·event-at (ea-thm.met 𝓤 H 𝓜 𝓖 𝓡))
+    (cited 𝓤 H (Fr 𝓤 H (𝓖 .A) (𝓜 .mem) (𝓡 .run)) 𝓜 𝓡 code.env #fr fr-def.routine code.calls-bench·fresh-for (fr-thm.met 𝓤 H 𝓜 𝓖 𝓡))
+    (cited 𝓤 H (Ea 𝓤 H (𝓖 .A) (𝓜 .mem) (𝓡 .run)) 𝓜 𝓡 code.env #ea ea-def.routine code.calls-bench·event-of (ea-thm.met 𝓤 H 𝓜 𝓖 𝓡))
     (cited 𝓤 H (Sl 𝓤 H (𝓖 .A) (𝓜 .mem) (𝓡 .run)) 𝓜 𝓡 code.env #sl sl-def.routine code.calls-lent·step-lent (sl-thm.met 𝓤 H 𝓜 𝓖 𝓡))
     (cited 𝓤 H (Pa 𝓤 H (𝓖 .A) (𝓜 .mem) (𝓡 .run)) 𝓜 𝓡 code.env #pa pa-def.routine code.calls-bench·print-answer (pa-thm.met 𝓤 H 𝓜 𝓖 𝓡)))

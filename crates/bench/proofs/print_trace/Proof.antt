@@ -1,8 +1,7 @@
 -- `bench::print_trace`: the events of an accepted trace lie in it, and are at most 4,096.
 -- Assumes nothing.
-use mathlib.Core.Path.{sym, ap, _∙_}
+use mathlib.Core.Path.{sym, _∙_}
 use native.Mathlib.Omega.{arith}
-use lib.ListN.{length}
 use borrow.Author.Needs.{needs}
 use Rattle.traces.proofs.Reading.{accepted-fits, part-length}
 use Rattle.bench.proofs.print_trace.Statement.{statement}
@@ -20,15 +19,12 @@ print-listing-requires c κs = search needs
 enum-known-read : tie.Need-enum-known-read
 enum-known-read c = search needs
 
-events-in-requires : tie.Need-events-in-requires
-events-in-requires c κs = search needs
-
 print-accepted-requires : tie.Need-print-accepted-requires
 print-accepted-requires c κs =
-    let told = c .before .before in
+    let told = c .before in
     let h = sym (told .before .before .read-trace .ensures .0) ∙ told .read .given .1 in
-    let size = ap length (c .events-in .ensures) ∙ part-length _ _ _ _ h in
-    (omega (arith, size), accepted-fits _ _ _ _ h .2)
+    let size = part-length _ _ _ _ _ h in
+    (omega (arith, size), accepted-fits _ _ _ _ _ h .2)
 
 returns : tie.Need-returns
 returns c = search needs
@@ -44,7 +40,6 @@ print-trace-spec =
     enum-told
     print-listing-requires
     enum-known-read
-    events-in-requires
     print-accepted-requires
     returns
     returns-2)

@@ -8,6 +8,9 @@ use borrow.Author.Needs.{needs}
 use Rattle.effects.proofs.on_tick.Statement.{statement}
 use Rattle.effects.proofs.on_tick.Tie as tie
 
+idle-limit-requires : tie.Need-idle-limit-requires
+idle-limit-requires c κs = search needs
+
 ticked-bus-requires : tie.Need-ticked-bus-requires
 ticked-bus-requires c κs = search needs
 
@@ -32,12 +35,14 @@ returns c =
       c .before .before .device-with .ensures,
       c .before .before .before .ticked-arb .ensures,
       c .before .before .before .before .ticked-bus .ensures,
+      c .before .before .before .before .before .idle-limit .ensures,
     )
 
 pub on-tick-spec : {M : Type 1} → statement M
 on-tick-spec =
     tie.close
     (tie.spec
+    idle-limit-requires
     ticked-bus-requires
     ticked-arb-requires
     device-with-requires

@@ -6,31 +6,31 @@ use Prim.Native.Nat.{ℕ, _*_, _-_, _≤_}
 use native.Mathlib.Omega.{arith}
 use lib.ListN.{length, take, drop}
 use borrow.Author.Tests.{le-ltb, lt-ltb}
-use Rattle.arbiter.specs.Traces.{headBytes, eventBytes, wholeBytes, countIn}
+use Rattle.arbiter.specs.Traces.{headBytes, eventBytes, eventsEnd, countIn}
 use Rattle.format.specs.Places.{eventsPart}
 use borrow.Author.Needs.{needs}
 use Rattle.format.proofs.events_in.Statement.{statement}
 use Rattle.format.proofs.events_in.Tie as tie
 
 -- the part from the head to where the events end
-part : (t : List ℕ) (end : ℕ) → end ≡ wholeBytes (countIn t) → end ≤ length t → take (end - headBytes) (drop headBytes t) ≡ eventsPart t
+part : (t : List ℕ) (end : ℕ) → end ≡ eventsEnd (countIn t) → end ≤ length t → take (end - headBytes) (drop headBytes t) ≡ eventsPart t
 unfolding eventsPart
 part t end e h =
     let size : end - headBytes ≡ eventBytes * countIn t = omega arith in
-    simp (size, le-ltb (length t) (wholeBytes (countIn t)) (omega arith))
+    simp (size, le-ltb (length t) (eventsEnd (countIn t)) (omega arith))
 
 count-in-requires : tie.Need-count-in-requires
 count-in-requires c κs = search needs
 
-whole-bytes-requires : tie.Need-whole-bytes-requires
-whole-bytes-requires c κs = search needs
+events-end-requires : tie.Need-events-end-requires
+events-end-requires c κs = search needs
 
 slice-aggregate-result : tie.Need-slice-aggregate-result
 slice-aggregate-result c = search needs
 
 returns : tie.Need-returns
 unfolding eventsPart
-returns c = simp (lt-ltb _ _ (c .before .if1 .taken), ← c .before .before .whole-bytes .ensures, ← c .before .before .before .count-in .ensures)
+returns c = simp (lt-ltb _ _ (c .before .if1 .taken), ← c .before .before .events-end .ensures, ← c .before .before .before .count-in .ensures)
 
 sub-result : tie.Need-sub-result
 sub-result c = search needs
@@ -43,7 +43,7 @@ part-result-end c = search needs
 
 returns-2 : tie.Need-returns-2
 returns-2 c =
-    let end = c .before .before .whole-bytes .ensures ∙ ap wholeBytes (c .before .before .before .count-in .ensures) in
+    let end = c .before .before .events-end .ensures ∙ ap eventsEnd (c .before .before .before .count-in .ensures) in
     part _ _ end (c .before .if1 .left)
 
 pub events-in-spec : {M : Type 1} → statement M
@@ -51,7 +51,7 @@ events-in-spec =
     tie.close
     (tie.spec
     count-in-requires
-    whole-bytes-requires
+    events-end-requires
     slice-aggregate-result
     returns
     sub-result

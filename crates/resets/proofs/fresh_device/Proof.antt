@@ -1,7 +1,7 @@
 -- `resets::fresh_device` meets its contract.
 -- Assumes nothing.
-use Rattle.arbiter.specs.Effects.{powerUp}
 use borrow.Author.Needs.{needs}
+use Rattle.arbiter.specs.Effects.{powerUp}
 use Rattle.resets.proofs.fresh_device.Statement.{statement}
 use Rattle.resets.proofs.fresh_device.Tie as tie
 
@@ -17,12 +17,9 @@ fresh-bus-requires c κs = search needs
 fresh-arb-requires : tie.Need-fresh-arb-requires
 fresh-arb-requires c κs = search needs
 
-device-with-requires : tie.Need-device-with-requires
-device-with-requires c κs = search needs
-
 returns : tie.Need-returns
 unfolding powerUp
-returns c = simp (c .device-with .ensures, c .before .fresh-arb .ensures, c .before .before .fresh-bus .ensures, c .before .before .before .fresh-side2 .ensures, c .before .before .before .before .fresh-side .ensures)
+returns c = simp (c .fresh-arb .ensures, c .before .fresh-bus .ensures, c .before .before .fresh-side2 .ensures, c .before .before .before .fresh-side .ensures)
 
 pub fresh-device-spec : {M : Type 1} → statement M
 fresh-device-spec =
@@ -32,5 +29,4 @@ fresh-device-spec =
     fresh-side-requires-2
     fresh-bus-requires
     fresh-arb-requires
-    device-with-requires
     returns)

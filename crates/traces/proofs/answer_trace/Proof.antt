@@ -9,13 +9,16 @@ use Rattle.traces.proofs.answer_trace.Tie as tie
 run-trace-requires : tie.Need-run-trace-requires
 run-trace-requires c κs = search needs
 
+device-kind-requires : tie.Need-device-kind-requires
+device-kind-requires c κs = search needs
+
 same-length : tie.Need-same-length
 same-length c = search needs
 
 returns : tie.Need-returns
 returns c =
-    let ran = c .before .before .run-trace .ensures in
-    (ap headOf (ran .0), ran .1)
+    let ran = c .before .before .before .run-trace .ensures in
+    (simp (c .device-kind .ensures) (ap headOf (ran .0)), ran .1)
 
 pub answer-trace-spec : {M : Type 1} → statement M
-answer-trace-spec = tie.close (tie.spec run-trace-requires same-length returns)
+answer-trace-spec = tie.close (tie.spec run-trace-requires device-kind-requires same-length returns)

@@ -1,9 +1,8 @@
 -- `traces::read_counted` meets its contract.
 -- Assumes nothing.
+use borrow.Author.Needs.{needs}
 use borrow.Author.Tests.{le-ltb, lt-ltb}
 use Rattle.arbiter.specs.Traces.{readCounted}
-use borrow.Author.Needs.{needs}
-use Rattle.traces.specs.Bodies.{bodyRead}
 use Rattle.traces.proofs.read_counted.Statement.{statement}
 use Rattle.traces.proofs.read_counted.Tie as tie
 
@@ -14,12 +13,51 @@ returns c = simp (lt-ltb _ _ (c .if1 .taken))
 count-in-requires : tie.Need-count-in-requires
 count-in-requires c κs = search needs
 
-body-read-requires : tie.Need-body-read-requires
-body-read-requires c κs = search needs
+cast-if2 : tie.Need-cast-if2
+cast-if2 c = search needs
 
 returns-2 : tie.Need-returns-2
-unfolding readCounted bodyRead
-returns-2 c = simp (c .body-read .ensures, c .before .count-in .ensures, le-ltb _ _ (c .before .before .if1 .left))
+unfolding readCounted
+returns-2 c = simp (lt-ltb _ _ (c .if2 .taken), ← c .before .count-in .ensures, le-ltb _ _ (c .before .before .if1 .left))
+
+events-end-requires : tie.Need-events-end-requires
+events-end-requires c κs = search needs
+
+returns-3 : tie.Need-returns-3
+unfolding readCounted
+returns-3 c =
+    simp (
+      lt-ltb _ _ (c .if3 .taken),
+      ← c .before .events-end .ensures,
+      le-ltb _ _ (c .before .before .if2 .left),
+      ← c .before .before .before .count-in .ensures,
+      le-ltb _ _ (c .before .before .before .before .if1 .left),
+    )
+
+read-kind-requires : tie.Need-read-kind-requires
+read-kind-requires c κs = search needs
+
+returns-4 : tie.Need-returns-4
+unfolding readCounted
+returns-4 c =
+    simp (
+      ← c .read-kind .ensures,
+      le-ltb _ _ (c .before .if3 .left),
+      ← c .before .before .events-end .ensures,
+      le-ltb _ _ (c .before .before .before .if2 .left),
+      ← c .before .before .before .before .count-in .ensures,
+      le-ltb _ _ (c .before .before .before .before .before .if1 .left),
+    )
 
 pub read-counted-spec : {M : Type 1} → statement M
-read-counted-spec = tie.close (tie.spec returns count-in-requires body-read-requires returns-2)
+read-counted-spec =
+    tie.close
+    (tie.spec
+    returns
+    count-in-requires
+    cast-if2
+    returns-2
+    events-end-requires
+    returns-3
+    read-kind-requires
+    returns-4)

@@ -54,8 +54,8 @@ returns-2 c =
     let told = part .before .before .before in
     let h = sym (told .before .before .read-trace .ensures .0) ∙ told .read2 .given .1 in
     let new = part .before .fresh2 .ensures in (
-      c .reported2 .ensures ∙ played-report _ _ _ _ h _ _ _ new (part .events-in .ensures) (ran .run-events .ensures .0),
-      ran .run-events .ensures .1 ∙ played-buffer _ _ _ _ h _ _ new (part .events-in .ensures),
+      c .reported2 .ensures ∙ played-report _ _ _ _ _ h _ _ _ new (part .events-in .ensures) (ran .run-events .ensures .0),
+      ran .run-events .ensures .1 ∙ played-buffer _ _ _ _ _ h _ _ new (part .events-in .ensures),
     )
 
 pub run-trace-spec : {M : Type 1} → statement M

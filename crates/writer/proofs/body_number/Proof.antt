@@ -1,5 +1,6 @@
 -- `writer::body_number` meets its contract.
 -- Assumes nothing.
+use mathlib.Core.Path.{sym, _∙_}
 use borrow.Author.Tests.{eq-eqb, ne-eqb, le-ltb, lt-ltb}
 use borrow.Author.Needs.{needs}
 use Rattle.writer.specs.Numbers.{bodyNumber}
@@ -10,23 +11,52 @@ returns : tie.Need-returns
 unfolding bodyNumber
 returns c = simp (lt-ltb _ _ (c .if2 .taken), eq-eqb _ _ (c .before .if1 .taken))
 
-mul-if3 : tie.Need-mul-if3
-mul-if3 c = search needs
+is-kind-requires : tie.Need-is-kind-requires
+is-kind-requires c κs = search needs
 
-add-if3 : tie.Need-add-if3
-add-if3 c = search needs
+mul-if4 : tie.Need-mul-if4
+mul-if4 c = search needs
+
+add-if4 : tie.Need-add-if4
+add-if4 c = search needs
+
+add-if4-2 : tie.Need-add-if4-2
+add-if4-2 c = search needs
 
 returns-2 : tie.Need-returns-2
 unfolding bodyNumber
-returns-2 c = simp (lt-ltb _ _ (c .if3 .taken), le-ltb _ _ (c .before .if2 .left), eq-eqb _ _ (c .before .before .if1 .taken))
+returns-2 c =
+    let known = c .before in
+    let few = known .before .before in
+    simp (lt-ltb _ _ (c .if4 .taken), sym (known .before .is-kind .ensures) ∙ known .if3 .taken, le-ltb _ _ (few .if2 .left), eq-eqb _ _ (few .before .if1 .taken))
 
 returns-3 : tie.Need-returns-3
 unfolding bodyNumber
-returns-3 c = simp (le-ltb _ _ (c .if3 .left), le-ltb _ _ (c .before .if2 .left), eq-eqb _ _ (c .before .before .if1 .taken))
+returns-3 c =
+    let known = c .before in
+    let few = known .before .before in
+    simp (le-ltb _ _ (c .if4 .left), sym (known .before .is-kind .ensures) ∙ known .if3 .taken, le-ltb _ _ (few .if2 .left), eq-eqb _ _ (few .before .if1 .taken))
 
 returns-4 : tie.Need-returns-4
 unfolding bodyNumber
-returns-4 c = simp (ne-eqb _ _ (c .if1 .left))
+returns-4 c =
+    let few = c .before .before in
+    simp (sym (c .before .is-kind .ensures) ∙ c .if3 .left, le-ltb _ _ (few .if2 .left), eq-eqb _ _ (few .before .if1 .taken))
+
+returns-5 : tie.Need-returns-5
+unfolding bodyNumber
+returns-5 c = simp (ne-eqb _ _ (c .if1 .left))
 
 pub body-number-spec : {M : Type 1} → statement M
-body-number-spec = tie.close (tie.spec returns mul-if3 add-if3 returns-2 returns-3 returns-4)
+body-number-spec =
+    tie.close
+    (tie.spec
+    returns
+    is-kind-requires
+    mul-if4
+    add-if4
+    add-if4-2
+    returns-2
+    returns-3
+    returns-4
+    returns-5)

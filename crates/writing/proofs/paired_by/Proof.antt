@@ -5,6 +5,9 @@ use borrow.Author.Needs.{needs}
 use Rattle.writing.proofs.paired_by.Statement.{statement}
 use Rattle.writing.proofs.paired_by.Tie as tie
 
+rolls-over-requires : tie.Need-rolls-over-requires
+rolls-over-requires c κs = search needs
+
 pointer-of-requires : tie.Need-pointer-of-requires
 pointer-of-requires c κs = search needs
 
@@ -85,12 +88,14 @@ returns c =
       c .before .before .before .before .before .before .before .before .before .before .before .before .before .before .before .before .turn-of .ensures,
       c .before .before .before .before .before .before .before .before .before .before .before .before .before .before .before .before .before .pointer-of2 .ensures,
       c .before .before .before .before .before .before .before .before .before .before .before .before .before .before .before .before .before .before .pointer-of .ensures,
+      c .before .before .before .before .before .before .before .before .before .before .before .before .before .before .before .before .before .before .before .rolls-over .ensures,
     )
 
 pub paired-by-spec : {M : Type 1} → statement M
 paired-by-spec =
     tie.close
     (tie.spec
+    rolls-over-requires
     pointer-of-requires
     pointer-of-requires-2
     turn-of-requires

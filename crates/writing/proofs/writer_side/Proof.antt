@@ -49,7 +49,7 @@ returns c =
       c .before .before .before .before .before .before .before .before .register-number .ensures,
       c .before .before .before .before .before .before .before .before .before .pointer-of .ensures,
     )
-    (writer-law _ _ _ _)
+    (writer-law _ _ _ _ _)
 
 pub writer-side-spec : {M : Type 1} → statement M
 writer-side-spec =

@@ -5,6 +5,9 @@ use borrow.Author.Needs.{needs}
 use Rattle.writing.proofs.written_by_0.Statement.{statement}
 use Rattle.writing.proofs.written_by_0.Tie as tie
 
+rolls-over-requires : tie.Need-rolls-over-requires
+rolls-over-requires c κs = search needs
+
 pointer-of-requires : tie.Need-pointer-of-requires
 pointer-of-requires c κs = search needs
 
@@ -53,12 +56,14 @@ returns c =
       c .before .before .before .before .before .before .before .before .owns-turn .ensures,
       c .before .before .before .before .before .before .before .before .before .turn-of .ensures,
       c .before .before .before .before .before .before .before .before .before .before .pointer-of .ensures,
+      c .before .before .before .before .before .before .before .before .before .before .before .rolls-over .ensures,
     )
 
 pub written-by-0-spec : {M : Type 1} → statement M
 written-by-0-spec =
     tie.close
     (tie.spec
+    rolls-over-requires
     pointer-of-requires
     turn-of-requires
     owns-turn-requires

@@ -6,6 +6,9 @@ use Rattle.arbitration.proofs.Laws.{losses-law}
 use Rattle.arbitration.proofs.losses.losses_of.Statement.{statement}
 use Rattle.arbitration.proofs.losses.losses_of.Tie as tie
 
+idle-limit-requires : tie.Need-idle-limit-requires
+idle-limit-requires c κs = search needs
+
 turn-of-requires : tie.Need-turn-of-requires
 turn-of-requires c κs = search needs
 
@@ -62,6 +65,7 @@ returns c =
       c .before .before .before .before .before .before .before .before .before .before .runs-out .ensures,
       c .before .before .before .before .before .before .before .before .before .before .before .owns-turn .ensures,
       c .before .before .before .before .before .before .before .before .before .before .before .before .turn-of .ensures,
+      c .before .before .before .before .before .before .before .before .before .before .before .before .before .idle-limit .ensures,
     )
     (losses-law _)
 
@@ -69,6 +73,7 @@ pub losses-of-spec : {M : Type 1} → statement M
 losses-of-spec =
     tie.close
     (tie.spec
+    idle-limit-requires
     turn-of-requires
     owns-turn-requires
     runs-out-requires

@@ -1,0 +1,62 @@
+-- `traces::read_kind` meets its contract.
+-- Assumes nothing.
+use mathlib.Core.Path.{sym, _∙_}
+use borrow.Author.Needs.{needs}
+use borrow.Author.Tests.{eq-eqb, le-ltb, lt-ltb, ne-eqb}
+use Rattle.arbiter.specs.Traces.{readKind}
+use Rattle.traces.specs.Bodies.{kindRead}
+use Rattle.traces.proofs.read_kind.Statement.{statement}
+use Rattle.traces.proofs.read_kind.Tie as tie
+
+events-end-requires : tie.Need-events-end-requires
+events-end-requires c κs = search needs
+
+add-if1 : tie.Need-add-if1
+add-if1 c = search needs
+
+returns : tie.Need-returns
+unfolding readKind
+returns c = simp (lt-ltb _ _ (c .if1 .taken), ← c .before .events-end .ensures)
+
+kind-count-at-requires : tie.Need-kind-count-at-requires
+kind-count-at-requires c κs = search needs
+
+kind-at-requires : tie.Need-kind-at-requires
+kind-at-requires c κs = search needs
+
+kind-read-requires : tie.Need-kind-read-requires
+kind-read-requires c κs = search needs
+
+returns-2 : tie.Need-returns-2
+unfolding readKind kindRead
+returns-2 c =
+    let counted = c .before .before in
+    let cut = counted .before .before in
+    simp (
+      c .kind-read .ensures,
+      c .before .kind-at .ensures,
+      eq-eqb _ _ (sym (counted .before .kind-count-at .ensures) ∙ counted .if2 .taken),
+      le-ltb _ _ (rw (cut .before .events-end .ensures) at (cut .if1 .left)),
+    )
+
+returns-3 : tie.Need-returns-3
+unfolding readKind
+returns-3 c =
+    let cut = c .before .before in
+    simp (
+      ne-eqb _ _ (λ h. c .if2 .left (c .before .kind-count-at .ensures ∙ h)),
+      le-ltb _ _ (rw (cut .before .events-end .ensures) at (cut .if1 .left)),
+    )
+
+pub read-kind-spec : {M : Type 1} → statement M
+read-kind-spec =
+    tie.close
+    (tie.spec
+    events-end-requires
+    add-if1
+    returns
+    kind-count-at-requires
+    kind-at-requires
+    kind-read-requires
+    returns-2
+    returns-3)
