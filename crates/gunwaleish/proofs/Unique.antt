@@ -4,6 +4,7 @@ use denote.Ref.{now}
 use Rattle.arbiter.proofs.Once.{OneResult, OneLeft, once}
 use Rattle.gunwaleish.proofs.gunwaleish_run_trace.Reads as gunwaleish-run-trace
 use Rattle.gunwaleish.proofs.gunwaleish_write_trace.Reads as gunwaleish-write-trace
+use Rattle.gunwaleish.proofs.gunwaleish_convert_trace.Reads as gunwaleish-convert-trace
 use Rattle.gunwaleish.proofs.gunwaleish_listing.Reads as gunwaleish-listing
 use Rattle.gunwaleish.proofs.gunwaleish_import_capture.Reads as gunwaleish-import-capture
 use Rattle.gunwaleish.proofs.gunwaleish_address_of.Reads as gunwaleish-address-of
@@ -12,8 +13,11 @@ use Rattle.gunwaleish.proofs.gunwaleish_pins_of.Reads as gunwaleish-pin
 pub gunwaleish-run-trace-once : OneLeft (λ κ s. now (s .1 .0)) gunwaleish-run-trace.Post
 gunwaleish-run-trace-once κ a x y s t p q = (once (p .0) (q .0), once (p .1) (q .1))
 
-pub gunwaleish-write-trace-once : OneLeft (λ κ s. now (s .1 .1 .1 .1 .1 .0)) gunwaleish-write-trace.Post
+pub gunwaleish-write-trace-once : OneLeft (λ κ s. now (s .1 .1 .1 .1 .1 .1 .0)) gunwaleish-write-trace.Post
 gunwaleish-write-trace-once κ a x y s t p q = (once (p .0) (q .0), once (p .1) (q .1))
+
+pub gunwaleish-convert-trace-once : OneLeft (λ κ s. now (s .1 .0)) gunwaleish-convert-trace.Post
+gunwaleish-convert-trace-once κ a x y s t p q = (once (p .0) (q .0), once (p .1) (q .1))
 
 pub gunwaleish-listing-once : OneLeft (λ κ s. now (s .1 .0)) gunwaleish-listing.Post
 gunwaleish-listing-once κ a x y s t p q = (once (p .0) (q .0), once (p .1) (q .1))

@@ -3,6 +3,7 @@
 -- Assumes nothing.
 use Prim.Native.Nat.{ℕ, _+_, _*_}
 use Rattle.arbiter.specs.Straps.{strappedNumber, strappedAddress, strappingNumber}
+use Rattle.arbiter.specs.Traces.{kindNumber}
 use Rattle.arbiter.specs.declared.Report.{Report}
 use Rattle.arbiter.specs.declared.Written.{Written}
 use Rattle.arbiter.specs.declared.Strapped.{Strapped}
@@ -10,9 +11,9 @@ use Rattle.arbiter.specs.declared.Strapping.{Strapping}
 use Rattle.arbiter.specs.declared.Strapping.the-variants.{Straps, Outside}
 use Rattle.capture.specs.declared.Imported.{Imported}
 
--- a report: the number, the address, and from 65,536 on the count of events
+-- a report: the number, the address, from 65,536 on the count of events, and from 4,294,967,296 on the kind of part
 abbrev pub packedReport : Report → ℕ
-packedReport r = r .number + 256 * r .address + 65536 * r .events
+packedReport r = r .number + 256 * r .address + 65536 * r .events + 4294967296 * kindNumber (r .device .kind)
 
 -- a trace that was written: the number, and from 256 on its length (0 where nothing was written)
 abbrev pub packedWritten : Written → ℕ

@@ -4,6 +4,7 @@ ghost use mathlib.Core.Path.{_≡_};
 ghost use lib.ListN.{length};
 ghost use Rattle.arbiter.specs.Straps.{addressOf, strapsOf};
 ghost use Rattle.arbiter.specs.Traces.{report, bufferAfter};
+ghost use Rattle.arbiter.specs.OldTraces.{conversion, bufferConverted};
 ghost use Rattle.arbiter.specs.Writing.{written, bufferWritten};
 ghost use Rattle.arbiter.specs.Listing.{listing};
 ghost use Rattle.text.specs.Written.{textAfter};
@@ -13,6 +14,7 @@ ghost use Rattle.gunwaleish.specs.Packed.{packedReport, packedWritten, p
 use arbiter::Pins;
 use arbiter::Strapped;
 use arbiter::Strapping;
+use converter::convert_trace;
 use importing::import_capture;
 use straps::address_of;
 use straps::straps_of;
@@ -32,23 +34,33 @@ pub extern "C" fn gunwaleish_run_trace(t: &[u8], out: &mut [u8]) -> u64
     ensures { λ r. ⌜ (r ≡ packedReport (report (now (t .entry)) (now (out .entry)))) × (now (out .exit) ≡ bufferAfter (now (t .entry)) (now (out .entry))) ⌝ }
 {
     let r = answer_trace(t, out);
-    byte(r.number) + 256 * byte(r.address) + 65536 * (r.events as u64)
+    byte(r.number) + 256 * byte(r.address) + 65536 * (r.events as u64) + 4294967296 * byte(r.kind)
 }
 
-// The trace of four pins and some events into a lent buffer.
+// The trace of four pins, a kind of part and some events into a lent buffer.
 #[no_mangle]
 pub extern "C" fn gunwaleish_write_trace(
     ad3: u8,
     ad2: u8,
     ad1: u8,
     ad0: u8,
+    kind: u8,
     events: &[u8],
     out: &mut [u8],
 ) -> u64
-    ensures { λ r. ⌜ (r ≡ packedWritten (written (record { ad3 = ad3; ad2 = ad2; ad1 = ad1; ad0 = ad0 }) (now (events .entry)) (now (out .entry)))) × (now (out .exit) ≡ bufferWritten (record { ad3 = ad3; ad2 = ad2; ad1 = ad1; ad0 = ad0 }) (now (events .entry)) (now (out .entry))) ⌝ }
+    ensures { λ r. ⌜ (r ≡ packedWritten (written (record { ad3 = ad3; ad2 = ad2; ad1 = ad1; ad0 = ad0 }) kind (now (events .entry)) (now (out .entry)))) × (now (out .exit) ≡ bufferWritten (record { ad3 = ad3; ad2 = ad2; ad1 = ad1; ad0 = ad0 }) kind (now (events .entry)) (now (out .entry))) ⌝ }
 {
-    let w = write_trace(Pins { ad3, ad2, ad1, ad0 }, events, out);
+    let w = write_trace(Pins { ad3, ad2, ad1, ad0 }, kind, events, out);
     byte(w.number) + 256 * (w.length as u64)
+}
+
+// A trace from before the kind of part, with the section of a PCA9641 added, into a lent buffer.
+#[no_mangle]
+pub extern "C" fn gunwaleish_convert_trace(old: &[u8], out: &mut [u8]) -> u64
+    ensures { λ r. ⌜ (r ≡ packedWritten (conversion (now (old .entry)) (now (out .entry)))) × (now (out .exit) ≡ bufferConverted (now (old .entry)) (now (out .entry))) ⌝ }
+{
+    let made = convert_trace(old, out);
+    byte(made.number) + 256 * (made.length as u64)
 }
 
 // The listing of a trace into a lent buffer: its length, and the text where it fits.

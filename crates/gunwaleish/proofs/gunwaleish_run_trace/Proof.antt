@@ -35,13 +35,27 @@ add-result-2 c =
     let few = subst (λ (r : Head). r .events ≤ mostEvents) (sym (c .before .before .before .before .answer-trace .ensures .0)) (report-few _ _) in
     omega (arith, few)
 
+byte-requires-3 : tie.Need-byte-requires-3
+byte-requires-3 c κs = search needs
+
+mul-result-3 : tie.Need-mul-result-3
+mul-result-3 c = search needs
+
+add-result-3 : tie.Need-add-result-3
+add-result-3 c =
+    let few = subst (λ (r : Head). r .events ≤ mostEvents) (sym (c .before .before .before .before .before .answer-trace .ensures .0)) (report-few _ _) in
+    omega (arith, few)
+
 same-length : tie.Need-same-length
 same-length c = search needs
 
 returns : tie.Need-returns
 returns c =
-    let ran = c .before .before .before .before .answer-trace .ensures in
-    (simp (c .byte2 .ensures .0, c .before .byte .ensures .0) (ap (λ (r : Head). r .number + 256 * r .address + 65536 * r .events) (ran .0)), ran .1)
+    let ran = c .before .before .before .before .before .answer-trace .ensures in (
+      simp (c .byte3 .ensures .0, c .before .byte2 .ensures .0, c .before .before .byte .ensures .0)
+          (ap (λ (r : Head). r .number + 256 * r .address + 65536 * r .events + 4294967296 * r .kind) (ran .0)),
+      ran .1,
+    )
 
 pub gunwaleish-run-trace-spec : {M : Type 1} → statement M
 gunwaleish-run-trace-spec =
@@ -54,5 +68,8 @@ gunwaleish-run-trace-spec =
     add-result
     mul-result-2
     add-result-2
+    byte-requires-3
+    mul-result-3
+    add-result-3
     same-length
     returns)

@@ -18,12 +18,12 @@ byte-requires c κs = search needs
 
 mul-result : tie.Need-mul-result
 mul-result c =
-    let few = subst (λ (w : Written). w .length ≤ mostBytes) (sym (c .before .before .before .write-trace .ensures .0)) (written-few _ _ _) in
+    let few = subst (λ (w : Written). w .length ≤ mostBytes) (sym (c .before .before .before .write-trace .ensures .0)) (written-few _ _ _ _) in
     omega (arith, few)
 
 add-result : tie.Need-add-result
 add-result c =
-    let few = subst (λ (w : Written). w .length ≤ mostBytes) (sym (c .before .before .before .write-trace .ensures .0)) (written-few _ _ _) in
+    let few = subst (λ (w : Written). w .length ≤ mostBytes) (sym (c .before .before .before .write-trace .ensures .0)) (written-few _ _ _ _) in
     omega (arith, few)
 
 same-length : tie.Need-same-length

@@ -1,0 +1,57 @@
+-- `converter::convert_trace` meets its contract: refused and nothing written, or the old trace, then its section.
+-- Assumes nothing.
+use mathlib.Core.Path.{sym, _∙_}
+use native.Mathlib.Omega.{arith}
+use borrow.Author.Needs.{needs}
+use Rattle.converter.proofs.Laws.{zero-fits, refused-converted, refused-buffer, all-converted, all-stored}
+use Rattle.converter.proofs.convert_trace.Statement.{statement}
+use Rattle.converter.proofs.convert_trace.Tie as tie
+
+convert-number-requires : tie.Need-convert-number-requires
+convert-number-requires c κs = search needs
+
+put-old-requires : tie.Need-put-old-requires
+put-old-requires c κs =
+    let fits = zero-fits _ _ (sym (c .before .before .convert-number .ensures) ∙ c .before .if1 .taken) in
+    omega (arith, fits .1)
+
+count-in-requires : tie.Need-count-in-requires
+count-in-requires c κs = search needs
+
+put-kind-requires : tie.Need-put-kind-requires
+put-kind-requires c κs = search needs
+
+add-t14 : tie.Need-add-t14
+add-t14 c = search needs
+
+same-length : tie.Need-same-length
+same-length c = search needs
+
+returns : tie.Need-returns
+returns c =
+    let put = c .before .before in
+    let counted = put .before in
+    let old = counted .before .before .before .before in
+    let passed = old .before .before in
+    let accepted = sym (passed .before .convert-number .ensures) ∙ passed .if1 .taken in (
+      all-converted _ _ accepted,
+      all-stored _ _ accepted _ _ (old .put-old .ensures) (simp (counted .count-in .ensures) at (put .put-kind .ensures)),
+    )
+
+returns-2 : tie.Need-returns-2
+returns-2 c =
+    let told = c .before .convert-number .ensures in
+    (refused-converted _ _ _ told (c .if1 .left), refused-buffer _ _ _ told (c .if1 .left))
+
+pub convert-trace-spec : {M : Type 1} → statement M
+convert-trace-spec =
+    tie.close
+    (tie.spec
+    convert-number-requires
+    put-old-requires
+    count-in-requires
+    put-kind-requires
+    add-t14
+    same-length
+    returns
+    returns-2)

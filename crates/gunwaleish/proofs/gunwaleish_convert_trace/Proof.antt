@@ -1,0 +1,40 @@
+-- `gunwaleish::gunwaleish_convert_trace` meets its contract. Nothing written is longer than the longest trace, so the sum fits.
+-- Assumes nothing.
+use mathlib.Core.Path.{subst, sym, ap}
+use Prim.Native.Nat.{_+_, _*_, _≤_}
+use native.Mathlib.Omega.{arith}
+use borrow.Author.Needs.{needs}
+use Rattle.arbiter.specs.Traces.{mostBytes}
+use Rattle.arbiter.specs.declared.Written.{Written}
+use Rattle.converter.proofs.Laws.{conversion-few}
+use Rattle.gunwaleish.proofs.gunwaleish_convert_trace.Statement.{statement}
+use Rattle.gunwaleish.proofs.gunwaleish_convert_trace.Tie as tie
+
+convert-trace-requires : tie.Need-convert-trace-requires
+convert-trace-requires c κs = search needs
+
+byte-requires : tie.Need-byte-requires
+byte-requires c κs = search needs
+
+mul-result : tie.Need-mul-result
+mul-result c =
+    let few = subst (λ (w : Written). w .length ≤ mostBytes) (sym (c .before .before .before .convert-trace .ensures .0)) (conversion-few _ _) in
+    omega (arith, few)
+
+add-result : tie.Need-add-result
+add-result c =
+    let few = subst (λ (w : Written). w .length ≤ mostBytes) (sym (c .before .before .before .convert-trace .ensures .0)) (conversion-few _ _) in
+    omega (arith, few)
+
+same-length : tie.Need-same-length
+same-length c = search needs
+
+returns : tie.Need-returns
+returns c =
+    let converted = c .before .before .before .convert-trace .ensures in
+    (simp (c .byte .ensures .0) (ap (λ (w : Written). w .number + 256 * w .length) (converted .0)), converted .1)
+
+pub gunwaleish-convert-trace-spec : {M : Type 1} → statement M
+gunwaleish-convert-trace-spec =
+    tie.close
+    (tie.spec convert-trace-requires byte-requires mul-result add-result same-length returns)
