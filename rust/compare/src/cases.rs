@@ -4,14 +4,15 @@ use model::damage::{damage, ALL_DAMAGES};
 use model::rng::Rng;
 use model::straps::pins_of;
 use model::trace::MOST_EVENTS;
-use model::traces::{trace, trace_of};
+use model::traces::{old_trace_of, trace, trace_of};
 
+use crate::converting::converter_calls;
 use crate::figures::Figures;
 use crate::importing::importer_calls;
 use crate::writing::writer_calls;
 
-/// Compares one round of cases: some 55 good traces with 16,000 events and seven times as many
-/// damaged ones, some 90 calls of the writer and some 90 of the importer.
+/// Compares one round of cases: some 55 good traces with 16,000 events and ten times as many
+/// damaged ones, some 100 calls of the writer, 60 of the converter and 90 of the importer.
 pub fn round(seed: u64, figures: &mut Figures) {
     let mut rng = Rng::new(seed);
     for length in lengths(&mut rng) {
@@ -25,6 +26,7 @@ pub fn round(seed: u64, figures: &mut Figures) {
         figures.list(&bytes);
     }
     writer_calls(&mut rng, figures);
+    converter_calls(&mut rng, figures);
     importer_calls(&mut rng, figures);
 }
 
@@ -64,7 +66,7 @@ fn too_long(figures: &mut Figures) {
 }
 
 /// Bytes that nobody made as a trace: any bytes, a good head with any rest, or a good frame
-/// around events of any bytes.
+/// around events of any bytes, with a third section that is good or not.
 fn strange(rng: &mut Rng) -> Vec<u8> {
     let any = |rng: &mut Rng, most: u64| -> Vec<u8> {
         (0..rng.below(most + 1)).map(|_| rng.byte()).collect()
@@ -86,7 +88,16 @@ fn strange(rng: &mut Rng) -> Vec<u8> {
                 [rng.below(11) as u8, rng.below(3) as u8, rng.byte() & rng.byte(), 0]
             };
             let events: Vec<[u8; 4]> = (0..count).map(|_| event(rng)).collect();
-            trace_of(pins, &events)
+            [old_trace_of(pins, &events), third_section(rng)].concat()
         }
     }
+}
+
+/// A good third section, or up to three bytes that are about one.
+fn third_section(rng: &mut Rng) -> Vec<u8> {
+    if rng.percent(60) {
+        return vec![1, rng.below(2) as u8];
+    }
+    let any = rng.byte();
+    (0..rng.below(4)).map(|_| rng.pick(&[0, 1, 1, 1, 2, any])).collect()
 }

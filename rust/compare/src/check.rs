@@ -25,16 +25,19 @@ pub fn check_run(trace: &[u8], room: usize) -> Result<TraceResult, Difference> {
     Ok(result)
 }
 
-/// A refused trace has address 0 and 0 events in its packed number too.
+/// A refused trace has address 0, 0 events and kind 0 in its packed number too.
 fn same_packed(result: &TraceResult, packed: u64) -> Result<(), Difference> {
-    let expected =
-        u64::from(result.number) + 256 * u64::from(result.address) + 65536 * result.events as u64;
+    let expected = u64::from(result.number)
+        + 256 * u64::from(result.address)
+        + 65536 * result.events as u64
+        + (u64::from(result.kind.number()) << 32);
     if packed == expected {
         return Ok(());
     }
     let take_apart = |packed: u64| {
         let [number, address, ..] = packed.to_le_bytes();
-        format!("number {number}, address {address:02X}h, {} events", packed >> 16)
+        let (events, kind) = ((packed >> 16) & 0xFFFF, packed >> 32);
+        format!("number {number}, address {address:02X}h, {events} events, kind {kind}")
     };
     Err(format!(
         "reports differ\n  model:   {}\n  library: {}",

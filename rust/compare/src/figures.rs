@@ -3,19 +3,22 @@
 use std::collections::BTreeMap;
 use std::fmt;
 
-use model::happenings::{Happenings, KINDS};
+use model::happenings::{kinds_of, Happenings};
+use model::part::BOTH_KINDS;
 use model::sightings::SIGHTS;
-use model::trace::{four, hex};
-use model::TraceResult;
+use model::trace::hex;
+use model::{read_trace, TraceResult};
 
 use crate::check::{check_listing, check_run, Difference};
+use crate::converting::check_convert;
 use crate::importing::check_import;
 use crate::writing::{check_write, check_write_again};
 
 /// The calls that answer a number, each with the numbers that have to occur.
 const CALLS: &[(&str, &[u8])] = &[
-    ("run", &[0, 5, 6, 7, 8, 9, 10]),
-    ("write", &[0, 5, 6, 8, 9]),
+    ("run", &[0, 3, 5, 6, 7, 8, 9, 10]),
+    ("write", &[0, 3, 5, 6, 8, 9]),
+    ("convert", &[0, 5, 6, 7, 8, 9, 10]),
     ("import", &[0, 9, 11, 12, 13]),
 ];
 /// So many mismatches are told in full. The rest are only counted.
@@ -30,7 +33,10 @@ pub struct Figures {
     numbers: BTreeMap<(&'static str, u8), u64>,
     events: u64,
     listings: u64,
-    happenings: Happenings,
+    /// What happened in runs, one for each kind of part.
+    happenings: [Happenings; 2],
+    /// What was seen in captures.
+    sights: Happenings,
     mismatches: u64,
     told: Vec<String>,
 }
@@ -49,11 +55,22 @@ impl Figures {
     }
 
     /// Writes a trace on both sides and counts it.
-    pub fn write(&mut self, pins: [u8; 4], events: &[u8], room: usize) {
-        match check_write(pins, events, room) {
+    pub fn write(&mut self, pins: [u8; 4], kind: u8, events: &[u8], room: usize) {
+        match check_write(pins, kind, events, room) {
             Ok(number) => self.answered("write", number),
             Err(difference) => {
-                self.tell("events", events, &format!("pins {pins:?}, room {room}; {difference}"))
+                let call = format!("written with pins {pins:?}, kind {kind}, room {room}");
+                self.tell("events", events, &format!("{call}; {difference}"))
+            }
+        }
+    }
+
+    /// Gives an old trace its third section on both sides and counts it.
+    pub fn convert(&mut self, old: &[u8], room: usize) {
+        match check_convert(old, room) {
+            Ok(number) => self.answered("convert", number),
+            Err(difference) => {
+                self.tell("trace", old, &format!("converted in room {room}; {difference}"))
             }
         }
     }
@@ -65,7 +82,7 @@ impl Figures {
                 self.answered("import", number);
                 // What is seen does not depend on the room, so 9 is left out.
                 if number != 9 && number != 11 {
-                    self.happenings.see(samples, address);
+                    self.sights.see(samples, address);
                 }
             }
             Err(difference) => {
@@ -102,10 +119,9 @@ impl Figures {
 
     fn count(&mut self, trace: &[u8], result: &TraceResult) {
         self.answered("run", result.number);
-        if result.number == 0 {
-            self.events += result.events as u64;
-            let events: Vec<[u8; 4]> = trace[7..].chunks_exact(4).map(four).collect();
-            self.happenings.run(&events);
+        if let (0, Ok(read)) = (result.number, read_trace(trace)) {
+            self.events += read.events.len() as u64;
+            self.happenings[usize::from(read.kind.number())].run(read.kind, &read.events);
         }
     }
 
@@ -134,15 +150,19 @@ impl Figures {
         }
         self.events += other.events;
         self.listings += other.listings;
-        self.happenings.add(&other.happenings);
+        for (mine, others) in self.happenings.iter_mut().zip(&other.happenings) {
+            mine.add(others);
+        }
+        self.sights.add(&other.sights);
         self.mismatches += other.mismatches;
         self.told.extend(other.told);
     }
 
     /// Kinds of happening and numbers of a call that never occurred.
     pub fn never(&self) -> Vec<String> {
-        let kinds = all_kinds().filter(|kind| self.happenings.count(kind) == 0);
-        let mut never: Vec<String> = kinds.map(|kind| kind.to_string()).collect();
+        let occurred = self.occurred().into_iter();
+        let mut never: Vec<String> =
+            occurred.filter(|(_, count)| *count == 0).map(|(name, _)| name).collect();
         for (call, numbers) in CALLS {
             let missing = numbers.iter().filter(|n| !self.numbers.contains_key(&(*call, **n)));
             never.extend(missing.map(|number| format!("{call} with number {number}")));
@@ -164,20 +184,29 @@ impl Figures {
         self.mismatches == 0
     }
 
-    /// Every kind of happening, with its count.
-    pub fn happenings(&self) -> String {
-        all_kinds().map(|kind| format!("{:>12}  {kind}\n", self.happenings.count(kind))).collect()
+    /// Every kind of happening in runs, for each kind of part, and every sight in captures, each
+    /// with its count.
+    fn occurred(&self) -> Vec<(String, u64)> {
+        let mut all = vec![];
+        for (part, happenings) in BOTH_KINDS.into_iter().zip(&self.happenings) {
+            all.extend(
+                kinds_of(part).map(|name| (format!("{part:?}: {name}"), happenings.count(name))),
+            );
+        }
+        all.extend(SIGHTS.iter().map(|name| (name.to_string(), self.sights.count(name))));
+        all
     }
-}
 
-/// What happens in runs, and what is seen in captures.
-fn all_kinds() -> impl Iterator<Item = &'static str> {
-    KINDS.iter().chain(SIGHTS).copied()
+    /// The same as lines.
+    pub fn happenings(&self) -> String {
+        self.occurred().iter().map(|(name, count)| format!("{count:>12}  {name}\n")).collect()
+    }
 }
 
 impl fmt::Display for Figures {
     fn fmt(&self, f: &mut fmt::Formatter) -> fmt::Result {
-        let kinds = all_kinds().filter(|kind| self.happenings.count(kind) > 0).count();
+        let occurred = self.occurred();
+        let kinds = occurred.iter().filter(|(_, count)| *count > 0).count();
         let calls: Vec<String> = CALLS.iter().map(|(call, _)| self.calls(call)).collect();
         writeln!(
             f,
@@ -187,7 +216,7 @@ impl fmt::Display for Figures {
             calls.join(", "),
             self.events,
             self.listings,
-            all_kinds().count(),
+            occurred.len(),
             self.mismatches
         )?;
         self.told.iter().take(TOLD).try_for_each(|told| writeln!(f, "MISMATCH {told}"))

@@ -4,11 +4,12 @@ use model::capture_damage::about_bytes;
 use model::pen::samples_of;
 use model::read_trace;
 use model::stored::stored_traces;
+use model::traces::old_trace_of;
 
 use crate::check::{check_address_of, check_pins_of};
 use crate::figures::Figures;
 
-/// Every byte string of up to two bytes, run and listed.
+/// Every byte string of up to two bytes, run, listed, and given to the converter.
 pub fn short_strings(figures: &mut Figures) {
     let mut strings = vec![vec![]];
     strings.extend((0..=255).map(|a| vec![a]));
@@ -16,6 +17,7 @@ pub fn short_strings(figures: &mut Figures) {
     for bytes in strings {
         figures.run(&bytes, 16);
         figures.list(&bytes);
+        figures.convert(&bytes, 16);
     }
 }
 
@@ -30,6 +32,30 @@ pub fn kept_traces(figures: &mut Figures) {
     }
 }
 
+/// Every third section of up to two bytes, and of three if it is about a good one, after no event
+/// and after one: run, and given to the converter.
+pub fn third_sections(figures: &mut Figures) {
+    let mut sections = vec![vec![]];
+    sections.extend((0..=255).map(|a| vec![a]));
+    sections.extend((0..=65535u16).map(|ab| ab.to_le_bytes().to_vec()));
+    sections.extend((0..=255).flat_map(|c| [vec![1, 0, c], vec![1, 1, c], vec![1, 2, c]]));
+    for section in sections {
+        for events in [&[][..], &[[2, 0, 0, 0]]] {
+            let bytes = [old_trace_of([0; 4], events), section.clone()].concat();
+            figures.run(&bytes, 4);
+            figures.convert(&bytes, 16);
+        }
+    }
+}
+
+/// Every number of a kind, with room and without.
+pub fn all_kinds(figures: &mut Figures) {
+    for kind in 0..=255 {
+        figures.write([0; 4], kind, &[2, 0, 0, 0], 13);
+        figures.write([0; 4], kind, &[2, 0, 0, 0], 12);
+    }
+}
+
 /// The codes 0 to 5 and 255 on all four pins, and every code on one pin with good ones on the
 /// others.
 pub fn all_pins(figures: &mut Figures) {
@@ -38,7 +64,7 @@ pub fn all_pins(figures: &mut Figures) {
         let code = |pin: u32| codes[place / 7usize.pow(pin) % 7];
         let pins = [code(3), code(2), code(1), code(0)];
         figures.note(check_address_of(pins));
-        figures.write(pins, &[], 7);
+        figures.write(pins, 0, &[], 9);
     }
     for others in 0..=255u8 {
         let good = [others >> 6, (others >> 4) & 3, (others >> 2) & 3, others & 3];

@@ -4,6 +4,7 @@
 //!
 //! - `check`: one call of each kind on both sides, and what differs.
 //! - `writing`: the writer of traces on both sides.
+//! - `converting`: the converter of old traces on both sides.
 //! - `importing`: the importer of captures on both sides.
 //! - `words`: events and answers in words, for what differs.
 //! - `cases`: random calls, good and damaged, in rounds.
@@ -12,6 +13,7 @@
 
 pub mod cases;
 pub mod check;
+pub mod converting;
 pub mod figures;
 pub mod fixed;
 pub mod importing;

@@ -22,6 +22,8 @@ fn main() {
     let mut figures = all_rounds(seed, rounds);
     kept_traces(&mut figures);
     short_strings(&mut figures);
+    third_sections(&mut figures);
+    all_kinds(&mut figures);
     all_pins(&mut figures);
     all_addresses(&mut figures);
     captures_about_bytes(&mut figures);

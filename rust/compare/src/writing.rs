@@ -1,47 +1,58 @@
-//! The writer on both sides, and the way through the reader and back (document 02, #101).
+//! The writer on both sides, and the way through the reader and back (document 02, #101 and #105).
 
 use gunwaleish::boundary;
 use model::rng::Rng;
 use model::straps::pins_of;
 use model::trace::MOST_EVENTS;
 use model::traces::event_list;
-use model::{address_of, write_trace};
+use model::{address_of, read_trace, write_trace, Written};
 
 use crate::check::{check_run, pattern, Difference};
 use crate::figures::Figures;
 
 /// Writes a trace into a buffer of this room. Gives the number of the answer.
-pub fn check_write(pins: [u8; 4], events: &[u8], room: usize) -> Result<u8, Difference> {
+pub fn check_write(pins: [u8; 4], kind: u8, events: &[u8], room: usize) -> Result<u8, Difference> {
     let mut expected = pattern(room);
-    let written = write_trace(pins, events, &mut expected);
+    let written = write_trace(pins, kind, events, &mut expected);
     let mut trace = pattern(room);
-    let packed = boundary::write_trace(pins, events, &mut trace);
+    let packed = boundary::write_trace(pins, kind, events, &mut trace);
+    same_written(written, packed, &expected, &trace)?;
+    if written.number == 0 {
+        check_read_back(pins, kind, events, &trace[..written.length])?;
+    }
+    Ok(written.number)
+}
+
+/// The same number and length, and the same bytes, also those that have to stay.
+pub fn same_written(
+    written: Written,
+    packed: u64,
+    expected: &[u8],
+    trace: &[u8],
+) -> Result<(), Difference> {
     if packed != u64::from(written.number) + 256 * written.length as u64 {
         return Err(format!(
-            "reports of the writer differ\n  model:   number {}, length {}\n  library: number {}, \
-             length {}",
+            "reports differ\n  model:   number {}, length {}\n  library: number {}, length {}",
             written.number,
             written.length,
             packed % 256,
             packed / 256
         ));
     }
-    // Every byte of the buffer counts, also those that have to stay.
-    if let Some(place) = (0..room).find(|&at| expected[at] != trace[at]) {
-        let (model, library) = (expected[place], trace[place]);
-        return Err(format!("byte {place}: model {model:02X}h, library {library:02X}h"));
+    match (0..expected.len()).find(|&at| expected[at] != trace[at]) {
+        None => Ok(()),
+        Some(place) => {
+            let (model, library) = (expected[place], trace[place]);
+            Err(format!("byte {place}: model {model:02X}h, library {library:02X}h"))
+        }
     }
-    if written.number == 0 {
-        check_read_back(pins, events, &trace[..written.length])?;
-    }
-    Ok(written.number)
 }
 
-/// The library's reader finds the same pins and events in what its writer wrote.
-fn check_read_back(pins: [u8; 4], events: &[u8], trace: &[u8]) -> Result<(), Difference> {
+/// The library's reader finds the same pins, kind and events in what its writer wrote.
+fn check_read_back(pins: [u8; 4], kind: u8, events: &[u8], trace: &[u8]) -> Result<(), Difference> {
     let read = check_run(trace, events.len())?;
-    let found = (read.number, Some(read.address), 4 * read.events);
-    if found != (0, address_of(pins), events.len()) {
+    let found = (read.number, Some(read.address), read.kind.number(), 4 * read.events);
+    if found != (0, address_of(pins), kind, events.len()) {
         return Err(format!("what was written reads as number {}, {found:?}", read.number));
     }
     Ok(())
@@ -50,9 +61,10 @@ fn check_read_back(pins: [u8; 4], events: &[u8], trace: &[u8]) -> Result<(), Dif
 /// An accepted trace, taken apart and written again, is the same bytes. `check_write` has seen
 /// that both sides write the same, so it is enough to ask the library.
 pub fn check_write_again(trace: &[u8]) -> Result<(), Difference> {
-    let pins = [trace[1], trace[2], trace[3], trace[4]];
+    let read = read_trace(trace).map_err(|number| format!("the model refuses it: {number}"))?;
+    let (kind, events) = (read.kind.number(), read.events.concat());
     let mut again = pattern(trace.len());
-    let packed = boundary::write_trace(pins, &trace[7..], &mut again);
+    let packed = boundary::write_trace(read.pins, kind, &events, &mut again);
     if packed != 256 * trace.len() as u64 || again != trace {
         return Err(format!("written again, a trace differs (packed {packed:X}h)"));
     }
@@ -64,15 +76,17 @@ pub fn writer_calls(rng: &mut Rng, figures: &mut Figures) {
     for _ in 0..12 {
         let events = event_bytes(rng);
         let pins = pins_of(rng.between(0x08, 0x77) as u8).unwrap_or_default();
-        let length = 7 + events.len();
+        let kind = rng.below(2) as u8;
+        let length = 9 + events.len();
         for room in [length - 1, length, length + 5, rng.below(length as u64) as usize] {
-            figures.write(pins, &events, room);
+            figures.write(pins, kind, &events, room);
         }
-        figures.write(any_pins(rng), &events, length);
+        figures.write(any_pins(rng), any_kind(rng), &events, length);
+        figures.write(pins, rng.between(2, 255) as u8, &events, rng.pick(&[0, length - 1, length]));
         let mut odd = events;
         (0..rng.between(1, 3)).for_each(|_| odd.push(rng.byte()));
-        figures.write(pins, &odd, rng.pick(&[0, length, length + 9]));
-        figures.write(any_pins(rng), &odd, rng.pick(&[0, length + 9]));
+        figures.write(pins, any_kind(rng), &odd, rng.pick(&[0, length, length + 9]));
+        figures.write(any_pins(rng), kind, &odd, rng.pick(&[0, length + 9]));
     }
     about_the_most(rng, figures);
 }
@@ -93,14 +107,23 @@ fn any_pins(rng: &mut Rng) -> [u8; 4] {
     [code(), code(), code(), code()]
 }
 
+/// A kind that there is, or any number.
+fn any_kind(rng: &mut Rng) -> u8 {
+    let any = rng.byte();
+    rng.pick(&[0, 1, 2, any])
+}
+
 /// As many events as a trace may have, one more, and a byte more than fours.
 fn about_the_most(rng: &mut Rng, figures: &mut Figures) {
     let bytes: Vec<u8> = (0..4 * MOST_EVENTS + 5).map(|_| rng.byte()).collect();
-    let room = 7 + bytes.len();
-    let exact = 7 + 4 * MOST_EVENTS;
-    figures.write([0; 4], &bytes[..4 * MOST_EVENTS], exact);
-    figures.write([0; 4], &bytes[..4 * MOST_EVENTS], exact - 1);
-    figures.write([0; 4], &bytes[..4 * MOST_EVENTS + 1], room);
-    figures.write([0; 4], &bytes[..4 * MOST_EVENTS + 4], rng.pick(&[0, exact, room]));
-    figures.write([0; 4], &bytes, room);
+    let room = 9 + bytes.len();
+    let exact = 9 + 4 * MOST_EVENTS;
+    let kind = rng.below(2) as u8;
+    figures.write([0; 4], kind, &bytes[..4 * MOST_EVENTS], exact);
+    figures.write([0; 4], kind, &bytes[..4 * MOST_EVENTS], exact - 1);
+    figures.write([0; 4], 2, &bytes[..4 * MOST_EVENTS], exact - 1);
+    figures.write([0; 4], kind, &bytes[..4 * MOST_EVENTS + 1], room);
+    let one_more = &bytes[..4 * MOST_EVENTS + 4];
+    figures.write([0; 4], any_kind(rng), one_more, rng.pick(&[0, exact, room]));
+    figures.write([0; 4], any_kind(rng), &bytes, room);
 }

@@ -52,6 +52,16 @@ fn every_string_of_up_to_two_bytes() {
 }
 
 #[test]
+fn every_third_section() {
+    check_all(third_sections);
+}
+
+#[test]
+fn every_kind_of_part() {
+    check_all(all_kinds);
+}
+
+#[test]
 fn pins_to_address() {
     check_all(all_pins);
 }

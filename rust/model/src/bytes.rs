@@ -145,11 +145,12 @@ impl Device {
         }
     }
 
-    /// "With auto-increment the pointer then rises and stays at 7."
+    /// "Acknowledged or not, with auto-increment the pointer then rises." What follows 7 goes by the
+    /// kind of part (#105).
     fn raise_pointer_after_write(&mut self, m: usize) {
         let own = &mut self.masters[m];
-        if own.auto_increment && own.pointer < 7 {
-            own.pointer += 1;
+        if own.auto_increment {
+            own.pointer = self.kind.pointer_after_write(own.pointer);
         }
     }
 

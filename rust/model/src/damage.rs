@@ -1,5 +1,6 @@
 //! Makes a refused trace out of an accepted one.
-//! Document 01, "Answers and the trace": refusals 5 to 10 of a whole trace.
+//! Document 01, "Answers and the trace": refusals 5 to 10 of a whole trace; document 02, #105: 3 for
+//! its kind of part.
 
 use crate::rng::Rng;
 use crate::straps::address_of;
@@ -16,11 +17,15 @@ pub enum Damage {
     CutInCount,
     CountTooBig,
     CutInEvents,
+    NoKindSection,
+    KindCountWrong,
+    KindMissing,
+    AnotherKind,
     BytesAfterEnd,
     RoomTooSmall,
 }
 
-pub const ALL_DAMAGES: [Damage; 10] = [
+pub const ALL_DAMAGES: [Damage; 14] = [
     Damage::FirstCountMissing,
     Damage::FirstCountWrong,
     Damage::CutInPins,
@@ -29,6 +34,10 @@ pub const ALL_DAMAGES: [Damage; 10] = [
     Damage::CutInCount,
     Damage::CountTooBig,
     Damage::CutInEvents,
+    Damage::NoKindSection,
+    Damage::KindCountWrong,
+    Damage::KindMissing,
+    Damage::AnotherKind,
     Damage::BytesAfterEnd,
     Damage::RoomTooSmall,
 ];
@@ -45,7 +54,9 @@ pub struct Refused {
 /// for the answers unless the room is the damage.
 pub fn damage(rng: &mut Rng, good: &[u8], kind: Damage) -> Refused {
     let mut trace = good.to_vec();
-    let mut room = good.len() - 7 + rng.below(9) as usize;
+    // Seven bytes stand before the events, and two after them.
+    let end = good.len() - 2;
+    let mut room = end - 7 + rng.below(9) as usize;
     let number = match kind {
         Damage::FirstCountMissing => cut(&mut trace, 0, 5),
         Damage::FirstCountWrong => {
@@ -67,13 +78,26 @@ pub fn damage(rng: &mut Rng, good: &[u8], kind: Damage) -> Refused {
             trace[5..7].copy_from_slice(&n.to_le_bytes());
             6
         }
-        Damage::CutInEvents => cut(&mut trace, rng.between(7, good.len() as u64 - 1) as usize, 5),
+        Damage::CutInEvents => cut(&mut trace, rng.between(7, end as u64 - 1) as usize, 5),
+        // This one is an old trace.
+        Damage::NoKindSection => cut(&mut trace, end, 5),
+        Damage::KindCountWrong => {
+            trace[end] = rng.pick(&[0, 2, 4, 255]);
+            end_of_any_length(rng, &mut trace);
+            10
+        }
+        Damage::KindMissing => cut(&mut trace, end + 1, 5),
+        Damage::AnotherKind => {
+            trace[end + 1] = rng.between(2, 255) as u8;
+            more_bytes(rng, &mut trace, 0);
+            3
+        }
         Damage::BytesAfterEnd => {
-            (0..rng.between(1, 9)).for_each(|_| trace.push(rng.byte()));
+            more_bytes(rng, &mut trace, 1);
             7
         }
         Damage::RoomTooSmall => {
-            room = rng.below(good.len() as u64 - 7) as usize;
+            room = rng.below(end as u64 - 7) as usize;
             9
         }
     };
@@ -83,6 +107,20 @@ pub fn damage(rng: &mut Rng, good: &[u8], kind: Damage) -> Refused {
 fn cut(trace: &mut Vec<u8>, length: usize, number: u8) -> u8 {
     trace.truncate(length);
     number
+}
+
+/// Adds bytes after the end, so many at least.
+fn more_bytes(rng: &mut Rng, trace: &mut Vec<u8>, fewest: u64) {
+    (0..rng.between(fewest, 9)).for_each(|_| trace.push(rng.byte()));
+}
+
+/// Takes the last byte away, leaves all as it is, or adds bytes.
+fn end_of_any_length(rng: &mut Rng, trace: &mut Vec<u8>) {
+    if rng.percent(30) {
+        trace.pop();
+    } else {
+        more_bytes(rng, trace, 0);
+    }
 }
 
 /// Four good pin codes that make no listed strapping.

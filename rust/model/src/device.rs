@@ -1,6 +1,8 @@
 //! What the device remembers, and what follows from that.
 //! Document 01, "Registers, one set per master" and "Answers and the trace".
 
+use crate::part::Kind;
+
 /// Bits of CONTR. Bit 1, LOCK_GRANT, is computed and never stored.
 pub const PRIORITY: u8 = 0x80;
 pub const SMBUS_DIS: u8 = 0x40;
@@ -24,8 +26,6 @@ pub const INT_IN: u8 = 0x01;
 /// reach 501, where it stops" (#102).
 pub const SCL_HUNG_TICKS: i64 = 500;
 pub const SDA_HUNG_TICKS: i64 = 501;
-/// The idle count stops at 101.
-pub const IDLE_TICKS: i64 = 101;
 /// A hold lasts 35 ticks, and SCL low for 35 ticks is a time-out.
 pub const HOLD_TICKS: i64 = 35;
 pub const TIMEOUT_TICKS: i64 = 35;
@@ -76,6 +76,8 @@ pub struct Grant {
 
 #[derive(Clone, Debug, PartialEq, Eq)]
 pub struct Device {
+    /// "The device record gains the kind of part, and every step keeps it" (#105).
+    pub kind: Kind,
     pub masters: [Master; 2],
     /// The outside levels, the connected master included.
     pub outside: Levels,
@@ -121,9 +123,15 @@ impl Master {
 }
 
 impl Device {
-    /// "Power-up is a reset with all outside levels 1."
+    /// A fresh PCA9641.
     pub fn power_up() -> Device {
+        Device::power_up_of(Kind::Pca9641)
+    }
+
+    /// "Power-up is a reset with all outside levels 1."
+    pub fn power_up_of(kind: Kind) -> Device {
         Device {
+            kind,
             masters: [Master::after_reset(), Master::after_reset()],
             outside: BOTH_HIGH,
             int_in: true,
@@ -141,9 +149,11 @@ impl Device {
         }
     }
 
-    /// "Resets restore everything but outside levels."
+    /// "Resets restore everything but outside levels." The kind of part is no state that they
+    /// restore (#105).
     pub fn reset(&mut self, hold: i64) {
-        *self = Device { outside: self.outside, int_in: self.int_in, hold, ..Device::power_up() };
+        let fresh = Device::power_up_of(self.kind);
+        *self = Device { outside: self.outside, int_in: self.int_in, hold, ..fresh };
     }
 
     /// "Levels: outside, drives and hold, low if any is low."

@@ -9,8 +9,10 @@ use std::collections::BTreeMap;
 use crate::device::*;
 use crate::event::{read_event, Event};
 use crate::hanging::Watch;
+use crate::part::Kind;
+use crate::second_part::Rolled;
 
-pub use crate::kinds::KINDS;
+pub use crate::kinds::kinds_of;
 
 /// The kinds of event, by number.
 const EVENT_NAMES: [&str; 10] =
@@ -19,6 +21,13 @@ const EVENT_NAMES: [&str; 10] =
 #[derive(Default)]
 pub struct Happenings {
     counts: BTreeMap<String, u64>,
+}
+
+/// What the counters remember of the steps before.
+#[derive(Default)]
+struct Memory {
+    low: Watch,
+    rolled: Rolled,
 }
 
 /// One accepted step, as the counters see it.
@@ -30,7 +39,7 @@ pub(crate) struct Seen<'a> {
 
 impl Seen<'_> {
     /// The register and the value that master m writes in this event, if any.
-    fn written_by(&self, m: usize) -> Option<(u8, u8)> {
+    pub fn written_by(&self, m: usize) -> Option<(u8, u8)> {
         let pointer = self.before.masters[m].pointer;
         match self.event {
             Event::Write { master, value } if master == m => Some((pointer, value)),
@@ -50,7 +59,7 @@ impl Happenings {
         self.counts.get(kind).copied().unwrap_or(0)
     }
 
-    /// Every kind that was counted, also one that KINDS might lack.
+    /// Every kind that was counted, also one that has no name in `kinds`.
     pub fn counted(&self) -> impl Iterator<Item = &str> {
         self.counts.keys().map(|kind| kind.as_str())
     }
@@ -68,15 +77,15 @@ impl Happenings {
         }
     }
 
-    /// Runs a list on a fresh device and counts along.
-    pub fn run(&mut self, events: &[[u8; 4]]) -> Vec<[u8; 4]> {
-        let mut device = Device::power_up();
-        let mut watch = Watch::default();
+    /// Runs a list on a fresh part of this kind and counts along.
+    pub fn run(&mut self, kind: Kind, events: &[[u8; 4]]) -> Vec<[u8; 4]> {
+        let mut device = Device::power_up_of(kind);
+        let mut memory = Memory::default();
         let mut answers = vec![];
         for &bytes in events {
             let before = device.clone();
             let answer = device.step(bytes);
-            self.look(bytes, answer[0], &before, &device, &mut watch);
+            self.look(bytes, answer[0], &before, &device, &mut memory);
             answers.push(answer);
         }
         answers
@@ -88,7 +97,7 @@ impl Happenings {
         outcome: u8,
         before: &Device,
         after: &Device,
-        watch: &mut Watch,
+        memory: &mut Memory,
     ) {
         self.note(outcome == 2, "refused 2");
         self.note(outcome == 3, "refused 3");
@@ -104,7 +113,8 @@ impl Happenings {
             self.ends(&seen);
             self.claims(&seen);
             self.lines(&seen);
-            self.hanging(&seen, watch);
+            self.hanging(&seen, &mut memory.low);
+            self.second_part(&seen, &mut memory.rolled);
             self.initialisation(&seen);
             self.hold(&seen);
             for m in [0, 1] {
@@ -263,7 +273,6 @@ impl Happenings {
         let lets_connect = value & BUS_CONNECT != 0 && value & LOCK_REQ != 0;
         let released = granted && lets_connect && seen.before.drives != BOTH_HIGH;
         self.note(pair && m == 0, "PAIR taken");
-        self.note(pointer == 7 && own.auto_increment, "write pointer stays at 7");
         let may_drive = granted && !connect;
         self.note(pointer == 2 && may_drive, "drive write acts");
         self.note(pointer == 2 && !may_drive, "drive write ignored");

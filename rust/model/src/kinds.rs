@@ -1,6 +1,28 @@
-//! The names of all happenings that the random cases have to reach.
+//! The names of all happenings that the random cases have to reach, on each kind of part.
 
-pub const KINDS: &[&str] = &[
+use crate::part::Kind;
+
+/// The happenings of this kind of part.
+pub fn kinds_of(kind: Kind) -> impl Iterator<Item = &'static str> {
+    let own = match kind {
+        Kind::Pca9641 => OF_PCA9641,
+        Kind::Tpt29641 => OF_TPT29641,
+    };
+    OF_BOTH.iter().chain(own).copied()
+}
+
+/// Where the two parts differ (#105).
+const OF_PCA9641: &[&str] = &["write pointer stays at 7"];
+const OF_TPT29641: &[&str] = &[
+    "write pointer goes 7 to 0",
+    "write pointer goes 7 to 0 in a PAIR",
+    "a burst past 7 is not acknowledged at 0",
+    "a burst past 7 writes CONTR",
+    "101 to 150 idle ticks, idle timer on, owner stays",
+    "idle timer switched on at 101 to 150 idle ticks, owner stays",
+];
+
+const OF_BOTH: &[&str] = &[
     // Events that are refused or not acknowledged.
     "refused 2",
     "refused 3",
@@ -29,6 +51,8 @@ pub const KINDS: &[&str] = &[
     "loss by idle timer in a TICK",
     "loss by idle timer in a byte",
     "reserve runs out on a bus not idle",
+    "one tick short of the idle limit, idle timer on, owner stays",
+    "idle count stays at its limit",
     // Claims.
     "claim withdrawn before its grant",
     "claim withdrawn, BUS_CONNECT kept",
@@ -105,7 +129,7 @@ pub const KINDS: &[&str] = &[
     // Bytes and pointers.
     "PAIR taken",
     "PAIR clash on INT_STATUS bit 5",
-    "write pointer stays at 7",
+    "write at 7 without auto-increment",
     "read pointer goes 7 to 0",
     "drive write acts",
     "drive write ignored",

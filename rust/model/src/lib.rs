@@ -9,14 +9,16 @@
 //!
 //! - `straps`: pins to address and back ("Straps").
 //! - `event`: what four bytes mean, refusals 2 and 3 ("Events").
+//! - `part`: the two kinds of part (document 02, #105).
 //! - `device`: what the device remembers, and what follows from it.
 //! - `bytes`: what a byte written or read does ("Registers").
 //! - `step`: one event, in the order of "Order inside a step".
 //! - `trace`: whole traces and the listing ("Answers and the trace").
-//! - `writer`: a trace out of pins and events (document 02, #101).
+//! - `writer`: a trace out of pins, kind and events (document 02, #101).
+//! - `converter`: an old trace given its third section (document 02, #105).
 //! - `capture`: a logic-analyser capture turned into events (document 02, #104).
 //! - `rng`, `phrases`, `waits`, `traces`, `damage`: random cases for the tests.
-//! - `happenings`, `hanging`, `kinds`: what happens in them.
+//! - `happenings`, `hanging`, `second_part`, `kinds`: what happens in them.
 //! - `pen`, `captures`, `capture_damage`, `sightings`: random captures, and what is seen in them.
 //! - `stored`: the traces that the repository keeps as one set.
 
@@ -24,15 +26,18 @@ pub mod bytes;
 pub mod capture;
 pub mod capture_damage;
 pub mod captures;
+pub mod converter;
 pub mod damage;
 pub mod device;
 pub mod event;
 pub mod hanging;
 pub mod happenings;
 pub mod kinds;
+pub mod part;
 pub mod pen;
 pub mod phrases;
 pub mod rng;
+pub mod second_part;
 pub mod sightings;
 pub mod step;
 pub mod stored;
@@ -43,7 +48,9 @@ pub mod waits;
 pub mod writer;
 
 pub use capture::{import_capture, Imported};
+pub use converter::convert_trace;
 pub use device::Device;
+pub use part::Kind;
 pub use straps::{address_of, pins_of};
 pub use trace::{listing, read_trace, run_trace, Trace, TraceResult};
 pub use writer::{write_trace, Written};

@@ -3,6 +3,7 @@
 
 use crate::device::*;
 use crate::event::make::*;
+use crate::part::Kind;
 use crate::rng::Rng;
 
 pub type Bytes = [u8; 4];
@@ -12,8 +13,8 @@ pub type Phrase = Vec<Bytes>;
 pub fn master_phrase(rng: &mut Rng, device: &Device, m: u8) -> Phrase {
     let owns = device.owner() == Some(m as usize);
     let connected = device.masters[m as usize].has(BUS_CONNECT);
-    if owns && device.idle_count == IDLE_TICKS && rng.percent(40) {
-        // The idle timer is switched on when its time has already come.
+    if owns && device.idle_count >= Kind::Pca9641.idle_ticks() && rng.percent(40) {
+        // The idle timer is switched on when its time has already come, on one part at least.
         return write_register(rng, m, 1, &[0x21, 0x25]);
     }
     match rng.below(100) {
@@ -115,10 +116,11 @@ fn read_some(rng: &mut Rng, m: u8) -> Phrase {
     phrase
 }
 
-/// Many bytes with auto-increment, often past register 7.
+/// Many bytes with auto-increment, often past register 7. Some go through all registers.
 fn burst(rng: &mut Rng, m: u8) -> Phrase {
     let mut phrase = vec![command(m, 0x80 | rng.below(8) as u8)];
-    for _ in 0..rng.between(1, 5) {
+    let most = rng.pick(&[5, 5, 5, 12]);
+    for _ in 0..rng.between(1, most) {
         phrase.push(write(m, rng.byte()));
     }
     phrase.push(stop(m));
@@ -177,7 +179,7 @@ fn mail_clash(rng: &mut Rng) -> Phrase {
 fn any_pair(rng: &mut Rng) -> Phrase {
     let code = |rng: &mut Rng| rng.below(8) as u8 | rng.pick(&[0, 0x80]);
     let mut phrase = vec![command(0, code(rng)), command(1, code(rng))];
-    for _ in 0..rng.between(1, 3) {
+    for _ in 0..rng.between(1, 4) {
         phrase.push(pair(rng.byte(), rng.byte()));
     }
     phrase.extend([stop(0), stop(1)]);

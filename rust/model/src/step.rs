@@ -94,7 +94,7 @@ impl Device {
             self.sda_low_count = (self.sda_low_count + 1).min(SDA_HUNG_TICKS);
         }
         if idle {
-            self.idle_count = (self.idle_count + 1).min(IDLE_TICKS);
+            self.idle_count = (self.idle_count + 1).min(self.kind.idle_ticks());
         }
     }
 
@@ -135,7 +135,7 @@ impl Device {
             grant.ticks >= grant.reserve && self.is_idle()
         } else {
             // Reserve 00h never runs out. Only the idle timer can end it.
-            self.masters[owner].has(IDLE_TIMER_DIS) && self.idle_count == IDLE_TICKS
+            self.masters[owner].has(IDLE_TIMER_DIS) && self.idle_count == self.kind.idle_ticks()
         };
         if lost {
             self.masters[owner].contr &= !LOCK_REQ;

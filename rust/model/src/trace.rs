@@ -1,6 +1,8 @@
-//! Whole traces and the listing. Document 01, "Answers and the trace" and M1.
+//! Whole traces and the listing. Document 01, "Answers and the trace" and M1; the third section is
+//! that of document 02, #105.
 
 use crate::device::Device;
+use crate::part::Kind;
 use crate::straps::address_of;
 
 pub const MOST_EVENTS: usize = 4096;
@@ -11,6 +13,8 @@ pub struct TraceResult {
     pub number: u8,
     pub address: u8,
     pub events: usize,
+    /// "A refused trace gives kind 0" (#105).
+    pub kind: Kind,
     pub device: Device,
 }
 
@@ -21,32 +25,65 @@ pub struct Trace {
     pub pins: [u8; 4],
     pub address: u8,
     pub events: Vec<[u8; 4]>,
+    pub kind: Kind,
+}
+
+/// What a refused trace reports: address 00h, 0 events, kind 0 and the fresh device (reading 21).
+/// So it is also where a kind 1 was read before the refusal was met.
+fn refused(number: u8) -> TraceResult {
+    let device = Device::power_up();
+    TraceResult { number, address: 0, events: 0, kind: device.kind, device }
 }
 
 /// Runs a trace and writes four answer bytes for each event. A refused trace
-/// writes nothing and reports address 00h, 0 events and the fresh device
-/// (reading 21). Answer bytes past 4n stay.
+/// writes nothing. Answer bytes past 4n stay.
 pub fn run_trace(trace: &[u8], answers: &mut [u8]) -> TraceResult {
-    let mut device = Device::power_up();
-    let refused = |number, device| TraceResult { number, address: 0, events: 0, device };
-    let Trace { address, events, .. } = match read_trace(trace) {
+    let Trace { address, events, kind, .. } = match read_trace(trace) {
         Ok(read) => read,
-        Err(number) => return refused(number, device),
+        Err(number) => return refused(number),
     };
     // 9 is the last of the refusals.
     if answers.len() < 4 * events.len() {
-        return refused(9, device);
+        return refused(9);
     }
+    let mut device = Device::power_up_of(kind);
     for (place, event) in events.iter().enumerate() {
         let answer = device.step(*event);
         answers[4 * place..4 * place + 4].copy_from_slice(&answer);
     }
-    TraceResult { number: 0, address, events: events.len(), device }
+    TraceResult { number: 0, address, events: events.len(), kind, device }
+}
+
+/// Reads a whole trace. After the events comes "a third section: count byte 1 and kind"; its
+/// refusals are met in the order of its bytes, "after the events' 5 and before 7" (#105). The 9
+/// that follows is of a run, not of a reading.
+pub fn read_trace(trace: &[u8]) -> Result<Trace, u8> {
+    let Front { pins, address, events, mut rest } = read_front(trace)?;
+    let count = take(&mut rest, 1)?;
+    if count[0] != 1 {
+        return Err(10);
+    }
+    let number = take(&mut rest, 1)?;
+    let Some(kind) = Kind::of(number[0]) else {
+        return Err(3);
+    };
+    if !rest.is_empty() {
+        return Err(7);
+    }
+    Ok(Trace { pins, address, events, kind })
+}
+
+/// The first two sections, which a trace has had from the start, and the bytes after them.
+pub struct Front<'a> {
+    pub pins: [u8; 4],
+    pub address: u8,
+    pub events: Vec<[u8; 4]>,
+    pub rest: &'a [u8],
 }
 
 /// "Trace order: first count missing 5, wrong 10, pins missing 5, pins 8,
-/// n missing 5, 6, events missing 5, 7, 9." The 9 is of a run, not of a reading.
-pub fn read_trace(trace: &[u8]) -> Result<Trace, u8> {
+/// n missing 5, 6, events missing 5".
+pub fn read_front(trace: &[u8]) -> Result<Front<'_>, u8> {
     let mut rest = trace;
     let first_count = take(&mut rest, 1)?;
     if first_count[0] != 4 {
@@ -61,11 +98,8 @@ pub fn read_trace(trace: &[u8]) -> Result<Trace, u8> {
     if n > MOST_EVENTS {
         return Err(6);
     }
-    let bytes = take(&mut rest, 4 * n)?;
-    if !rest.is_empty() {
-        return Err(7);
-    }
-    Ok(Trace { pins, address, events: bytes.chunks(4).map(four).collect() })
+    let events = take(&mut rest, 4 * n)?.chunks(4).map(four).collect();
+    Ok(Front { pins, address, events, rest })
 }
 
 /// Four bytes as an array.

@@ -8,6 +8,7 @@ use std::collections::VecDeque;
 
 use crate::device::{Device, IDLE_TIMER_DIS};
 use crate::event::make::*;
+use crate::part::{Kind, BOTH_KINDS};
 use crate::phrases::{joint_phrase, master_phrase, Bytes};
 use crate::rng::Rng;
 use crate::straps::pins_of;
@@ -28,11 +29,16 @@ struct Teller {
     left: usize,
 }
 
-/// A random list of so many events.
+/// A random list of so many events, told along a PCA9641.
 pub fn event_list(seed: u64, length: usize) -> Vec<Bytes> {
+    event_list_of(Kind::Pca9641, seed, length)
+}
+
+/// A random list of so many events, told along a part of this kind.
+pub fn event_list_of(kind: Kind, seed: u64, length: usize) -> Vec<Bytes> {
     let mut teller = Teller {
         rng: Rng::new(seed),
-        device: Device::power_up(),
+        device: Device::power_up_of(kind),
         scripts: Default::default(),
         joint: VecDeque::new(),
         left: length,
@@ -50,15 +56,29 @@ pub fn seed_of(run: u64, place: u64) -> u64 {
     run.wrapping_mul(1_000_003).wrapping_add(place)
 }
 
-/// A random trace that is accepted: strapping, count and events.
+/// A random trace that is accepted: strapping, count, events and either kind of part.
 pub fn trace(seed: u64, length: usize) -> Vec<u8> {
-    let address = Rng::new(!seed).between(0x08, 0x77) as u8;
+    let mut rng = Rng::new(!seed);
+    let address = rng.between(0x08, 0x77) as u8;
     let pins = pins_of(address).expect("every address 08h to 77h has a strapping");
-    trace_of(pins, &event_list(seed, length))
+    let kind = rng.pick(&BOTH_KINDS);
+    trace_of_kind(kind, pins, &event_list_of(kind, seed, length))
 }
 
-/// The bytes of a trace. Document 01, "Answers and the trace".
+/// The bytes of a trace for a PCA9641.
 pub fn trace_of(pins: [u8; 4], events: &[Bytes]) -> Vec<u8> {
+    trace_of_kind(Kind::Pca9641, pins, events)
+}
+
+/// The bytes of a trace: an old one and the third section (document 02, #105).
+pub fn trace_of_kind(kind: Kind, pins: [u8; 4], events: &[Bytes]) -> Vec<u8> {
+    let mut bytes = old_trace_of(pins, events);
+    bytes.extend([1, kind.number()]);
+    bytes
+}
+
+/// The bytes of a trace as document 01 had it at first, without a kind of part.
+pub fn old_trace_of(pins: [u8; 4], events: &[Bytes]) -> Vec<u8> {
     let mut bytes = vec![4];
     bytes.extend(pins);
     bytes.extend((events.len() as u16).to_le_bytes());
@@ -129,7 +149,8 @@ impl Teller {
         if self.left > WAIT && self.rng.percent(8) {
             return hanging_wait(&mut self.rng, &self.device, self.left);
         }
-        if self.idle_timer_is_on() && self.left > 110 && self.rng.percent(25) {
+        let wait = self.device.kind.idle_ticks() as usize + 9;
+        if self.idle_timer_is_on() && self.left > wait && self.rng.percent(25) {
             return self.quiet_wait();
         }
         let rng = &mut self.rng;
@@ -151,10 +172,13 @@ impl Teller {
         owner.is_some_and(|m| self.device.masters[m].has(IDLE_TIMER_DIS))
     }
 
-    /// A STOP, then about as many ticks as the idle timer needs.
+    /// A STOP, then about as many ticks as the idle timer needs: sometimes that of the other part.
     fn quiet_wait(&mut self) -> Vec<Bytes> {
+        let any = self.rng.pick(&BOTH_KINDS);
+        let kind = if self.rng.percent(60) { self.device.kind } else { any };
+        let ticks = kind.idle_ticks() as u64 - 2 + self.rng.below(6);
         let mut phrase = vec![lines(1, 0, 1), lines(1, 1, 1)];
-        phrase.extend(vec![tick(); self.rng.between(99, 104) as usize]);
+        phrase.extend(vec![tick(); ticks as usize]);
         phrase
     }
 

@@ -214,7 +214,7 @@ fn random_cases_hang_and_do_not() {
     let (mut all, mut lists) = (Happenings::default(), 0);
     for place in 0..150 {
         let mut one = Happenings::default();
-        one.run(&event_list(seed_of(102, place), 1500));
+        one.run(Kind::Pca9641, &event_list(seed_of(102, place), 1500));
         lists += usize::from(one.count("hung by SCL") + one.count("hung by SDA") > 0);
         all.add(&one);
     }

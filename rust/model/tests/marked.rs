@@ -8,7 +8,8 @@ use model::{address_of, listing};
 fn m1_listing() {
     let trace = [
         0x04, 0, 0, 0, 0, 0x04, 0, // straps, count
-        0, 0, 1, 0, 1, 0, 5, 0, 3, 0, 0, 0, 2, 0, 0, 0,
+        0, 0, 1, 0, 1, 0, 5, 0, 3, 0, 0, 0, 2, 0, 0, 0, // events
+        1, 0, // kind: "M1's input gains 01 00" (#105)
     ];
     assert_eq!(listing(&trace), "70 0004\n0000000C\n0000000C\n0000050C\n0007050C\n");
     assert_eq!(listing(&[0x05]), "R10\n");
@@ -104,8 +105,8 @@ fn m9_initialisation() {
 fn m10_straps() {
     assert_eq!(address_of([1, 0, 0, 0]), None);
     assert_eq!(address_of([1, 1, 1, 3]), Some(0x0F));
-    assert_eq!(listing(&[4, 1, 0, 0, 0, 0, 0]), "R8\n");
-    assert_eq!(listing(&[4, 1, 1, 1, 3, 0, 0]), "0F 0000\n");
+    assert_eq!(listing(&[4, 1, 0, 0, 0, 0, 0, 1, 0]), "R8\n");
+    assert_eq!(listing(&[4, 1, 1, 1, 3, 0, 0, 1, 0]), "0F 0000\n");
 }
 
 #[test]

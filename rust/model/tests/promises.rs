@@ -5,7 +5,8 @@ mod bench;
 use bench::*;
 use model::device::{Port, LOCK_REQ};
 use model::event::{read_event, Event};
-use model::traces::event_list;
+use model::part::BOTH_KINDS;
+use model::traces::event_list_of;
 
 /// True if master m writes LOCK_REQ 0 in this event (reading 22).
 fn withdraws(before: &Device, event: [u8; 4], m: usize) -> bool {
@@ -17,12 +18,13 @@ fn withdraws(before: &Device, event: [u8; 4], m: usize) -> bool {
     before.masters[m].pointer == 1 && value & LOCK_REQ == 0
 }
 
-/// Calls `check` for each accepted step of many runs.
+/// Calls `check` for each accepted step of many runs, of either kind of part.
 fn each_step(mut check: impl FnMut(&Device, [u8; 4], [u8; 4], &Device)) {
-    for seed in 0..300 {
-        let mut device = Device::power_up();
-        let length = if seed % 10 == 0 { 2000 } else { 300 };
-        for event in event_list(seed, length) {
+    for seed in 0..400 {
+        let kind = BOTH_KINDS[seed as usize % 2];
+        let mut device = Device::power_up_of(kind);
+        let length = if seed / 2 % 10 == 0 { 2000 } else { 300 };
+        for event in event_list_of(kind, seed, length) {
             let before = device.clone();
             let answer = device.step(event);
             if answer[0] >= 2 {
@@ -133,7 +135,7 @@ fn states_are_settled() {
             assert!(device.drives.scl && device.drives.sda);
         }
         assert!(device.scl_low_count <= 500 && device.sda_low_count <= 501);
-        assert!(device.idle_count <= 101 && device.hold <= 35);
+        assert!(device.idle_count <= device.kind.idle_ticks() && device.hold <= 35);
         assert!(device.masters.iter().all(|m| m.contr & 2 == 0 && m.int_msk < 0x80));
     });
 }

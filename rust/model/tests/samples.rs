@@ -3,7 +3,8 @@
 use std::fs;
 use std::path::{Path, PathBuf};
 
-use model::{listing, run_trace};
+use model::trace::four;
+use model::{listing, read_trace, run_trace};
 
 /// The folder of the samples.
 fn folder() -> PathBuf {
@@ -17,12 +18,10 @@ fn sample(name: &str) -> Vec<u8> {
 /// The events and answers of an accepted sample.
 fn run(name: &str) -> Vec<([u8; 4], [u8; 4])> {
     let trace = sample(name);
-    let events = &trace[7..];
-    let mut answers = vec![0; events.len()];
-    let result = run_trace(&trace, &mut answers);
-    assert_eq!((result.number, 4 * result.events), (0, events.len()), "{name}");
-    let four = |bytes: &[u8]| [bytes[0], bytes[1], bytes[2], bytes[3]];
-    events.chunks(4).map(four).zip(answers.chunks(4).map(four)).collect()
+    let events = read_trace(&trace).expect(name).events;
+    let mut answers = vec![0; 4 * events.len()];
+    assert_eq!(run_trace(&trace, &mut answers).events, events.len(), "{name}");
+    events.into_iter().zip(answers.chunks(4).map(four)).collect()
 }
 
 /// The owner after each TICK: 0 none, 1 master 0, 2 master 1.

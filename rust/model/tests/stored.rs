@@ -5,6 +5,7 @@ use std::path::{Path, PathBuf};
 
 use model::happenings::Happenings;
 use model::listing;
+use model::part::BOTH_KINDS;
 use model::read_trace;
 use model::stored::{input, output, stored_traces};
 
@@ -24,11 +25,21 @@ fn stored_files_are_those_of_the_list() {
 #[test]
 fn stored_set_has_every_kind() {
     let texts: Vec<String> = stored_traces().iter().map(|trace| listing(trace)).collect();
-    for refusal in ["R5\n", "R6\n", "R7\n", "R8\n", "R10\n"] {
+    for refusal in ["R3\n", "R5\n", "R6\n", "R7\n", "R8\n", "R10\n"] {
         assert!(texts.iter().any(|text| text == refusal), "no {refusal}");
     }
     let good = texts.iter().filter(|text| !text.starts_with('R')).count();
     assert!(good > 100, "{good} good traces");
+}
+
+/// Its good traces are of either kind of part.
+#[test]
+fn stored_set_has_both_parts() {
+    let read = || stored_traces().into_iter().filter_map(|trace| read_trace(&trace).ok());
+    for kind in BOTH_KINDS {
+        let count = read().filter(|trace| trace.kind == kind).count();
+        assert!(count > 40, "{count} of {kind:?}");
+    }
 }
 
 /// Its long traces come to a hung bus by either line, and to a clock that runs too long for one.
@@ -36,7 +47,7 @@ fn stored_set_has_every_kind() {
 fn stored_set_hangs_the_bus() {
     let mut happenings = Happenings::default();
     for trace in stored_traces().iter().filter_map(|trace| read_trace(trace).ok()) {
-        happenings.run(&trace.events);
+        happenings.run(trace.kind, &trace.events);
     }
     let kinds = ["hung by SCL", "hung by SDA", "SDA low for 501 ticks, not hung: the clock runs"];
     for kind in kinds {

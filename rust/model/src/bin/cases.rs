@@ -1,4 +1,4 @@
-//! cases SEED COUNT LEN: prints COUNT random event lists of LEN events.
+//! cases SEED COUNT LEN: prints COUNT random event lists of LEN events for a PCA9641.
 //! A line holds the events in hex, a space, and the answers in hex.
 
 use std::io::{self, BufWriter, Write};

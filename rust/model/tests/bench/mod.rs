@@ -2,7 +2,7 @@
 #![allow(dead_code)]
 
 pub use model::event::make::*;
-pub use model::Device;
+pub use model::{Device, Kind};
 
 /// Steps all events, each of which must be done (outcome 0). Gives the last answer.
 pub fn run(device: &mut Device, events: &[[u8; 4]]) -> [u8; 4] {
@@ -33,7 +33,12 @@ pub fn get(device: &mut Device, m: u8, register: u8) -> u8 {
 
 /// A fresh device on which master m took the bus with this RT and CONTR.
 pub fn owned_by(m: u8, rt: u8, contr: u8) -> Device {
-    let mut device = Device::power_up();
+    owned_by_on(Kind::Pca9641, m, rt, contr)
+}
+
+/// The same on a fresh part of this kind.
+pub fn owned_by_on(kind: Kind, m: u8, rt: u8, contr: u8) -> Device {
+    let mut device = Device::power_up_of(kind);
     set(&mut device, m, 3, rt);
     let answer = set(&mut device, m, 1, contr);
     assert_eq!(owner(answer), Some(m));
