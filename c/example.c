@@ -1,5 +1,5 @@
-/* Lists a trace, says in words who owns the bus at its end, writes the trace again, and shows straps both ways. With a capture it says what
- * that has for the device at 71h.
+/* Lists a trace, says in words what part it is for and who owns the bus at its end, writes the trace again, takes its part away as in an
+ * old trace and has it converted, and shows straps both ways. With a capture it says what that has for the device at 71h.
  * Usage: example TRACE-FILE [CAPTURE-FILE] */
 #include <stdio.h>
 #include <string.h>
@@ -15,14 +15,29 @@ static uint8_t written[GUNWALEISH_MOST_TRACE];
 static uint8_t text[GUNWALEISH_MOST_TEXT];
 
 static const char *const owners[4] = {"nobody", "master 0", "master 1", "?"};
+static const char *const parts[2] = {"PCA9641", "TPT29641"};
+
+/* Whether the first bytes of what was written are those of the trace. */
+static const char *compared(size_t written_length, size_t length) {
+    return written_length == length && memcmp(written, trace, length) == 0 ? "the same" : "not the same";
+}
 
 /* An accepted trace has its pins from byte 1 on and its events from byte 7 on. */
-static void show_written(size_t length, size_t events) {
-    uint64_t result =
-        gunwaleish_write_trace(trace[1], trace[2], trace[3], trace[4], trace + 7, 4 * events, written, sizeof written);
+static void show_written(size_t length, size_t events, uint8_t kind) {
+    uint64_t result = gunwaleish_write_trace(trace[1], trace[2], trace[3], trace[4], kind, trace + GUNWALEISH_TRACE_HEAD, 4 * events,
+                                             written, sizeof written);
     size_t again = gunwaleish_length(result);
-    int same = gunwaleish_number(result) == GUNWALEISH_DONE && again == length && memcmp(written, trace, length) == 0;
-    printf("its pins and events written again: %zu bytes, %s\n", again, same ? "the same" : "not the same");
+    printf("its pins, part and events written again: %zu bytes, %s\n", again, compared(again, length));
+}
+
+/* An old trace names no part: it ends after its events. Converted, it names the PCA9641. */
+static void show_converted(size_t length) {
+    size_t old_length = length - GUNWALEISH_TRACE_TAIL;
+    uint64_t refused = gunwaleish_run_trace(trace, old_length, answers, sizeof answers);
+    uint64_t result = gunwaleish_convert_trace(trace, old_length, written, sizeof written);
+    size_t again = gunwaleish_length(result);
+    printf("without its part: refused, number %u; converted: %zu bytes, %s\n", gunwaleish_number(refused), again,
+           compared(again, length));
 }
 
 static void show_trace(size_t length) {
@@ -36,12 +51,14 @@ static void show_trace(size_t length) {
         return;
     }
     size_t events = gunwaleish_events(report);
-    printf("address %02Xh, %zu events\n", gunwaleish_address(report), events);
+    uint8_t kind = gunwaleish_kind(report);
+    printf("%s at address %02Xh, %zu events\n", parts[kind & 1], gunwaleish_address(report), events);
     if (events > 0) {
         const uint8_t *last = answers + 4 * (events - 1);
         printf("at the end the bus is owned by %s\n", owners[gunwaleish_owner(last[GUNWALEISH_ANSWER_BUS])]);
     }
-    show_written(length, events);
+    show_written(length, events, kind);
+    show_converted(length);
 }
 
 static void show_address(uint8_t ad3, uint8_t ad2, uint8_t ad1, uint8_t ad0) {

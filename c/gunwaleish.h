@@ -1,4 +1,4 @@
-/* The proved model of a PCA9641 bus arbiter, for C and C++.
+/* The proved model of a PCA9641 bus arbiter, and of its second source TPT29641, for C and C++.
  *
  * Link with libgunwaleish.a, which `rt staticlib gunwaleish` writes to target/staticlib/ (x86-64).
  *
@@ -15,28 +15,42 @@
 extern "C" {
 #endif
 
-/* The numbers of documents 01 and 02. The first five are outcomes of one event, the others refuse a whole call. */
+/* The numbers of documents 01 and 02. The first five are outcomes of one event, the others refuse a whole call; so does 3 for a kind of
+ * part. */
 enum gunwaleish_numbers {
     GUNWALEISH_DONE = 0,                   /* done, accepted */
     GUNWALEISH_NOT_ACKNOWLEDGED = 1,       /* the byte was not acknowledged */
     GUNWALEISH_UNKNOWN_KIND = 2,           /* the event's first byte is no kind */
-    GUNWALEISH_FIELD_OUT_OF_RANGE = 3,     /* a field out of range, or an unused one not 0 */
+    GUNWALEISH_FIELD_OUT_OF_RANGE = 3,     /* of an event: a field out of range, or an unused one not 0 */
+    GUNWALEISH_NO_SUCH_PART = 3,           /* of a whole call: the kind of part is neither 0 nor 1 */
     GUNWALEISH_OUT_OF_SEQUENCE = 4,        /* the event cannot come now */
     GUNWALEISH_TRACE_CUT = 5,              /* bytes are missing at the end, or event bytes do not come in fours */
     GUNWALEISH_TOO_MANY_EVENTS = 6,        /* more than 4,096 events */
-    GUNWALEISH_BYTES_AFTER_END = 7,        /* bytes after the last event */
+    GUNWALEISH_BYTES_AFTER_END = 7,        /* bytes after the trace's end */
     GUNWALEISH_NO_SUCH_STRAPPING = 8,      /* a pin code above 3, or a strapping without an address */
     GUNWALEISH_TOO_LITTLE_ROOM = 9,        /* the buffer is too short */
-    GUNWALEISH_FIRST_COUNT_NOT_FOUR = 10,  /* the first byte, the count of pins, is not 4 */
+    GUNWALEISH_WRONG_COUNT = 10,           /* the first byte, the count of pins, is not 4, or the count of the kind of part is not 1 */
     GUNWALEISH_ADDRESS_OUTSIDE = 11,       /* the address is not one of 08h to 77h */
     GUNWALEISH_BYTE_CUT = 12,              /* a START or STOP inside a byte of a capture, or its end */
     GUNWALEISH_TOO_MANY_SAMPLES = 13       /* more than 32,768 samples */
 };
 
+/* The kinds of part. A TPT29641 differs in two things: its idle timer ends a grant at 151 idle ticks, not at 101, and its write pointer
+ * rolls from 7 to 0, where that of a PCA9641 stays at 7. There is no default: a trace names its part. */
+enum gunwaleish_parts {
+    GUNWALEISH_PCA9641 = 0,
+    GUNWALEISH_TPT29641 = 1
+};
+
+/* A trace: the count 4 and the pins AD3 to AD0; the count of events in two bytes, low first, and four bytes an event; the count 1 and the
+ * kind of part. These are the bytes before and after the events. */
+#define GUNWALEISH_TRACE_HEAD 7
+#define GUNWALEISH_TRACE_TAIL 2
+
 /* The most events of a trace, the answer bytes of such a trace, its own bytes, and the longest listing. */
 #define GUNWALEISH_MOST_EVENTS 4096
 #define GUNWALEISH_MOST_ANSWERS (4 * GUNWALEISH_MOST_EVENTS)
-#define GUNWALEISH_MOST_TRACE (7 + 4 * GUNWALEISH_MOST_EVENTS)
+#define GUNWALEISH_MOST_TRACE (GUNWALEISH_TRACE_HEAD + 4 * GUNWALEISH_MOST_EVENTS + GUNWALEISH_TRACE_TAIL)
 #define GUNWALEISH_MOST_TEXT (8 + 9 * GUNWALEISH_MOST_EVENTS)
 
 /* The most samples of a capture, the most events that it gives, and their bytes. */
@@ -65,16 +79,22 @@ enum gunwaleish_numbers {
 /* What gunwaleish_pin gives for a pin that is not there. */
 #define GUNWALEISH_NO_PIN 0xff
 
-/* Runs a trace from power-up and writes four answer bytes an event. The result is packed: number + 256 * address + 65536 * events.
- * Bytes past the answers stay. A refused trace leaves all of them, and reports address 0 and 0 events. */
+/* Runs a trace from power-up and writes four answer bytes an event. The result is packed: number + 256 * address + 65536 * events +
+ * 4294967296 * the kind of part. Bytes past the answers stay. A refused trace leaves all of them, and reports address 0, 0 events and
+ * kind 0. */
 uint64_t gunwaleish_run_trace(const uint8_t *trace, size_t trace_len, uint8_t *answers, size_t answers_len);
 
-/* Writes the trace of four pins and of events, four bytes each, as they are given, also those that a device will refuse. The result is
- * packed: number + 256 * the trace's length. Refusals, in this order: 8 for the pins, 5 event bytes not in fours, 6 above 4,096 events, 9
- * if the buffer is shorter than the trace, which has 7 bytes and the events'. A refusal writes nothing, and the length is 0. Bytes past
- * the trace stay. */
-uint64_t gunwaleish_write_trace(uint8_t ad3, uint8_t ad2, uint8_t ad1, uint8_t ad0, const uint8_t *events, size_t events_len,
-                                uint8_t *trace, size_t trace_len);
+/* Writes the trace of four pins, a kind of part and events, four bytes each, as they are given, also those that a device will refuse. The
+ * result is packed: number + 256 * the trace's length. Refusals, in this order: 8 for the pins, 5 event bytes not in fours, 6 above 4,096
+ * events, 3 for a kind that is neither 0 nor 1, 9 if the buffer is shorter than the trace, which has 9 bytes and the events'. A refusal
+ * writes nothing, and the length is 0. Bytes past the trace stay. */
+uint64_t gunwaleish_write_trace(uint8_t ad3, uint8_t ad2, uint8_t ad1, uint8_t ad0, uint8_t kind, const uint8_t *events,
+                                size_t events_len, uint8_t *trace, size_t trace_len);
+
+/* Writes an old trace, which ends after its events, with the kind of part added: 01 00, a PCA9641, as there was no other. The result is
+ * packed: number + 256 * the new trace's length. What is no old trace is refused by document 01's number, a new trace with 7; last comes 9
+ * if the buffer has not two bytes more than the old trace. A refusal writes nothing, and the length is 0. Bytes past the trace stay. */
+uint64_t gunwaleish_convert_trace(const uint8_t *old, size_t old_len, uint8_t *trace, size_t trace_len);
 
 /* Writes the events that a logic analyser's capture has for the device of this address, four bytes each. A sample is one byte: bits 0 to 3
  * are SCL0, SDA0, SCL1 and SDA1, and the others are ignored. The result is packed: number + 256 * the count of events. Refusals, in this
@@ -103,10 +123,15 @@ static inline uint8_t gunwaleish_address(uint64_t packed) {
 
 /* Out of what gunwaleish_run_trace gave. */
 static inline size_t gunwaleish_events(uint64_t packed) {
-    return (size_t)(packed >> 16);
+    return (size_t)(packed >> 16 & 0xffff);
 }
 
-/* Out of what gunwaleish_write_trace gave. */
+/* The kind of part, out of what gunwaleish_run_trace gave. */
+static inline uint8_t gunwaleish_kind(uint64_t packed) {
+    return (uint8_t)(packed >> 32 & 0xff);
+}
+
+/* Out of what gunwaleish_write_trace or gunwaleish_convert_trace gave. */
 static inline size_t gunwaleish_length(uint64_t packed) {
     return (size_t)(packed >> 8);
 }

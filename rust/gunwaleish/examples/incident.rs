@@ -34,7 +34,7 @@ fn tell(trace: &[u8]) {
         Ok(run) => run,
         Err(refusal) => return println!("  {refusal}"),
     };
-    println!("  address {:02X}h, {} events", run.address, run.events.len());
+    println!("  {} at address {:02X}h, {} events", run.part, run.address, run.events.len());
     let mut owner = None;
     let mut ticks = 0;
     for (place, (event, answer)) in run.events.iter().zip(&run.answers).enumerate() {

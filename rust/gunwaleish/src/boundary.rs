@@ -27,8 +27,15 @@ extern "C" {
         ad2: u8,
         ad1: u8,
         ad0: u8,
+        kind: u8,
         events: *const u8,
         events_len: usize,
+        trace: *mut u8,
+        trace_len: usize,
+    ) -> u64;
+    fn gunwaleish_convert_trace(
+        old: *const u8,
+        old_len: usize,
         trace: *mut u8,
         trace_len: usize,
     ) -> u64;
@@ -41,7 +48,8 @@ extern "C" {
     ) -> u64;
 }
 
-/// The number, then the address, then the count of events, packed as 1, 256 and 65536.
+/// The number, then the address, the count of events and the kind of part, packed as 1, 256, 65536
+/// and 4294967296.
 pub fn run_trace(trace: &[u8], answers: &mut [u8]) -> u64 {
     // SAFETY: see the head of this file.
     unsafe {
@@ -69,14 +77,20 @@ pub fn listing(trace: &[u8], text: &mut [u8]) -> usize {
 }
 
 /// The number, then the trace's length, packed as 1 and 256.
-pub fn write_trace(pins: [u8; 4], events: &[u8], trace: &mut [u8]) -> u64 {
+pub fn write_trace(pins: [u8; 4], kind: u8, events: &[u8], trace: &mut [u8]) -> u64 {
     let [ad3, ad2, ad1, ad0] = pins;
     let (from, from_len) = (events.as_ptr(), events.len());
     // SAFETY: see the head of this file.
     unsafe {
         let (to, to_len) = (trace.as_mut_ptr(), trace.len());
-        gunwaleish_write_trace(ad3, ad2, ad1, ad0, from, from_len, to, to_len)
+        gunwaleish_write_trace(ad3, ad2, ad1, ad0, kind, from, from_len, to, to_len)
     }
+}
+
+/// The number, then the new trace's length, packed as 1 and 256.
+pub fn convert_trace(old: &[u8], trace: &mut [u8]) -> u64 {
+    // SAFETY: see the head of this file.
+    unsafe { gunwaleish_convert_trace(old.as_ptr(), old.len(), trace.as_mut_ptr(), trace.len()) }
 }
 
 /// The number, then the count of events, packed as 1 and 256.

@@ -1,15 +1,16 @@
-//! The proved model of a PCA9641 bus arbiter, for Rust.
+//! The proved model of a PCA9641 bus arbiter, and of its second source TPT29641, for Rust.
 //!
 //! The work is done by a static library whose every function is proved. This crate gives its
 //! numbers and bytes names and nothing more. Build the library first, with `rt staticlib
 //! gunwaleish`; it links on x86-64.
 //!
-//! A trace is one byte string: the count 4, the pins AD3 to AD0, a two-byte low-first count of
-//! events, and four bytes an event. Each event is answered by four bytes: the outcome, the byte
-//! read, owner and switch, outputs and lines.
+//! A trace is one byte string: the count 4 and the pins AD3 to AD0; a two-byte low-first count of
+//! events and four bytes an event; the count 1 and the kind of part, 0 for a PCA9641 or 1 for a
+//! TPT29641. Each event is answered by four bytes: the outcome, the byte read, owner and switch,
+//! outputs and lines.
 //!
 //! ```
-//! use gunwaleish::{run, write_trace, Event, Master, Pins};
+//! use gunwaleish::{run, write_trace, Event, Master, Part, Pins};
 //!
 //! // Strapped to 70h, master 0 asks for the bus and is granted it at its STOP.
 //! let master = Master::Zero;
@@ -18,9 +19,10 @@
 //!     Event::Write { master, value: 0x05 },
 //!     Event::Stop { master },
 //! ];
-//! let trace = write_trace(Pins::of_address(0x70)?, &events)?;
+//! let trace = write_trace(Pins::of_address(0x70)?, Part::Pca9641, &events)?;
+//! assert_eq!(trace[trace.len() - 2..], [1, 0]);
 //! let run = run(&trace)?;
-//! assert_eq!(run.events, events);
+//! assert_eq!((run.part, run.events.as_slice()), (Part::Pca9641, &events[..]));
 //! assert_eq!(run.answers[1].owner, None);
 //! assert_eq!(run.answers[2].owner, Some(Master::Zero));
 //! # Ok::<(), gunwaleish::Refusal>(())
@@ -33,25 +35,32 @@ mod answer;
 pub mod boundary;
 mod capture;
 mod event;
+mod part;
 mod pins;
 mod refusal;
 mod run;
+mod writing;
 
 pub use answer::{Answer, Outcome};
 pub use capture::{import_capture, import_capture_into, MOST_CAPTURED, MOST_SAMPLES};
 pub use event::{Event, Master};
+pub use part::Part;
 pub use pins::Pins;
 pub use refusal::Refusal;
 pub use run::{run, run_trace, Report, Run};
+pub use writing::{convert_trace, convert_trace_into, write_trace, write_trace_into};
 
 /// The most events a trace may have.
 pub const MOST_EVENTS: usize = 4096;
 
-/// The bytes of a trace that are not events: the first count, the pins and the count of events.
+/// The bytes of a trace before its events: the first count, the pins and the count of events.
 const HEAD: usize = 7;
 
+/// The bytes of a trace after its events: the count 1 and the kind of part.
+const TAIL: usize = 2;
+
 /// The bytes of the longest trace.
-pub const MOST_TRACE: usize = HEAD + 4 * MOST_EVENTS;
+pub const MOST_TRACE: usize = HEAD + 4 * MOST_EVENTS + TAIL;
 
 /// The address of a strapping. Four codes pass as well as `Pins`.
 pub fn address_of(pins: impl Into<Pins>) -> Result<u8, Refusal> {
@@ -64,33 +73,6 @@ pub fn address_of(pins: impl Into<Pins>) -> Result<u8, Refusal> {
 pub fn pins_of(address: u8) -> Result<[u8; 4], Refusal> {
     let [number, ad3, ad2, ad1, ad0, ..] = boundary::pins_of(address).to_le_bytes();
     Refusal::of(number).map_or(Ok([ad3, ad2, ad1, ad0]), Err)
-}
-
-/// Writes a trace into a lent buffer and gives the trace's length.
-///
-/// `events` has four bytes an event, and they are written as they are, also those that a device
-/// will refuse. Refusals, in this order: 8 for the pins, 5 if the bytes do not come in fours, 6
-/// above 4,096 events, 9 if the buffer is shorter than the trace. The buffer is untouched then.
-/// Bytes past the trace stay as they are.
-pub fn write_trace_into(
-    pins: impl Into<Pins>,
-    events: &[u8],
-    trace: &mut [u8],
-) -> Result<usize, Refusal> {
-    let packed = boundary::write_trace(pins.into().into(), events, trace);
-    Refusal::of(packed as u8).map_or(Ok((packed >> 8) as usize), Err)
-}
-
-/// The trace of these pins and events. The events are `Event`s, or four bytes each.
-pub fn write_trace<E>(pins: impl Into<Pins>, events: &[E]) -> Result<Vec<u8>, Refusal>
-where
-    E: Copy + Into<[u8; 4]>,
-{
-    let bytes: Vec<u8> = events.iter().flat_map(|&event| event.into()).collect();
-    let mut trace = vec![0; HEAD + bytes.len()];
-    let length = write_trace_into(pins, &bytes, &mut trace)?;
-    trace.truncate(length);
-    Ok(trace)
 }
 
 /// Writes a trace's listing into a lent buffer and gives the listing's length.

@@ -1,6 +1,6 @@
 //! A trace, run from power-up.
 
-use crate::{boundary, Answer, Event, Pins, Refusal, HEAD, MOST_EVENTS};
+use crate::{boundary, Answer, Event, Part, Pins, Refusal, HEAD, MOST_EVENTS};
 
 /// What an accepted trace reports. Its answers are in the buffer.
 #[derive(Clone, Copy, Debug, PartialEq, Eq)]
@@ -9,6 +9,8 @@ pub struct Report {
     pub address: u8,
     /// How many events were run, and answered by four bytes each.
     pub events: usize,
+    /// The part that they were run on.
+    pub part: Part,
 }
 
 /// Runs a trace from power-up and writes its answers.
@@ -17,10 +19,12 @@ pub struct Report {
 /// they are.
 pub fn run_trace(trace: &[u8], answers: &mut [u8]) -> Result<Report, Refusal> {
     let packed = boundary::run_trace(trace, answers);
-    match Refusal::of(packed as u8) {
-        Some(refusal) => Err(refusal),
-        None => Ok(Report { address: (packed >> 8) as u8, events: (packed >> 16) as usize }),
+    let [number, address, low, high, kind, ..] = packed.to_le_bytes();
+    if let Some(refusal) = Refusal::of(number) {
+        return Err(refusal);
     }
+    let part = Part::of(kind).ok_or(Refusal::NoSuchPart)?;
+    Ok(Report { address, events: u16::from_le_bytes([low, high]).into(), part })
 }
 
 /// An accepted trace with its names: what was read, and what was answered. There are as many
@@ -31,6 +35,8 @@ pub struct Run {
     /// The seven-bit address of the strapping.
     pub address: u8,
     pub pins: Pins,
+    /// The part that the events were run on.
+    pub part: Part,
     pub events: Vec<Event>,
     pub answers: Vec<Answer>,
 }
@@ -46,6 +52,7 @@ pub fn run(trace: &[u8]) -> Result<Run, Refusal> {
     Ok(Run {
         address: report.address,
         pins: pins.into(),
+        part: report.part,
         events: fours(events).map(Event::from).collect(),
         answers: fours(&answers).map(Answer::from).collect(),
     })

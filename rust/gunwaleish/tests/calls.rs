@@ -1,32 +1,55 @@
 //! Each call once with what document 01 says of it. The many cases are in `rust/compare`.
 
 use gunwaleish::{
-    address_of, import_capture, import_capture_into, listing, listing_into, pins_of, run,
-    run_trace, write_trace, write_trace_into, Answer, Event, Master, Outcome, Pins, Refusal,
-    Report, MOST_EVENTS, MOST_SAMPLES, MOST_TRACE,
+    address_of, convert_trace, convert_trace_into, import_capture, import_capture_into, listing,
+    listing_into, pins_of, run, run_trace, write_trace, write_trace_into, Answer, Event, Master,
+    Outcome, Part, Pins, Refusal, Report, MOST_EVENTS, MOST_SAMPLES, MOST_TRACE,
 };
 
-/// M1: master 0 asks for the bus, is granted it at its STOP, and reads CONTR.
-const M1: [u8; 23] = [4, 0, 0, 0, 0, 4, 0, 0, 0, 1, 0, 1, 0, 5, 0, 3, 0, 0, 0, 2, 0, 0, 0];
+/// M1: master 0 asks for the bus, is granted it at its STOP, and reads CONTR. The part is a PCA9641.
+const M1: [u8; 25] = [4, 0, 0, 0, 0, 4, 0, 0, 0, 1, 0, 1, 0, 5, 0, 3, 0, 0, 0, 2, 0, 0, 0, 1, 0];
 const M1_TEXT: &str = "70 0004\n0000000C\n0000000C\n0000050C\n0007050C\n";
 
 #[test]
 fn a_trace_runs() {
     let mut answers = [0xEE; 18];
-    assert_eq!(run_trace(&M1, &mut answers), Ok(Report { address: 0x70, events: 4 }));
+    let report = Report { address: 0x70, events: 4, part: Part::Pca9641 };
+    assert_eq!(run_trace(&M1, &mut answers), Ok(report));
     let expected = [0, 0, 0, 12, 0, 0, 0, 12, 0, 0, 5, 12, 0, 7, 5, 12, 0xEE, 0xEE];
     assert_eq!(answers, expected);
 }
 
+/// M1 on the second source: the same answers, and the report names the part.
+#[test]
+fn a_trace_names_its_part() {
+    let mut second = M1;
+    second[24] = 1;
+    let report = Report { address: 0x70, events: 4, part: Part::Tpt29641 };
+    assert_eq!(run_trace(&second, &mut [0; 16]), Ok(report));
+    assert_eq!(run(&second).unwrap().part, Part::Tpt29641);
+    assert_eq!(listing(&second), M1_TEXT);
+    for (number, part, name) in [(0, Part::Pca9641, "PCA9641"), (1, Part::Tpt29641, "TPT29641")] {
+        assert_eq!((part.number(), part.to_string().as_str()), (number, name));
+        assert_eq!((Part::of(number), Part::named(name)), (Some(part), Some(part)));
+        assert_eq!(Part::named(&name.to_lowercase()), Some(part));
+    }
+    assert_eq!((Part::of(2), Part::named(""), Part::named("PCA9541")), (None, None, None));
+}
+
 #[test]
 fn each_refusal_has_its_name_and_number() {
-    let cases: [(&[u8], Refusal, u8); 6] = [
+    let cases: [(&[u8], Refusal, u8); 10] = [
         (&M1[..22], Refusal::TraceCut, 5),
         (&[4, 0, 0, 0, 0, 1, 16], Refusal::TooManyEvents, 6),
-        (&[4, 0, 0, 0, 0, 0, 0, 0], Refusal::BytesAfterEnd, 7),
         (&[4, 1, 0, 0, 0, 0, 0], Refusal::NoSuchStrapping, 8),
+        (&[3], Refusal::WrongCount, 10),
+        // The section of the part: missing in an old trace, then its bytes one after the other.
+        (&M1[..23], Refusal::TraceCut, 5),
+        (&[4, 0, 0, 0, 0, 0, 0, 2, 0], Refusal::WrongCount, 10),
+        (&M1[..24], Refusal::TraceCut, 5),
+        (&[4, 0, 0, 0, 0, 0, 0, 1, 2, 9], Refusal::NoSuchPart, 3),
+        (&[4, 0, 0, 0, 0, 0, 0, 1, 1, 9], Refusal::BytesAfterEnd, 7),
         (&M1, Refusal::TooLittleRoom, 9),
-        (&[3], Refusal::FirstCountNotFour, 10),
     ];
     for (trace, refusal, number) in cases {
         let mut answers = [0xEE; 15];
@@ -78,16 +101,43 @@ fn m1_events() -> [Event; 4] {
 
 #[test]
 fn a_trace_is_written_and_read_again() {
-    assert_eq!(write_trace(Pins::default(), &m1_events()).as_deref(), Ok(&M1[..]));
+    let part = Part::Pca9641;
+    assert_eq!(write_trace(Pins::default(), part, &m1_events()).as_deref(), Ok(&M1[..]));
     let run = run(&M1).unwrap();
-    assert_eq!((run.address, run.pins), (0x70, Pins::default()));
+    assert_eq!((run.address, run.pins, run.part), (0x70, Pins::default(), part));
     assert_eq!(run.events, m1_events());
-    assert_eq!(write_trace(run.pins, &run.events).as_deref(), Ok(&M1[..]));
-    assert_eq!(write_trace([0; 4], &m1_events().map(Event::bytes)).as_deref(), Ok(&M1[..]));
-    let mut buffer = [0xEE; 25];
-    assert_eq!(write_trace_into([0; 4], &M1[7..], &mut buffer), Ok(23));
-    assert_eq!(buffer[..23], M1);
-    assert_eq!(buffer[23..], [0xEE; 2]);
+    assert_eq!(write_trace(run.pins, run.part, &run.events).as_deref(), Ok(&M1[..]));
+    assert_eq!(write_trace([0; 4], part, &m1_events().map(Event::bytes)).as_deref(), Ok(&M1[..]));
+    let mut buffer = [0xEE; 27];
+    assert_eq!(write_trace_into([0; 4], part, &M1[7..23], &mut buffer), Ok(25));
+    assert_eq!(buffer[..25], M1);
+    assert_eq!(buffer[25..], [0xEE; 2]);
+    assert_eq!(write_trace_into([0; 4], Part::Tpt29641, &M1[7..23], &mut buffer), Ok(25));
+    assert_eq!((&buffer[..24], buffer[24]), (&M1[..24], 1));
+}
+
+/// M1 as it was before traces had a kind of part.
+#[test]
+fn an_old_trace_is_given_its_part() {
+    let old = &M1[..23];
+    assert_eq!(convert_trace(old).as_deref(), Ok(&M1[..]));
+    let mut buffer = [0xEE; 27];
+    assert_eq!(convert_trace_into(old, &mut buffer), Ok(25));
+    assert_eq!(buffer[..25], M1);
+    assert_eq!(buffer[25..], [0xEE; 2]);
+    let mut short = [0xEE; 24];
+    let cases = [
+        (&M1[..], Refusal::BytesAfterEnd),
+        (&M1[..22], Refusal::TraceCut),
+        (&[3][..], Refusal::WrongCount),
+        (&[4, 1, 0, 0, 0, 0, 0][..], Refusal::NoSuchStrapping),
+        (&[4, 0, 0, 0, 0, 1, 16][..], Refusal::TooManyEvents),
+        (old, Refusal::TooLittleRoom),
+    ];
+    for (bytes, refusal) in cases {
+        assert_eq!(convert_trace_into(bytes, &mut short), Err(refusal), "{bytes:?}");
+        assert_eq!(short, [0xEE; 24]);
+    }
 }
 
 /// Each refusal of the writer, with all those that come after it wrong as well.
@@ -98,14 +148,14 @@ fn the_writer_refuses_in_order() {
         ([1, 0, 0, 0], &[many.as_slice(), &[6]].concat(), Refusal::NoSuchStrapping),
         ([0; 4], &[many.as_slice(), &[6]].concat(), Refusal::TraceCut),
         ([0; 4], &many, Refusal::TooManyEvents),
-        ([0; 4], &M1[7..], Refusal::TooLittleRoom),
+        ([0; 4], &M1[7..23], Refusal::TooLittleRoom),
     ];
     for (pins, events, refusal) in cases {
-        let mut buffer = [0xEE; 22];
-        assert_eq!(write_trace_into(pins, events, &mut buffer), Err(refusal));
-        assert_eq!(buffer, [0xEE; 22]);
+        let mut buffer = [0xEE; 24];
+        assert_eq!(write_trace_into(pins, Part::Tpt29641, events, &mut buffer), Err(refusal));
+        assert_eq!(buffer, [0xEE; 24]);
     }
-    let most = write_trace([0; 4], &[Event::Tick; MOST_EVENTS]).unwrap();
+    let most = write_trace([0; 4], Part::Tpt29641, &[Event::Tick; MOST_EVENTS]).unwrap();
     assert_eq!((most.len(), run(&most).unwrap().events.len()), (MOST_TRACE, MOST_EVENTS));
 }
 
@@ -167,8 +217,8 @@ fn events_lose_no_byte() {
                     let bytes = [kind, a, b, c];
                     let event = Event::from(bytes);
                     assert_eq!(event.bytes(), bytes);
-                    let outcome =
-                        run(&write_trace([0; 4], &[event]).unwrap()).unwrap().answers[0].outcome;
+                    let trace = write_trace([0; 4], Part::Pca9641, &[event]).unwrap();
+                    let outcome = run(&trace).unwrap().answers[0].outcome;
                     let no_event =
                         matches!(outcome, Outcome::UnknownKind | Outcome::FieldOutOfRange);
                     assert_eq!(matches!(event, Event::Raw(_)), no_event, "{bytes:?}");
