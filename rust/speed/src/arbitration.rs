@@ -39,7 +39,7 @@ impl Device {
         let lost = if side.rt != 0 {
             self.reserve_left == 0 && !self.busy && self.levels() == BOTH
         } else {
-            side.contr & IDLE_TIMER_DIS != 0 && self.idle == 101
+            side.contr & IDLE_TIMER_DIS != 0 && self.idle == self.kind.idle_limit()
         };
         if lost {
             self.end_grant(m);

@@ -44,9 +44,10 @@ fn differing(mix: &Mix) -> Option<usize> {
     mix.traces.iter().position(|trace| {
         let (mut proved, mut plain) = (vec![0xEE; ROOM], vec![0xEE; ROOM]);
         let report = gunwaleish::run_trace(trace, &mut proved).ok();
+        let report = report.map(|found| (found.address, found.events, found.part.number()));
         let said = reading::run_trace(trace, &mut plain).ok();
-        let same = report.map(|report| (report.address, report.events)) == said;
-        !same || said.is_none() || proved != plain
+        let said = said.map(|(address, events, kind)| (address, events, kind as u8));
+        report != said || said.is_none() || proved != plain
     })
 }
 

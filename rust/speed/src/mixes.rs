@@ -1,10 +1,11 @@
 //! The traces that are timed: full ones of 4,096 events each.
 
 use model::event::make::*;
+use model::part::BOTH_KINDS;
 use model::rng::Rng;
 use model::straps::pins_of;
 use model::trace::MOST_EVENTS;
-use model::traces::{trace, trace_of};
+use model::traces::{trace, trace_of_kind};
 
 pub struct Mix {
     pub name: &'static str,
@@ -28,7 +29,7 @@ pub fn mixes() -> [Mix; 2] {
 }
 
 /// Nine events of ten are a TICK. The rest take the bus for one master or the other with some
-/// reserve, and move the lines.
+/// reserve, and move the lines. Every second trace is of a TPT29641.
 fn tick_heavy(seed: u64) -> Vec<u8> {
     let mut rng = Rng::new(seed);
     let mut events = vec![];
@@ -46,5 +47,6 @@ fn tick_heavy(seed: u64) -> Vec<u8> {
         }
     }
     events.truncate(MOST_EVENTS);
-    trace_of(pins_of(0x70).unwrap_or_default(), &events)
+    let kind = BOTH_KINDS[(seed % 2) as usize];
+    trace_of_kind(kind, pins_of(0x70).unwrap_or_default(), &events)
 }

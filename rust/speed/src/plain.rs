@@ -157,7 +157,7 @@ impl Device {
             self.sda_low = (self.sda_low + 1).min(SDA_HUNG);
         }
         if before == BOTH && !self.busy {
-            self.idle = (self.idle + 1).min(101);
+            self.idle = (self.idle + 1).min(self.kind.idle_limit());
         }
         if self.hold > 0 {
             self.hold -= 1;
@@ -194,7 +194,8 @@ impl Device {
     }
 
     fn reset(&mut self, hold: u8) -> u8 {
-        *self = Device { outside: self.outside, int_in: self.int_in, hold, ..Device::fresh() };
+        let fresh = Device::fresh(self.kind);
+        *self = Device { outside: self.outside, int_in: self.int_in, hold, ..fresh };
         0
     }
 

@@ -1,36 +1,45 @@
 //! Whole traces for the plain stepper.
 
-use crate::registers::Device;
+use crate::registers::{Device, Kind};
 
 const MOST_EVENTS: usize = 4096;
 
-/// Runs a trace and writes four answer bytes an event. Gives address and count, or the number of
-/// the refusal, which leaves the answers as they are.
-pub fn run_trace(trace: &[u8], answers: &mut [u8]) -> Result<(u8, usize), u8> {
-    let (address, events) = read(trace, answers.len())?;
-    let mut device = Device::fresh();
+/// Runs a trace and writes four answer bytes an event. Gives address, count and kind of part, or the
+/// number of the refusal, which leaves the answers as they are.
+pub fn run_trace(trace: &[u8], answers: &mut [u8]) -> Result<(u8, usize, Kind), u8> {
+    let (address, events, kind) = read(trace, answers.len())?;
+    let mut device = Device::fresh(kind);
     for (event, answer) in events.chunks_exact(4).zip(answers.chunks_exact_mut(4)) {
         answer.copy_from_slice(&device.step([event[0], event[1], event[2], event[3]]));
     }
-    Ok((address, events.len() / 4))
+    Ok((address, events.len() / 4, kind))
 }
 
-/// The address and the bytes of the events.
-fn read(trace: &[u8], room: usize) -> Result<(u8, &[u8]), u8> {
+/// The address, the bytes of the events and the kind of part.
+fn read(trace: &[u8], room: usize) -> Result<(u8, &[u8], Kind), u8> {
     let (&pins, rest) = match trace {
         [] => return Err(5),
         [4, rest @ ..] => rest.split_first_chunk::<4>().ok_or(5)?,
         _ => return Err(10),
     };
     let address = address_of(pins).ok_or(8)?;
-    let (&count, events) = rest.split_first_chunk::<2>().ok_or(5)?;
+    let (&count, rest) = rest.split_first_chunk::<2>().ok_or(5)?;
     let n = usize::from(u16::from_le_bytes(count));
-    match () {
-        _ if n > MOST_EVENTS => Err(6),
-        _ if events.len() < 4 * n => Err(5),
-        _ if events.len() > 4 * n => Err(7),
-        _ if room < 4 * n => Err(9),
-        _ => Ok((address, events)),
+    if n > MOST_EVENTS {
+        return Err(6);
+    }
+    let (events, section) = rest.split_at_checked(4 * n).ok_or(5)?;
+    let kind = match section {
+        [] | [1] => return Err(5),
+        [1, 0] => Kind::Pca9641,
+        [1, 1] => Kind::Tpt29641,
+        [1, 0 | 1, ..] => return Err(7),
+        [1, ..] => return Err(3),
+        _ => return Err(10),
+    };
+    match room < 4 * n {
+        true => Err(9),
+        false => Ok((address, events, kind)),
     }
 }
 

@@ -19,6 +19,31 @@ pub const BOTH: u8 = SCL | SDA;
 pub const SCL_HUNG: u16 = 500;
 pub const SDA_HUNG: u16 = 501;
 
+/// The kind of part: the idle count's end and the rule of the write pointer go by it.
+#[derive(Clone, Copy, Debug, PartialEq, Eq)]
+pub enum Kind {
+    Pca9641,
+    Tpt29641,
+}
+
+impl Kind {
+    /// The idle count at which the idle timer ends a grant, and at which it stops.
+    pub fn idle_limit(self) -> u8 {
+        match self {
+            Kind::Pca9641 => 101,
+            Kind::Tpt29641 => 151,
+        }
+    }
+
+    /// What a pointer past 7 is after a written byte.
+    fn past_7(self) -> u8 {
+        match self {
+            Kind::Pca9641 => 7,
+            Kind::Tpt29641 => 0,
+        }
+    }
+}
+
 #[derive(Clone, Copy, PartialEq, Eq)]
 pub enum Master {
     Zero,
@@ -71,6 +96,7 @@ pub struct Side {
 }
 
 pub struct Device {
+    pub kind: Kind,
     pub sides: [Side; 2],
     pub outside: u8,
     pub int_in: bool,
@@ -101,8 +127,9 @@ const FRESH_SIDE: Side = Side {
 };
 
 impl Device {
-    pub fn fresh() -> Device {
+    pub fn fresh(kind: Kind) -> Device {
         Device {
+            kind,
             sides: [FRESH_SIDE; 2],
             outside: BOTH,
             int_in: true,
@@ -161,9 +188,10 @@ impl Device {
             5 => self.side(m).int_msk = value & 0x7F,
             _ => self.write_mail(m, pointer, value),
         }
+        let past_7 = self.kind.past_7();
         let side = self.side(m);
-        if side.auto_increment && side.pointer < 7 {
-            side.pointer += 1;
+        if side.auto_increment {
+            side.pointer = if pointer == 7 { past_7 } else { pointer + 1 };
         }
         pointer != 0
     }

@@ -4,7 +4,7 @@ use std::collections::{HashMap, HashSet};
 use std::io::{self, IsTerminal, Write};
 use std::path::{Path, PathBuf};
 
-use gunwaleish::{Refusal, MOST_TRACE};
+use gunwaleish::{convert_trace, Refusal, MOST_TRACE};
 
 use crate::arguments::Arguments;
 use crate::failure::Failure;
@@ -146,21 +146,35 @@ fn wrong<T>(what: &str) -> Result<T, Failure> {
 
 /// Why a trace is refused: number, words, and the byte where it was seen.
 pub fn refused(input: &Input, refusal: Refusal) -> String {
-    format!("{}: {refusal} (seen at byte {})", input.name, seen_at(&input.bytes, refusal))
+    let place = seen_at(&input.bytes, refusal);
+    // What can be converted is an old trace.
+    let old = match convert_trace(&input.bytes) {
+        Ok(_) => "; it is an old trace, which names no part: gunwaleish convert gives it PCA9641",
+        Err(_) => "",
+    };
+    format!("{}: {refusal} (seen at byte {place}{old})", input.name)
 }
 
 /// The place of the byte that is wrong, from 0; for bytes that are missing, that of the first one.
-/// The library says what is wrong, and document 01's layout where.
+/// The library says what is wrong, and the layout of a trace where.
 pub fn seen_at(trace: &[u8], refusal: Refusal) -> usize {
-    let count = |at: usize| trace.get(at).map_or(0, |&byte| usize::from(byte));
+    let section = end_of_events(trace);
     match refusal {
-        Refusal::FirstCountNotFour => 0,
+        Refusal::WrongCount if trace.first() == Some(&4) => section,
+        Refusal::WrongCount => 0,
+        Refusal::NoSuchPart => section + 1,
         Refusal::NoSuchStrapping => {
             let mut pins = trace.iter().skip(1).take(4);
             1 + pins.position(|&code| code > 3).unwrap_or(0)
         }
         Refusal::TooManyEvents => 5,
-        Refusal::BytesAfterEnd => 7 + 4 * (count(5) + 256 * count(6)),
+        Refusal::BytesAfterEnd => section + 2,
         _ => trace.len(),
     }
+}
+
+/// The place after the events, where an old trace ends and a new one has its part.
+pub fn end_of_events(trace: &[u8]) -> usize {
+    let count = |at: usize| trace.get(at).map_or(0, |&byte| usize::from(byte));
+    7 + 4 * (count(5) + 256 * count(6))
 }

@@ -45,7 +45,7 @@ fn run(arguments: Vec<OsString>) -> Result<(), Failure> {
 /// What the tool says of itself.
 pub fn overview() -> String {
     let mut text = String::from(
-        "gunwaleish: traces of a PCA9641 bus arbiter, answered by the proved library\n\n\
+        "gunwaleish: traces of a PCA9641 or TPT29641 bus arbiter, answered by the proved library\n\n\
          Usage: gunwaleish COMMAND [FILE...] [-o OUT]\n\nCommands:\n",
     );
     for command in COMMANDS {

@@ -3,6 +3,7 @@
 //! | line | event |
 //! |---|---|
 //! | `pins 0 0 0 1` | the codes of AD3 to AD0; once, before the first event |
+//! | `part PCA9641` | the part, or `part TPT29641`; once, before the first event |
 //! | `command 0 03` | COMMAND of controller 0 with 03h |
 //! | `write 0 32` | WRITE of 32h |
 //! | `read 0`, `stop 0` | READ, STOP |
@@ -14,18 +15,20 @@
 //! | `general 0 06` | GENERAL CALL of controller 0 with 06h |
 //! | `raw FF 00 00 00` | four bytes as they are |
 //!
-//! Bytes are in hex, the count of ticks is in decimal, and what stands after `#` is a comment.
+//! Bytes are in hex, the count of ticks is in decimal, and what stands after `#` is a comment. Pins and
+//! part have no default.
 
 use std::borrow::Cow;
 
-use gunwaleish::{Event, Master, Pins, MOST_EVENTS};
+use gunwaleish::{Event, Master, Part, Pins, MOST_EVENTS};
 
 /// A script that was read.
-#[derive(Clone, Debug, Default, PartialEq, Eq)]
+#[derive(Clone, Debug, PartialEq, Eq)]
 pub struct Script {
     pub pins: Pins,
     /// Where the pins are.
     pub pins_line: usize,
+    pub part: Part,
     /// The events, and of a script with too many only one more than a trace may have.
     pub events: Vec<Event>,
     /// Where the first event is that is too many.
@@ -51,53 +54,82 @@ impl std::fmt::Display for Unread {
 }
 
 const AN_EVENT: &str =
-    "command, write, read, stop, pair, lines, tick, pulse, reset, general, raw or pins";
+    "command, write, read, stop, pair, lines, tick, pulse, reset, general, raw, pins or part";
 const A_BYTE: &str = "a byte in hex, 00 to FF";
 const A_CONTROLLER: &str = "a controller, 0 or 1";
 const A_LEVEL: &str = "a level, 0 or 1";
+const A_PART: &str = "the name of a part, PCA9641 or TPT29641";
 const A_COUNT: &str = "a count of ticks in decimal, 1 to 4096, or the line's end";
 const THE_END: &str = "the line's end";
 const PINS_FIRST: &str = "pins before the first event";
 const NO_PINS: &str = "pins, which the script has nowhere";
 const PINS_ONCE: &str = "an event, since the pins are there already";
+const PART_FIRST: &str = "part PCA9641 or part TPT29641 before the first event: a script names its \
+                          part, since a kind left out and read as a default is how the incident came \
+                          about";
+const NO_PART: &str = "part PCA9641 or part TPT29641, which the script has nowhere: a script names its \
+                       part, since a kind left out and read as a default is how the incident came about";
+const PART_ONCE: &str = "an event, since the part is there already";
 
 pub fn read_script(text: &[u8]) -> Result<Script, Unread> {
     let text = text.strip_prefix(b"\xEF\xBB\xBF").unwrap_or(text);
-    let mut script = Script::default();
+    let mut reading = Reading::default();
     let mut last = 0;
     for (place, line) in text.split(|&byte| byte == b'\n').enumerate() {
         let code = line.split(|&byte| byte == b'#').next().unwrap_or_default();
         let code = String::from_utf8_lossy(code);
         let mut words = Words { line: place + 1, words: code.split_whitespace() };
-        script.take_line(&mut words)?;
+        reading.take_line(&mut words)?;
         last = place + 1;
     }
-    match script.pins_line {
-        0 => Err(Unread { line: last, word: String::new(), expected: NO_PINS }),
-        _ => Ok(script),
-    }
+    let nowhere = |expected| Unread { line: last, word: String::new(), expected };
+    let (pins, pins_line) = reading.pins.ok_or(nowhere(NO_PINS))?;
+    let part = reading.part.ok_or(nowhere(NO_PART))?;
+    let Reading { events, overflow_line, .. } = reading;
+    Ok(Script { pins, pins_line, part, events, overflow_line })
 }
 
-impl Script {
+/// What was read so far: the pins with their line, the part, and what a script has besides.
+#[derive(Default)]
+struct Reading {
+    pins: Option<(Pins, usize)>,
+    part: Option<Part>,
+    events: Vec<Event>,
+    overflow_line: Option<usize>,
+}
+
+impl Reading {
     fn take_line(&mut self, words: &mut Words) -> Result<(), Unread> {
         let Some(word) = words.words.next() else {
             return Ok(());
         };
         let name = word.to_ascii_lowercase();
-        if name == "pins" {
-            if self.pins_line != 0 {
-                return Err(words.unread(word, PINS_ONCE));
+        match name.as_str() {
+            "pins" if self.pins.is_some() => Err(words.unread(word, PINS_ONCE)),
+            "pins" => {
+                let codes = [words.byte()?, words.byte()?, words.byte()?, words.byte()?];
+                self.pins = Some((codes.into(), words.line));
+                words.end()
             }
-            self.pins = [words.byte()?, words.byte()?, words.byte()?, words.byte()?].into();
-            self.pins_line = words.line;
-            return words.end();
+            "part" if self.part.is_some() => Err(words.unread(word, PART_ONCE)),
+            "part" => {
+                self.part = Some(words.next(A_PART, Part::named)?);
+                words.end()
+            }
+            _ => self.take_event(&name, word, words),
         }
-        let (event, times) = match name.as_str() {
+    }
+
+    fn take_event(&mut self, name: &str, word: &str, words: &mut Words) -> Result<(), Unread> {
+        let (event, times) = match name {
             "tick" => (Event::Tick, words.ticks()?),
-            _ => (words.event(&name, word)?, 1),
+            _ => (words.event(name, word)?, 1),
         };
-        if self.pins_line == 0 {
+        if self.pins.is_none() {
             return Err(words.unread(word, PINS_FIRST));
+        }
+        if self.part.is_none() {
+            return Err(words.unread(word, PART_FIRST));
         }
         words.end()?;
         let room = MOST_EVENTS + 1 - self.events.len();
@@ -197,9 +229,9 @@ fn shown(word: &str) -> String {
     text.escape_debug().to_string()
 }
 
-/// The script of these pins and events. Reading it gives the same bytes again.
-pub fn write_script(pins: Pins, events: &[Event]) -> String {
-    let mut text = format!("pins {pins}\n");
+/// The script of these pins, this part and these events. Reading it gives the same bytes again.
+pub fn write_script(pins: Pins, part: Part, events: &[Event]) -> String {
+    let mut text = format!("pins {pins}\npart {part}\n");
     let both_ticks = |a: &Event, b: &Event| *a == Event::Tick && *b == Event::Tick;
     for run in events.chunk_by(both_ticks) {
         text.push_str(&line_of(run[0], run.len()));

@@ -1,8 +1,9 @@
 //! Events, answers and changes in words.
 
-use gunwaleish::{Event, Master, Outcome};
+use gunwaleish::{Event, Master, Outcome, Part};
 
-use crate::story::{Change, GrantEnd, InitialisationEnd, Step, Written};
+use crate::story::{idle_limit, write_pointer_rolls};
+use crate::story::{Change, GrantEnd, InitialisationEnd, Step};
 
 /// Registers by their pointers.
 const REGISTERS: [&str; 8] =
@@ -153,8 +154,8 @@ pub fn change(change: &Change) -> String {
         Change::GrantEnded(m, GrantEnd::Reset) => {
             format!("the reset takes the bus from controller {m}")
         }
-        Change::Granted { master, rt, idle_timer } => {
-            format!("controller {master} is granted the bus with {}", holds(rt, idle_timer))
+        Change::Granted { master, rt, idle_limit } => {
+            format!("controller {master} is granted the bus with {}", holds(rt, idle_limit))
         }
         Change::BeginsToWait(m) => format!("controller {m} asks for the bus and waits"),
         Change::GivesUp(m) => format!("controller {m} asks no more"),
@@ -181,11 +182,26 @@ pub fn change(change: &Change) -> String {
     }
 }
 
-/// What a grant with this RT does.
-fn holds(rt: u8, idle_timer: bool) -> String {
-    let how = match (rt, idle_timer) {
-        (0, false) => "until let go".to_string(),
-        (0, true) => "until let go, or until the idle timer ends it".to_string(),
+/// What is to be known of a part: the two things in which it differs from the other.
+pub fn part(part: Part) -> String {
+    let pointer = match write_pointer_rolls(part) {
+        true => "rolls from 7 to 0",
+        false => "stays at 7",
+    };
+    format!(
+        "On a {part} the idle timer, if it is on, ends a grant with RT 00h at {} idle ticks, and a \
+         counting write pointer {pointer}.",
+        idle_limit(part)
+    )
+}
+
+/// What a grant with this RT does, and with this limit of the idle timer, if that is on.
+fn holds(rt: u8, idle_limit: Option<usize>) -> String {
+    let how = match (rt, idle_limit) {
+        (0, None) => "until let go".to_string(),
+        (0, Some(limit)) => {
+            format!("until let go, or until the idle timer ends it at {limit} idle ticks")
+        }
         (rt, _) => format!("for {}, then until the bus is idle", ticks(rt.into())),
     };
     format!("RT {rt:02X}h, which holds {how}")
@@ -198,12 +214,13 @@ pub fn why_it_waits(step: &Step, master: Master, granted_at: usize) -> String {
     let partner = master.partner();
     match step.scene.owner {
         Some(owner) => {
-            let Written { rt, idle_timer, .. } = step.after[owner as usize];
-            let timer = match (rt, idle_timer) {
-                (0, false) => ", and its idle timer is off",
+            let written = &step.after[owner as usize];
+            let (rt, idle_limit) = (written.rt, written.idle_limit());
+            let timer = match (rt, idle_limit) {
+                (0, None) => ", and its idle timer is off",
                 _ => "",
             };
-            let holds = holds(rt, idle_timer);
+            let holds = holds(rt, idle_limit);
             format!("controller {owner} was granted it at event {granted_at} with {holds}{timer}")
         }
         None if port_open(master) => {

@@ -3,7 +3,7 @@
 use std::fs;
 use std::path::{Path, PathBuf};
 
-use gunwaleish::{import_capture, run, Event, Master, Pins};
+use gunwaleish::{import_capture, run, Event, Master, Part, Pins};
 use gunwaleish_tool::commands::import::{import, Device};
 use gunwaleish_tool::cut::{cuts, Cut};
 use gunwaleish_tool::files::Input;
@@ -16,7 +16,8 @@ use model::rng::Rng;
 #[path = "../examples/box14_capture.rs"]
 mod box14_capture;
 
-const BOX_14: Device = Device { address: 0x71, pins: Pins { ad3: 0, ad2: 0, ad1: 0, ad0: 1 } };
+const BOX_14: Device =
+    Device { address: 0x71, pins: Pins { ad3: 0, ad2: 0, ad1: 0, ad0: 1 }, part: Part::Pca9641 };
 
 /// A file of the samples.
 fn file(name: &str) -> Vec<u8> {

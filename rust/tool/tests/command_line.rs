@@ -69,10 +69,33 @@ fn refused_is_1_with_number_words_and_place() {
     assert_eq!((code(&explained), explained.stdout.len()), (1, 0));
     let expected =
         "gunwaleish: traces/refused-cut.trace: refusal 5: cut: bytes are missing at the \
-                    end (seen at byte 22)\n";
+                    end (seen at byte 24)\n";
     assert_eq!(said(&explained), expected);
     let listed = run(&["list", "traces/refused-strap.trace"]);
     assert_eq!((code(&listed), listed.stdout.as_slice()), (1, &b"R8\n"[..]));
+}
+
+/// Files from before traces named their part: refused, and converted into a folder.
+#[test]
+fn old_traces_are_converted() {
+    let folder = Folder::new("old");
+    fs::create_dir(folder.path("new")).unwrap();
+    let m1 = fs::read(root().join("traces/m1.trace")).unwrap();
+    let (old, new) = (folder.path("old.trace"), folder.path("new.trace"));
+    fs::write(&old, &m1[..23]).unwrap();
+    fs::write(&new, &m1).unwrap();
+    let listed = run(&["list", &old]);
+    assert_eq!((code(&listed), listed.stdout.as_slice()), (1, &b"R5\n"[..]));
+    assert!(said(&listed).contains("gunwaleish convert gives it PCA9641"), "{}", said(&listed));
+    let converted = run(&["convert", &old, &new, "-o", &folder.path("new")]);
+    assert_eq!(code(&converted), 1);
+    let expected = format!(
+        "gunwaleish: {new}: refusal 7: there are bytes after the trace's end (seen at byte 23; it \
+         is a new trace, and names its part: PCA9641)\n"
+    );
+    assert_eq!(said(&converted), expected);
+    assert_eq!(fs::read(folder.path("new/old.trace")).unwrap(), m1);
+    assert!(!Path::new(&folder.path("new/new.trace")).exists());
 }
 
 #[test]
@@ -99,8 +122,12 @@ fn wrong_use_is_2() {
 /// The device that a capture is read for is named once, and in one way.
 #[test]
 fn a_capture_needs_its_device() {
-    let cases: [(&[&str], &str); 9] = [
+    let cases: [(&[&str], &str); 13] = [
         (&[], "import needs the device"),
+        (&["--address", "71"], "import needs the part: --part PCA9641 or --part TPT29641; a kind"),
+        (&["--address", "71", "--part"], "--part needs 1 after it, and has 0"),
+        (&["--address", "71", "--part", "0"], "'0' is no part, expected --part PCA9641 or --part"),
+        (&["--part", "PCA9641"], "import needs the device"),
         (&["--address"], "--address needs 1 after it, and has 0"),
         (&["--pins", "0", "0", "0"], "--pins needs 4 after it, and has 3"),
         (&["--address", "7G"], "'7G' is no byte in hex"),
@@ -115,16 +142,20 @@ fn a_capture_needs_its_device() {
         assert_eq!((code(&output), output.stdout.len()), (2, 0), "{options:?}");
         assert!(said(&output).contains(expected), "{options:?}: {}", said(&output));
     }
-    let trace = fs::read(root().join("traces/box14.trace")).unwrap();
+    let mut trace = fs::read(root().join("traces/box14.trace")).unwrap();
     let named: [&[&str]; 4] = [
         &["--address", "71"],
         &["--address", "71h"],
         &["--address", "0x71"],
         &["--pins", "0", "0", "0", "1"],
     ];
-    for options in named {
-        let output = run(&[&["import"], options, &["traces/box14.capture"]].concat());
-        assert_eq!((code(&output), output.stdout.as_slice()), (0, trace.as_slice()));
+    for (part, number) in [("PCA9641", 0), ("pca9641", 0), ("TPT29641", 1)] {
+        *trace.last_mut().unwrap() = number;
+        for options in named {
+            let rest = ["--part", part, "traces/box14.capture"];
+            let output = run(&[&["import"], options, &rest].concat());
+            assert_eq!((code(&output), output.stdout.as_slice()), (0, trace.as_slice()));
+        }
     }
 }
 
@@ -137,14 +168,16 @@ fn captures_go_where_they_should() {
     let (whole, cut) = (folder.path("whole.capture"), folder.path("cut.capture"));
     fs::write(&whole, &capture).unwrap();
     fs::write(&cut, &capture[..150]).unwrap();
-    let both = run(&["import", &whole, &cut, "--address", "71", "-o", to]);
+    let both = run(&["import", &whole, &cut, "--address", "71", "--part", "PCA9641", "-o", to]);
     assert_eq!(code(&both), 1);
     let expected = format!(
         "gunwaleish: {cut}: refusal 12: a START or STOP inside a byte, or the capture ends inside one \
          (bus 0: the capture ends inside a byte)\n"
     );
     assert_eq!(said(&both), expected);
-    assert_eq!(code(&run(&["import", &whole, "--script", "--address", "71", "-o", to])), 0);
+    let device = ["--address", "71", "--part", "PCA9641"];
+    let told = run(&[&["import", &whole, "--script"], &device[..], &["-o", to]].concat());
+    assert_eq!(code(&told), 0);
     assert_eq!(folder.files(), ["cut.capture", "whole.capture", "whole.script", "whole.trace"]);
     let script = fs::read(root().join("traces/box14.script")).unwrap();
     assert_eq!(fs::read(folder.path("whole.script")).unwrap(), script);
@@ -201,7 +234,7 @@ fn devices_and_links_stay_what_they_are() {
 fn nothing_is_written_of_what_is_refused() {
     let folder = Folder::new("refused");
     let (script, out) = (folder.path("a.script"), folder.path("a.trace"));
-    fs::write(&script, "pins 0 0 0 0\ntick\nwirte 0 01\n").unwrap();
+    fs::write(&script, "pins 0 0 0 0\npart PCA9641\nwirte 0 01\n").unwrap();
     fs::write(&out, "old").unwrap();
     let composed = run(&["compose", &script, "-o", &out]);
     assert_eq!(code(&composed), 1);

@@ -4,12 +4,12 @@ use std::fs;
 use std::io::Write;
 use std::process::{Command, Stdio};
 
-use gunwaleish_tool::commands::{decompose, explain, list, picture, wave};
+use gunwaleish_tool::commands::{convert, decompose, explain, list, picture, wave};
 use gunwaleish_tool::each::Made;
 use gunwaleish_tool::files::Input;
 use model::damage::{damage, Damage, ALL_DAMAGES};
 use model::rng::Rng;
-use model::traces::{trace, trace_of};
+use model::traces::{event_list, old_trace_of, trace, trace_of};
 
 const MAKERS: [fn(&Input) -> Made; 5] =
     [list::list, explain::explain, decompose::decompose, wave::wave, picture::picture];
@@ -54,12 +54,50 @@ fn damaged_traces_are_refused_by_number_and_place() {
 
 fn seen_at(said: &str) -> usize {
     let place = said.rsplit("seen at byte ").next().unwrap();
-    place.trim_end_matches(')').parse().unwrap()
+    let digits = place.find(|letter: char| !letter.is_ascii_digit()).unwrap();
+    place[..digits].parse().unwrap()
+}
+
+/// An old trace is refused with what to do about it, and converted; nothing else is.
+#[test]
+fn old_traces_are_told_and_converted() {
+    let mut rng = Rng::new(105);
+    let hint = "; it is an old trace, which names no part: gunwaleish convert gives it PCA9641)";
+    let convert = |bytes: &[u8]| {
+        convert::convert(&Input { name: "old.trace".to_string(), bytes: bytes.to_vec() })
+    };
+    for seed in 0..60 {
+        let events = event_list(seed, seed as usize);
+        let old = old_trace_of([0, 0, 0, 1], &events);
+        let converted = convert(&old);
+        assert_eq!(converted.refused, None);
+        assert_eq!(converted.output, Some(trace_of([0, 0, 0, 1], &events)));
+        for made in make_all(&old) {
+            let said = made.refused.unwrap();
+            assert!(said.contains("refusal 5: ") && said.ends_with(hint), "{said}");
+            assert_eq!(seen_at(&said), old.len());
+        }
+        let new = trace(seed, 1 + seed as usize);
+        let made = convert(&new);
+        assert_eq!(made.output, None);
+        let said = made.refused.unwrap();
+        assert!(said.contains("refusal 7: ") && said.contains("it is a new trace"), "{said}");
+        assert_eq!(seen_at(&said), new.len() - 2);
+        for kind in ALL_DAMAGES {
+            let bad = damage(&mut rng, &new, kind).trace;
+            let (made, expected) = (convert(&bad), model::converter::converted(&bad));
+            assert_eq!(made.output, expected.clone().ok());
+            let Err(number) = expected else { continue };
+            let said = made.refused.unwrap();
+            assert!(said.starts_with(&format!("old.trace: refusal {number}: ")), "{said}");
+            assert!(seen_at(&said) <= bad.len(), "{said}");
+        }
+    }
 }
 
 #[test]
 fn the_place_of_each_refusal() {
-    let cases: [(&[u8], usize); 9] = [
+    let cases: [(&[u8], usize); 14] = [
         (&[], 0),
         (&[3], 0),
         (&[4, 0, 0], 3),
@@ -69,6 +107,11 @@ fn the_place_of_each_refusal() {
         (&[4, 0, 0, 0, 0, 1, 16], 5),
         (&[4, 0, 0, 0, 0, 1, 0, 6, 0], 9),
         (&[4, 0, 0, 0, 0, 1, 0, 6, 0, 0, 0, 9], 11),
+        (&[4, 0, 0, 0, 0, 0, 0, 1], 8),
+        (&[4, 0, 0, 0, 0, 0, 0, 1, 2], 8),
+        (&[4, 0, 0, 0, 0, 1, 0, 6, 0, 0, 0, 1, 255, 9], 12),
+        (&[4, 0, 0, 0, 0, 0, 0, 1, 0, 9, 9], 9),
+        (&[4, 0, 0, 0, 0, 1, 0, 6, 0, 0, 0, 1, 1, 9], 13),
     ];
     for (bytes, place) in cases {
         let said = make_all(bytes)[0].refused.clone().unwrap();

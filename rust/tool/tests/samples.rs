@@ -45,8 +45,9 @@ fn each_script_gives_its_trace() {
 #[test]
 fn refused_samples_come_out_of_others() {
     let m1 = input("traces/m1.trace").bytes;
-    assert_eq!(input("traces/refused-cut.trace").bytes, m1[..22]);
-    let script = Input { name: String::new(), bytes: b"pins 0 0 0 0\ntick\n".to_vec() };
+    assert_eq!(input("traces/refused-cut.trace").bytes, m1[..24]);
+    let script =
+        Input { name: String::new(), bytes: b"pins 0 0 0 0\npart PCA9641\ntick\n".to_vec() };
     let mut strap = output(compose::compose(&script));
     strap[1] = 1;
     assert_eq!(input("traces/refused-strap.trace").bytes, strap);
@@ -81,10 +82,6 @@ fn composing_what_was_decomposed_gives_the_sample_again() {
 /// Box 14 in words: never granted with RT 00h, and granted at the 50th tick with RT 50.
 #[test]
 fn box_14_is_told_in_words() {
-    let told = |name| {
-        String::from_utf8(output(explain::explain(&input(&format!("traces/{name}.trace")))))
-            .unwrap()
-    };
     let empty = told("box14-rt00");
     let last = empty.lines().last().unwrap();
     assert!(last.starts_with("controller 1 waited 300 ticks and was never granted"), "{last}");
@@ -96,6 +93,44 @@ fn box_14_is_told_in_words() {
     );
     assert!(filled.contains("controller 0 loses the bus; controller 1 is granted the bus"));
     assert!(!filled.contains("never granted"));
+}
+
+/// The words of a sample's run.
+fn told(name: &str) -> String {
+    let made = explain::explain(&input(&format!("traces/{name}.trace")));
+    String::from_utf8(output(made)).unwrap()
+}
+
+/// The same events on either part: the samples differ in the last byte, and the parts as they should.
+#[test]
+fn the_second_source_differs_in_two_things() {
+    for name in ["box14-idle", "burst"] {
+        let first = input(&format!("traces/{name}.trace")).bytes;
+        let second = input(&format!("traces/{name}-tpt29641.trace")).bytes;
+        let last = first.len() - 1;
+        assert_eq!((&first[..last], first[last], second[last]), (&second[..last], 0, 1));
+    }
+    for (name, part, limit) in
+        [("box14-idle", "PCA9641", 101), ("box14-idle-tpt29641", "TPT29641", 151)]
+    {
+        let told = told(name);
+        assert!(told.contains(&format!(": {part} at address 71h, pins 0 0 0 1, 320 events\n")));
+        assert!(told.contains(&format!("ends a grant with RT 00h at {limit} idle ticks, and a")));
+        assert!(told.contains(&format!("until the idle timer ends it at {limit} idle ticks;")));
+        let (wait, event) = (limit - 1, limit + 14);
+        let longest = format!(
+            "longest wait {wait} ticks from event 13, then granted at event {event}, tick {limit}"
+        );
+        assert!(told.contains(&longest), "{told}");
+    }
+    let (stays, rolls) = (told("burst"), told("burst-tpt29641"));
+    assert!(stays.contains(" counting write pointer stays at 7.\n"));
+    assert!(
+        stays.contains("0 WRITE 01h to mailbox high ") && stays.contains("READ 00h from CONTR")
+    );
+    assert!(rolls.contains(" counting write pointer rolls from 7 to 0.\n"));
+    assert!(rolls.contains("0 WRITE 00h to ID                not acknowledged "));
+    assert!(rolls.contains("0 WRITE 01h to CONTR ") && rolls.contains("READ 03h from CONTR"));
 }
 
 #[test]

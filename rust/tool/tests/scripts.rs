@@ -1,6 +1,6 @@
 //! Scripts: read and written again, and told apart from what is no script.
 
-use gunwaleish::{run, write_trace, Event};
+use gunwaleish::{run, write_trace, Event, Part};
 use gunwaleish_tool::commands::compose::compose;
 use gunwaleish_tool::commands::decompose::decompose;
 use gunwaleish_tool::files::Input;
@@ -40,24 +40,27 @@ fn any_bytes_are_composed_again() {
     for _ in 0..200 {
         let mut event = || [rng.below(12) as u8, rng.byte() & 3, rng.byte(), rng.byte() & 1];
         let events: Vec<[u8; 4]> = (0..50).map(|_| event()).collect();
-        same_again(&write_trace([0; 4], &events).unwrap());
+        let part = rng.pick(&Part::BOTH);
+        same_again(&write_trace([0; 4], part, &events).unwrap());
     }
 }
 
 #[test]
 fn each_kind_has_its_line() {
-    let text = "pins 0 0 0 1\ncommand 0 03\nwrite 1 32\nread 0\nstop 1\npair 01 81\nlines 1 0 1\n\
+    let text = "pins 0 0 0 1\npart TPT29641\ncommand 0 03\nwrite 1 32\nread 0\nstop 1\npair 01 81\nlines 1 0 1\n\
                 tick\nreset\ntick 50\npulse 0\ngeneral 1 06\nraw FF 00 00 00\n";
     let trace = composed(text).unwrap();
     let run = run(&trace).unwrap();
-    assert_eq!(write_script(run.pins, &run.events), text);
+    assert_eq!(run.part, Part::Tpt29641);
+    assert_eq!(write_script(run.pins, run.part, &run.events), text);
     assert_eq!(run.events.iter().filter(|&&event| event == Event::Tick).count(), 51);
 }
 
 #[test]
 fn spaces_comments_and_capitals_do_not_matter() {
-    let plain = composed("pins 0 0 0 0\nwrite 0 0A\ntick 2\n").unwrap();
-    let other = "\u{FEFF}# head\r\n\r\n  PINS 0 0\t0 00 # straps\r\nWrite 0 a\r\n\ttick 2#x\r\n";
+    let plain = composed("pins 0 0 0 0\npart TPT29641\nwrite 0 0A\ntick 2\n").unwrap();
+    let other = "\u{FEFF}# head\r\n\r\nPart  tpt29641# part\r\n  PINS 0 0\t0 00 # straps\r\n\
+                 Write 0 a\r\n\ttick 2#x\r\n";
     assert_eq!(composed(other).unwrap(), plain);
 }
 
@@ -76,14 +79,43 @@ fn what_cannot_be_read_is_told() {
         ("pins 0 0 0 0\n\nlines 1 2 1", "line 3: '2', expected a level, 0 or 1"),
         ("pins 0 0 0 0\ntick 0", "line 2: '0', expected a count of ticks"),
         ("pins 0 0 0 0\ntick 4097", "line 2: '4097', expected a count of ticks"),
-        ("pins 0 0 0 0\nreset now", "line 2: 'now', expected the line's end"),
+        ("pins 0 0 0 0\npart PCA9641\nreset now", "line 3: 'now', expected the line's end"),
         ("pins 0 0 0 0\nraw 1 2 3", "line 2: the line ends, expected a byte"),
-        ("pins 1 0 0 0\ntick", "a.script, line 1: refusal 8: "),
-        ("pins 0 0 0 0\ntick 4096\n\ntick", "a.script, line 4: refusal 6: "),
+        ("part PCA9641", "line 1: the line ends, expected pins, which the script has nowhere"),
+        (
+            "pins 0 0 0 0\npart",
+            "line 2: the line ends, expected the name of a part, PCA9641 or TPT",
+        ),
+        ("pins 0 0 0 0\npart 0", "line 2: '0', expected the name of a part"),
+        ("pins 0 0 0 0\npart PCA9541", "line 2: 'PCA9541', expected the name of a part"),
+        ("part PCA9641\npart PCA9641", "line 2: 'part', expected an event, since the part is"),
+        ("part PCA9641 TPT29641", "line 1: 'TPT29641', expected the line's end"),
+        ("part PCA9641\npins 1 0 0 0\ntick", "a.script, line 2: refusal 8: "),
+        ("pins 0 0 0 0\npart PCA9641\ntick 4096\n\ntick", "a.script, line 5: refusal 6: "),
     ];
     for (text, expected) in cases {
         let said = composed(text).unwrap_err();
         assert!(said.contains(expected), "{text:?} gives: {said}");
+    }
+}
+
+/// A script without its part is refused in plain words, and nothing is taken for it.
+#[test]
+fn a_script_names_its_part() {
+    let why = "a script names its part, since a kind left out and read as a default is how the \
+               incident came about";
+    let cases = [
+        ("pins 0 0 0 0\n", "line 2: the line ends, expected part PCA9641 or part TPT29641, which"),
+        ("pins 0 0 0 0\ntick", "line 2: 'tick', expected part PCA9641 or part TPT29641 before the"),
+        ("pins 0 0 0 0\ntick\npart PCA9641", "line 2: 'tick', expected part PCA9641 or part"),
+    ];
+    for (text, expected) in cases {
+        let said = composed(text).unwrap_err();
+        assert!(said.contains(expected) && said.ends_with(why), "{text:?} gives: {said}");
+    }
+    for part in Part::BOTH {
+        let trace = composed(&format!("pins 0 0 0 0\npart {part}\ntick\n")).unwrap();
+        assert_eq!(trace[trace.len() - 2..], [1, part.number()]);
     }
 }
 
@@ -95,7 +127,7 @@ fn damaged_scripts_are_told() {
     let mut refused = 0;
     for seed in 0..2000 {
         let good = run(&trace(seed, 20)).unwrap();
-        let mut text = write_script(good.pins, &good.events).into_bytes();
+        let mut text = write_script(good.pins, good.part, &good.events).into_bytes();
         for _ in 0..rng.between(1, 4) {
             let place = rng.below(text.len() as u64) as usize;
             let byte = rng.pick(b"0123456789ABCDEFGabcxyz #\n\t\r\0\xFF\x80-+");
@@ -118,8 +150,8 @@ fn damaged_scripts_are_told() {
 /// Millions of ticks take no more room than a trace may have.
 #[test]
 fn too_many_ticks_are_not_kept() {
-    let text = "pins 0 0 0 0\n".to_string() + &"tick 4096\n".repeat(1000);
+    let text = "pins 0 0 0 0\npart PCA9641\n".to_string() + &"tick 4096\n".repeat(1000);
     let script = read_script(text.as_bytes()).unwrap();
-    assert_eq!((script.events.len(), script.overflow_line), (4097, Some(3)));
+    assert_eq!((script.events.len(), script.overflow_line), (4097, Some(4)));
     assert!(composed(&text).unwrap_err().contains("refusal 6"));
 }

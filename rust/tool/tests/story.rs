@@ -2,11 +2,14 @@
 
 use std::sync::OnceLock;
 
-use gunwaleish::{Event, Master, MOST_EVENTS};
-use gunwaleish_tool::story::{follow, Change, GrantEnd, Step, Story};
+use gunwaleish::{Event, Master, Part, MOST_EVENTS};
+use gunwaleish_tool::story::{
+    follow, idle_limit, write_pointer_rolls, Change, GrantEnd, Step, Story,
+};
 use gunwaleish_tool::summary::{share, WaitEnd};
 use gunwaleish_tool::words::why_it_waits;
 use model::device::{Port, IDLE_TIMER_DIS, LOCK_REQ};
+use model::part::{Kind, BOTH_KINDS};
 use model::traces::{seed_of, trace};
 use model::Device;
 
@@ -24,13 +27,38 @@ fn stories() -> &'static [Story] {
     })
 }
 
+/// The model's name for a story's part.
+fn kind(story: &Story) -> Kind {
+    Kind::of(story.part.number()).unwrap()
+}
+
 /// Goes along with the model and shows each step with the device before and after it.
 fn along(story: &Story, mut see: impl FnMut(&Step, &Device, &Device)) {
-    let mut device = Device::power_up();
+    let mut device = Device::power_up_of(kind(story));
     for step in &story.steps {
         let before = device.clone();
         device.step(step.event.bytes());
         see(step, &before, &device);
+    }
+}
+
+/// There are stories of both parts, and what is told of a part is what the model does.
+#[test]
+fn both_parts_are_followed_by_their_rules() {
+    for kind in BOTH_KINDS {
+        let part = Part::of(kind.number()).unwrap();
+        assert_eq!(idle_limit(part) as i64, kind.idle_ticks());
+        assert_eq!(write_pointer_rolls(part), kind.pointer_after_write(7) == 0);
+        let mut past_7 = 0;
+        for story in stories().iter().filter(|story| story.part == part) {
+            along(story, |step, before, _| {
+                let Event::Write { master, .. } = step.event else { return };
+                let own = &before.masters[master as usize];
+                let counts = own.pointer == 7 && own.auto_increment;
+                past_7 += usize::from(counts && !step.answer.outcome.is_refused());
+            });
+        }
+        assert!(past_7 > 10, "{part}: {past_7} writes at 7 with a pointer that counts");
     }
 }
 

@@ -15,9 +15,10 @@ pub const COMMAND: Command = Command {
     summary: "a script, one event a line, to a trace",
     usage: "[SCRIPT...] [-o OUT]",
     help:
-        "A script begins with the codes of AD3 to AD0 and has one event a line. Bytes are in hex,\n\
-           the count of ticks is in decimal, and # begins a comment.\n\n\
+        "A script begins with the codes of AD3 to AD0 and with the part, and has one event a line.\n\
+           Bytes are in hex, the count of ticks is in decimal, and # begins a comment.\n\n\
            pins 0 0 0 1       # VSS VSS VSS VDD, which is address 71h\n\
+           part PCA9641       # or part TPT29641\n\
            command 0 03       # controller 0 opens register 3, RT\n\
            write 0 32         # 50 ticks\n\
            read 0\n\
@@ -29,6 +30,9 @@ pub const COMMAND: Command = Command {
            reset\n\
            general 0 06\n\
            raw FF 00 00 00    # any four bytes, as they are\n\n\
+           The part has no default: a script without one is refused. A TPT29641 differs from a\n\
+           PCA9641 in two things: its idle timer ends a grant at 151 idle ticks, not at 101, and its\n\
+           write pointer rolls from 7 to 0, where that of a PCA9641 stays at 7.\n\n\
            If a line cannot be read, nothing is written.",
     options: &[],
     example: "target/rust/release/gunwaleish compose traces/m1.script | cmp - traces/m1.trace",
@@ -43,7 +47,7 @@ pub fn compose(input: &Input) -> Made {
         Ok(script) => script,
         Err(unread) => return Made::refused(format!("{}, {unread}", input.name)),
     };
-    match write_trace(script.pins, &script.events) {
+    match write_trace(script.pins, script.part, &script.events) {
         Ok(trace) => Made::done(trace),
         Err(refusal) => {
             Made::refused(format!("{}{}: {refusal}", input.name, place(&script, refusal)))

@@ -19,6 +19,6 @@ pub const COMMAND: Command = Command {
 pub fn decompose(input: &Input) -> Made {
     match gunwaleish::run(&input.bytes) {
         Err(refusal) => Made::refused(refused(input, refusal)),
-        Ok(run) => Made::done(write_script(run.pins, &run.events)),
+        Ok(run) => Made::done(write_script(run.pins, run.part, &run.events)),
     }
 }

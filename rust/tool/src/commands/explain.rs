@@ -13,11 +13,12 @@ pub const COMMAND: Command = Command {
     name: "explain",
     summary: "the run in words, one event a line, and totals for each controller",
     usage: TRACES,
-    help: "A line has the event's number, the ticks passed, what came, what was answered, then who\n\
-           owns the bus, who is connected, who waits, which interrupt outputs are asserted and the\n\
-           levels of SCL and SDA, all after the event; then the names of the byte's bits, and what\n\
-           changed. What a controller does begins with its number. Ticks in which nothing changes\n\
-           share a line.",
+    help: "The first lines name the part and what its idle timer and its write pointer do. A line has\n\
+           the event's number, the ticks passed, what came, what was answered, then who owns the\n\
+           bus, who is connected, who waits, which interrupt outputs are asserted and the levels of\n\
+           SCL and SDA, all after the event; then the names of the byte's bits, and what changed.\n\
+           What a controller does begins with its number. Ticks in which nothing changes share a\n\
+           line.",
     options: &[],
     example: "target/rust/release/gunwaleish explain traces/box14-rt00.trace",
     run: |arguments| each_trace(arguments, "txt", explain),
@@ -50,10 +51,12 @@ fn told(name: &str, story: &Story) -> String {
     let came = width(|line| &line.came, "what came");
     let answered = width(|line| &line.answered, "answer");
     let mut text = format!(
-        "{name}: address {:02X}h, pins {}, {}\n\n",
+        "{name}: {} at address {:02X}h, pins {}, {}\n{}\n\n",
+        story.part,
         story.address,
         story.pins,
-        words::count(story.steps.len(), "event")
+        words::count(story.steps.len(), "event"),
+        words::part(story.part)
     );
     text.push_str(&format!(
         "{:>9}  {:>9}  {:came$}  {:answered$}  own con wait int SCL SDA  what changed\n",

@@ -1,6 +1,6 @@
 //! `import`: a logic analyser's capture to a trace, or to its script.
 
-use gunwaleish::{import_capture, write_trace, Pins, Refusal, MOST_SAMPLES};
+use gunwaleish::{import_capture, write_trace, Part, Pins, Refusal, MOST_SAMPLES};
 
 use super::Command;
 use crate::arguments::Arguments;
@@ -13,16 +13,16 @@ use crate::script::write_script;
 pub const COMMAND: Command = Command {
     name: "import",
     summary: "a logic analyser's capture, one byte a sample, to a trace",
-    usage: "[CAPTURE...] (--address HEX | --pins AD3 AD2 AD1 AD0) [--script] [-o OUT]",
+    usage: "[CAPTURE...] (--address HEX | --pins AD3 AD2 AD1 AD0) --part NAME [--script] [-o OUT]",
     help: "In each sample, bits 0 to 3 are SCL0, SDA0, SCL1 and SDA1, the buses of controllers 0 and\n\
            1; the others are ignored. The transfers to the device, which is named by its seven-bit\n\
            address or by the codes of its pins, become COMMAND, WRITE, READ and STOP, and general\n\
-           calls become GENERAL CALL. A capture shows neither ticks nor the downstream lines: with\n\
-           --script the output is a script, to which tick and lines are added by hand before\n\
-           gunwaleish compose makes a trace of it. docs/CAPTURES.md tells more, and how a capture is\n\
-           exported.",
-    options: &[("--address", 1), ("--pins", 4), ("--script", 0)],
-    example: "target/rust/release/gunwaleish import traces/box14.capture --address 71 | \
+           calls become GENERAL CALL. The part that is fitted, PCA9641 or TPT29641, is named too; it\n\
+           has no default. A capture shows neither ticks nor the downstream lines: with --script the\n\
+           output is a script, to which tick and lines are added by hand before gunwaleish compose\n\
+           makes a trace of it. docs/CAPTURES.md tells more, and how a capture is exported.",
+    options: &[("--address", 1), ("--pins", 4), ("--part", 1), ("--script", 0)],
+    example: "target/rust/release/gunwaleish import traces/box14.capture --address 71 --part PCA9641 | \
               target/rust/release/gunwaleish explain",
     run,
 };
@@ -40,25 +40,46 @@ fn run(arguments: &Arguments) -> Result<(), Failure> {
 pub struct Device {
     pub address: u8,
     pub pins: Pins,
+    pub part: Part,
 }
 
 /// The device that the command line names.
 fn device(arguments: &Arguments) -> Result<Device, Failure> {
     let words = |name| arguments.options.get(name).map(Vec::as_slice).unwrap_or_default();
-    match (words("--address"), words("--pins")) {
+    let (address, pins) = strapping(words("--address"), words("--pins"))?;
+    let part = part(words("--part"))?;
+    Ok(Device { address, pins, part })
+}
+
+/// The address and the pins, out of the words after --address or after --pins.
+fn strapping(address: &[String], pins: &[String]) -> Result<(u8, Pins), Failure> {
+    match (address, pins) {
         ([address], []) => {
             let address = number(address)?;
             let refused = |refusal| wrong(format!("{refusal}{}", as_first_byte(address)));
-            Ok(Device { address, pins: Pins::of_address(address).map_err(refused)? })
+            Ok((address, Pins::of_address(address).map_err(refused)?))
         }
         ([], [ad3, ad2, ad1, ad0]) => {
             let pins = Pins::from([number(ad3)?, number(ad2)?, number(ad1)?, number(ad0)?]);
             let address = pins.address().map_err(|refusal| wrong(refusal.to_string()))?;
-            Ok(Device { address, pins })
+            Ok((address, pins))
         }
         ([], []) => Err(wrong("import needs the device: --address, or --pins".to_string())),
         _ => Err(wrong("--address and --pins are both there".to_string())),
     }
+}
+
+/// The part, which has no default.
+fn part(words: &[String]) -> Result<Part, Failure> {
+    let either = "--part PCA9641 or --part TPT29641";
+    let [name] = words else {
+        return Err(wrong(format!(
+            "import needs the part: {either}; a kind left out and read as a default is how the \
+             incident came about"
+        )));
+    };
+    let unknown = || wrong(format!("'{}' is no part, expected {either}", name.escape_debug()));
+    Part::named(name).ok_or_else(unknown)
 }
 
 /// A byte in hex. Some people write 70h or 0x70.
@@ -87,9 +108,9 @@ pub fn import(input: &Input, device: Device, script: bool) -> Made {
         Err(refusal) => return refused(input, device.address, refusal),
     };
     if script {
-        return Made::done(write_script(device.pins, &events));
+        return Made::done(write_script(device.pins, device.part, &events));
     }
-    match write_trace(device.pins, &events) {
+    match write_trace(device.pins, device.part, &events) {
         Ok(trace) => Made::done(trace),
         Err(refusal) => refused(input, device.address, refusal),
     }

@@ -1,6 +1,7 @@
 //! The subcommands, a file each.
 
 pub mod compose;
+pub mod convert;
 pub mod decompose;
 pub mod explain;
 pub mod import;
@@ -33,6 +34,7 @@ pub const COMMANDS: &[Command] = &[
     compose::COMMAND,
     decompose::COMMAND,
     import::COMMAND,
+    convert::COMMAND,
     wave::COMMAND,
     picture::COMMAND,
 ];

@@ -132,9 +132,10 @@ pub fn times(story: &Story) -> (Vec<u64>, u64) {
 fn vcd(story: &Story) -> String {
     let groups = groups();
     let mut text = format!(
-        "$version gunwaleish {} $end\n$comment address {:02X}h, {}; a tick is 1 ms $end\n\
+        "$version gunwaleish {} $end\n$comment {} at address {:02X}h, {}; a tick is 1 ms $end\n\
          $timescale 100 ns $end\n$scope module arbiter $end\n",
         env!("CARGO_PKG_VERSION"),
+        story.part,
         story.address,
         words::count(story.steps.len(), "event")
     );

@@ -91,7 +91,8 @@ fn head(drawing: &mut Drawing, story: &Story, name: &str, verdicts: &[String]) {
     let file = name.rsplit(['/', '\\']).next().unwrap_or(name);
     let events = words::count(story.steps.len(), "event");
     let ticks = words::ticks(story.ticks());
-    let title = format!("{file}: address {:02X}h, {events}, {ticks}", story.address);
+    let (part, address) = (story.part, story.address);
+    let title = format!("{file}: {part} at address {address:02X}h, {events}, {ticks}");
     drawing.text("title", [14.0, 24.0], &title);
     for (place, verdict) in verdicts.iter().enumerate() {
         drawing.text("verdict", [14.0, 45.0 + 17.0 * place as f64], verdict);

@@ -27,11 +27,12 @@ pub enum InitialisationEnd {
 #[derive(Clone, Copy, Debug, PartialEq, Eq)]
 pub enum Change {
     GrantEnded(Master, GrantEnd),
-    /// With the RT that holds for this grant, and whether the idle timer is on.
+    /// With the RT that holds for this grant, and the idle ticks at which the idle timer ends it, if
+    /// that is on.
     Granted {
         master: Master,
         rt: u8,
-        idle_timer: bool,
+        idle_limit: Option<usize>,
     },
     BeginsToWait(Master),
     /// It waits no more and was not granted.
@@ -101,8 +102,8 @@ fn grants(before: &Scene, step: &Step, changes: &mut Vec<Change>) {
     }
     if let Some(master) = after.owner {
         let written = &step.after[master as usize];
-        let (rt, idle_timer) = (written.rt, written.idle_timer);
-        changes.push(Change::Granted { master, rt, idle_timer });
+        let (rt, idle_limit) = (written.rt, written.idle_limit());
+        changes.push(Change::Granted { master, rt, idle_limit });
     }
 }
 

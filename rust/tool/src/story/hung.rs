@@ -39,7 +39,7 @@ impl Asking {
     /// The flag after these events, or `None` if there is no room left for the question.
     fn is_hung(&mut self, run: &Run, events: &[u8]) -> Option<bool> {
         let asked = [events, &QUESTION.map(Event::bytes).concat()].concat();
-        let length = write_trace_into(run.pins, &asked, &mut self.trace).ok()?;
+        let length = write_trace_into(run.pins, run.part, &asked, &mut self.trace).ok()?;
         let report = run_trace(&self.trace[..length], &mut self.answers).ok()?;
         let status = self.answers.get(4 * report.events - 3)?;
         Some(status & BUS_HUNG != 0)

@@ -6,12 +6,14 @@
 
 mod changes;
 mod hung;
+mod part;
 mod written;
 
 pub use changes::{Change, GrantEnd, InitialisationEnd};
+pub use part::{idle_limit, write_pointer_rolls};
 pub use written::Written;
 
-use gunwaleish::{Answer, Event, Master, Pins, Refusal};
+use gunwaleish::{Answer, Event, Master, Part, Pins, Refusal};
 
 /// What can be seen of the device at one moment. A pair has master 0's first.
 #[derive(Clone, Copy, Debug, PartialEq, Eq)]
@@ -62,6 +64,7 @@ pub struct Step {
 pub struct Story {
     pub address: u8,
     pub pins: Pins,
+    pub part: Part,
     pub steps: Vec<Step>,
 }
 
@@ -91,7 +94,7 @@ impl Story {
 pub fn follow(trace: &[u8]) -> Result<Story, Refusal> {
     let run = gunwaleish::run(trace)?;
     let hung = hung::flags(&run);
-    let mut written = [Written::default(); 2];
+    let mut written = [Written::new(run.part); 2];
     let mut scene = POWER_UP;
     let mut tick = 0;
     let mut steps = Vec::with_capacity(run.events.len());
@@ -114,7 +117,7 @@ pub fn follow(trace: &[u8]) -> Result<Story, Refusal> {
         steps.push(step);
         scene = now;
     }
-    Ok(Story { address: run.address, pins: run.pins, steps })
+    Ok(Story { address: run.address, pins: run.pins, part: run.part, steps })
 }
 
 fn scene_after(answer: Answer, written: &[Written; 2], hung: bool) -> Scene {

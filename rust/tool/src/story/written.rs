@@ -6,7 +6,9 @@
 //! follow each pointer, and look at the owner before and after. RT is followed in the same way; a
 //! byte for it is not stored while its master is granted. A refused event changes nothing.
 
-use gunwaleish::{Answer, Event, Master, Outcome};
+use gunwaleish::{Answer, Event, Master, Outcome, Part};
+
+use super::part::{idle_limit, write_pointer_rolls};
 
 const CONTR: u8 = 1;
 const RT: u8 = 3;
@@ -14,8 +16,9 @@ const LOCK_REQ: u8 = 0x01;
 const IDLE_TIMER_DIS: u8 = 0x20;
 
 /// One master's part.
-#[derive(Clone, Copy, Debug, Default, PartialEq, Eq)]
+#[derive(Clone, Copy, Debug, PartialEq, Eq)]
 pub struct Written {
+    part: Part,
     /// The register that the next byte is for.
     pub pointer: u8,
     auto_increment: bool,
@@ -51,7 +54,7 @@ pub fn take(both: &mut [Written; 2], event: Event, answer: Answer, owner: Option
         }
         Event::Read { master } => both[master as usize].read(),
         Event::Stop { master } => both[master as usize].port_open = false,
-        _ if is_reset(event, answer) => *both = Default::default(),
+        _ if is_reset(event, answer) => *both = both.map(|written| Written::new(written.part)),
         _ => {}
     }
     if let Some(master) = owner.filter(|_| answer.owner != owner) {
@@ -60,6 +63,24 @@ pub fn take(both: &mut [Written; 2], event: Event, answer: Answer, owner: Option
 }
 
 impl Written {
+    /// What stands there after power-up, and after a reset.
+    pub fn new(part: Part) -> Written {
+        Written {
+            part,
+            pointer: 0,
+            auto_increment: false,
+            port_open: false,
+            requests: false,
+            idle_timer: false,
+            rt: 0,
+        }
+    }
+
+    /// The idle ticks at which the idle timer ends a grant without a reserve, if it is on.
+    pub fn idle_limit(&self) -> Option<usize> {
+        self.idle_timer.then_some(idle_limit(self.part))
+    }
+
     fn command(&mut self, code: u8, acknowledged: bool) {
         self.port_open = true;
         if acknowledged {
@@ -77,8 +98,9 @@ impl Written {
             RT if !granted => self.rt = value,
             _ => {}
         }
-        if self.auto_increment && self.pointer < 7 {
-            self.pointer += 1;
+        let rises = self.pointer < 7 || write_pointer_rolls(self.part);
+        if self.auto_increment && rises {
+            self.pointer = (self.pointer + 1) % 8;
         }
     }
 
