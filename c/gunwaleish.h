@@ -15,8 +15,8 @@
 extern "C" {
 #endif
 
-/* The numbers of documents 01 and 02. The first five are outcomes of one event, the others refuse a whole call; so does 3 for a kind of
- * part. */
+/* The numbers of documents 01 and 02. 0 to 4 are outcomes of one event, and 5 to 13 refuse a whole call; so does 3, for a kind of part other
+ * than 0 and 1. A call that is not refused has 0. */
 enum gunwaleish_numbers {
     GUNWALEISH_DONE = 0,                   /* done, accepted */
     GUNWALEISH_NOT_ACKNOWLEDGED = 1,       /* the byte was not acknowledged */

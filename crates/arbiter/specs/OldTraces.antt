@@ -3,7 +3,7 @@
 -- Assumes nothing.
 use Prim.Native.Nat.{_≤_}
 use mathlib.Core.Path.{_≡_}
-use Rattle.arbiter.specs.Types.{ℕ, _+_, _*_, not, List, [], _++_, eqb, ltb, length, drop, Pca9641, Raw, Strapped, Address, Unlisted, TraceCut, TooManyEvents, BytesAfterEnd, BadStraps, NoRoom, BadCount, Accepted, Refused}
+use Rattle.arbiter.specs.Types.{ℕ, _+_, _*_, not, List, [], _++_, eqb, ltb, length, drop, Pca9641, Strapped, Address, Unlisted, TraceCut, TooManyEvents, BytesAfterEnd, BadStraps, NoRoom, BadCount, Accepted, Refused}
 use Rattle.arbiter.specs.declared.Written.{Written}
 use Rattle.arbiter.specs.Words.{if_then_else_}
 use Rattle.arbiter.specs.Straps.{addressOf}

@@ -19,13 +19,14 @@ registerNumber MailHigh = 7
 
 -- ---- as they are read
 
--- "1 CONTR: bit 7 PRIORITY, 6 SMBUS_DIS, 5 IDLE_TIMER_DIS, 4 SMBUS_SWRST, 3 BUS_INIT, 2 BUS_CONNECT, 1 LOCK_GRANT (read only), 0 LOCK_REQ"
+-- "1 CONTR: bit 7 PRIORITY, 6 SMBUS_DIS, 5 IDLE_TIMER_DIS (1 enables the idle timer), 4 SMBUS_SWRST, 3 BUS_INIT, 2 BUS_CONNECT, 1 LOCK_GRANT
+-- (read only), 0 LOCK_REQ"
 unfoldable pub contrByte : Bool → Control → ℕ
 contrByte granted c =
     byteOf (c .priority) (c .smbusdis) (c .idletimer) (c .swrst) (c .businit) (c .busconnect) granted (c .lockreq)
 
--- "2 STATUS: 7 SDA and 6 SCL levels, 5 TEST_INT (reads 0), 4 own mailbox full, 3 partner's mailbox empty, 2 BUS_HUNG,
--- 1 BUS_INIT_FAIL (each a single flag shown to both masters), 0 partner granted"
+-- "2 STATUS: 7 SDA and 6 SCL levels, 5 TEST_INT (reads 0), 4 own mailbox full, 3 partner's mailbox empty (so 1 after reset, H), 2 BUS_HUNG,
+-- 1 BUS_INIT_FAIL (each a single flag shown to both masters, H), 0 partner granted"
 unfoldable pub statusByte : Bool → Side → Side → Bus → Bool → ℕ
 statusByte partnerGranted own other b initfail =
     byteOf (sdaHigh b) (sclHigh b) false (own .mail .full) (not (other .mail .full)) (busHung b) initfail partnerGranted

@@ -120,7 +120,7 @@ readTrace t room =
     else readStrapped (addressOf (pinsIn t)) t room
 
 -- ---- the paper's numbers: "5 / 6 / 7 trace cut / n above 4,096 / bytes after the end", "8 pin code above 3 or unlisted strapping",
--- "9 answer room under 4n", "10 first count not 4"; and #105's for another kind
+-- "9 answer room under 4n", "10 first count not 4"; by #105 "10 for a count other than 1, 3 as a whole-call refusal for another kind"
 
 abbrev pub refusalNumber : Refusal → ℕ
 refusalNumber TraceCut = 5

@@ -5,7 +5,7 @@
 -- Assumes nothing.
 use mathlib.Core.Path.{_≡_}
 use lib.Dec.{leb}
-use Rattle.arbiter.specs.Types.{ℕ, _+_, _-_, Bool, true, not, _&&_, List, [], _∷_, _++_, eqb, ltb, Master, Zero, One, Kind, Pca9641, Tpt29641, Device, Raw}
+use Rattle.arbiter.specs.Types.{ℕ, _+_, _-_, Bool, true, not, _&&_, List, [], _∷_, _++_, eqb, ltb, Master, Zero, One, Kind, Device, Raw}
 use Rattle.arbiter.specs.Rules.{limitOf}
 use Rattle.arbiter.specs.Words.{partner, of}
 use Rattle.arbiter.specs.State.{owns, connected, isIdle}

@@ -1,5 +1,5 @@
--- Request #101: the bytes of a trace from its pins, its events and, by #105, its kind of part; what the call that writes them leaves, and what reading and writing are to
--- each other.
+-- Request #101: the bytes of a trace from its pins, its events and, by #105, its kind of part; what the call that writes them leaves, and
+-- what reading and writing are to each other.
 -- Assumes nothing.
 use Rattle.arbiter.specs.Types.{ℕ, _*_, _/_, _%_, not, List, [], _∷_, _++_, eqb, ltb, length, drop, Raw, Pins, Address, TraceCut, TooManyEvents, BadStraps, NoRoom, UnknownPart, Kind, Accepted}
 use Rattle.arbiter.specs.Words.{if_then_else_}

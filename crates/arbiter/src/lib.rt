@@ -1,4 +1,4 @@
-// The arbiter's types. What they mean is written in specs/, one file for each section of document 01; specs/Lib.antt lists them in its order.
+// The arbiter's types. What they mean is written in specs/, one file for each section of documents 01 and 02; specs/Lib.antt lists them in its order.
 
 // ---- limits
 

@@ -80,7 +80,6 @@ fn read_kind(address: u8, n: u16, t: &[u8], room: usize) -> TraceRead
 }
 
 // From the count of events on.
-
 fn read_counted(address: u8, t: &[u8], room: usize) -> TraceRead
     ensures { λ r. ⌜ r ≡ readCounted address (now (t .entry)) room ⌝ }
 {
