@@ -14,6 +14,7 @@ use Rattle.arbiter.proofs.IdleCount.{idle-timer-ends}
 use Rattle.arbiter.proofs.Tenure.{granted-at-rest}
 use Rattle.arbiter.proofs.Ended.{ends-disconnected}
 use Rattle.arbiter.proofs.Settled.{refused-unchanged, all-settled}
+use Rattle.arbiter.proofs.Bitwise.{asserted-bit-by-bit, cleared-bit-by-bit}
 use Rattle.arbiter.proofs.Hung.{hung-exact, clock-not-hung}
 use Rattle.arbiter.proofs.HungRows.{hung-rows-hold, slow-clock-never-hung}
 use Rattle.arbiter.proofs.OldTraces.{converted-accepted, old-refused}
@@ -50,6 +51,8 @@ answers =
       clockNotHung = clock-not-hung;
       hungRowsHold = hung-rows-hold;
       slowClockNeverHung = slow-clock-never-hung;
+      assertedBitByBit = asserted-bit-by-bit;
+      clearedBitByBit = cleared-bit-by-bit;
       convertedAccepted = converted-accepted;
       oldRefused = old-refused;
       witnessesMeet = witnesses-meet;

@@ -1,8 +1,9 @@
 -- Proofs by a test and by the master: a choice has what both of its branches have, and an event of one of the two masters is m's or not.
 -- Assumes nothing.
 use mathlib.Core.Path.{_≡_, refl, sym, ap, _∙_}
-use mathlib.Core.Bool.{Bool, true, false, not, Bool·not-not, false≢true}
-use Rattle.arbiter.specs.Types.{Master, Zero, One, Turn, Nobody, Claims, Owns, Side, Device}
+use mathlib.Core.Bool.{Bool, true, false, not, _||_, Bool·not-not, true≢false, false≢true}
+use native.Mathlib.Omega.{arith}
+use Rattle.arbiter.specs.Types.{ℕ, suc, Master, Zero, One, Turn, Nobody, Claims, Owns, Side, Device}
 use Rattle.arbiter.specs.Words.{if_then_else_, partner, sameMaster, of, side}
 use Rattle.arbiter.specs.State.{ownsTurn}
 
@@ -24,6 +25,16 @@ if-true x y h = ap (λ (b : Bool). if b then x else y) h
 
 pub if-false : {A : Type 0} {b : Bool} (x y : A) → b ≡ false → (if b then x else y) ≡ y
 if-false x y h = ap (λ (b : Bool). if b then x else y) h
+
+-- A number of 0 is not that of a test, which is above 0: the test has failed, and what comes after it gives the number.
+pub passed : (b : Bool) (k y : ℕ) → (if b then suc k else y) ≡ 0 → (b ≡ false) × (y ≡ 0)
+passed true k y h = absurd (omega arith)
+passed false k y h = (refl, h)
+
+-- Where one or the other does not hold, neither does.
+pub neither : (a b : Bool) → a || b ≡ false → (a ≡ false) × (b ≡ false)
+neither true b h = absurd (true≢false h)
+neither false b h = (refl, h)
 
 -- What is not true is false.
 pub not-true : (b : Bool) → not b ≡ true → b ≡ false

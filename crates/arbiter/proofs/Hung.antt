@@ -13,14 +13,14 @@ use Rattle.arbiter.specs.State.{sdaHigh, sclHungLimit, sdaHungLimit, bus
 use Rattle.arbiter.specs.Effects.{countedTo, powerUp}
 use Rattle.arbiter.specs.Steps.{runFrom, run}
 use Rattle.arbiter.specs.AuditWords.{next, reset, tick, ticksIn, never}
-use Rattle.arbiter.specs.Hung.{sclMoves, endsLowScl, endsLowSda, Stretch, SclStuck, SdaStuck, HungExact, ClockNotHung}
-use Rattle.arbiter.proofs.Choice.{either, split, if-true, if-false}
+use Rattle.arbiter.specs.Hung.{sclMoves, endsLowScl, endsLowSda, Stretch, SclStuck, SdaStuck, HungExact, ClockRuns, ClockNotHung}
+use Rattle.arbiter.proofs.Choice.{either, split, if-true, if-false, neither}
 use Rattle.arbiter.proofs.Cases.{run-keeps}
 use Rattle.arbiter.proofs.Runs.{from-append, never-comes}
 use Rattle.arbiter.proofs.Effects.{counts}
 use Rattle.arbiter.proofs.Raws.{takes}
 use Rattle.arbiter.proofs.Settled.{Still, parts-ready}
-use Rattle.arbiter.proofs.LowCounts.{next-still, scl-next, sda-next}
+use Rattle.arbiter.proofs.LowCounts.{next-still, scl-next, scl-restarts, sda-next}
 
 -- ---- a run
 
@@ -147,26 +147,39 @@ hung-exact k rs =
 
 -- ---- the fan monitor
 
--- Of a stretch that nothing ends, SCL has not moved in it.
-unmoved : (rs : List Raw) (d : Device) → never endsLowSda d rs ≡ true → never sclMoves d rs ≡ true
+-- In a stretch that every move of SCL would end, SCL has not moved.
+unmoved : (ends : Raw → Device → Bool) → ((r : Raw) (d : Device) → ends r d ≡ false → sclMoves r d ≡ false)
+    → (rs : List Raw) (d : Device) → never ends d rs ≡ true → never sclMoves d rs ≡ true
 unfolding never
-unmoved [] d h = refl
-unmoved (r ∷ rs) d h =
-    let first = never-comes endsLowSda r rs d h in
-    ap₂ (λ (a b : Bool). not a && b) (last (reset r d) (sdaHigh ((next d r) .bus)) (sclMoves r d) (first .0)) (unmoved rs (next d r) (first .1))
-  where
-    last : (a b c : Bool) → a || (b || c) ≡ false → c ≡ false
-    last true b c h = absurd (true≢false h)
-    last false true c h = absurd (true≢false h)
-    last false false c h = h
+unmoved ends moves [] d h = refl
+unmoved ends moves (r ∷ rs) d h =
+    let first = never-comes ends r rs d h in
+    ap₂ (λ (a b : Bool). not a && b) (moves r d (first .0)) (unmoved ends moves rs (next d r) (first .1))
+
+-- So neither count comes to its limit where SCL moves in any 500 ticks.
+module _ (k : Kind) (rs : List Raw) (runs : ClockRuns k rs) where
+  short : (limit n : ℕ) (ends : Raw → Device → Bool) → ((r : Raw) (d : Device) → ends r d ≡ false → sclMoves r d ≡ false)
+      → sclHungLimit ≤ limit → (n ≡ limit → Stretch ends limit k rs) → eqb n limit ≡ false
+  short limit n ends moves most reached =
+      split (eqb n limit)
+      (λ h. let s : Stretch ends limit k rs = reached (eqb-true n limit h) in
+      let enough : limit ≤ ticksIn (run k (s .before)) (s .since) = s .long in
+      absurd
+      (true≢false
+      (sym (unmoved ends moves (s .since) (run k (s .before)) (s .unbroken))
+      ∙ runs (s .before) (s .since) [] (s .whole ∙ sym (append-nil (s .before ++ s .since))) (omega arith))))
+      (λ h. h)
+
+  scl-short : eqb ((run k rs) .bus .lowscl) sclHungLimit ≡ false
+  scl-short =
+      short sclHungLimit ((run k rs) .bus .lowscl) (λ r d. endsLowScl r d || sclMoves r d) (λ r d h. neither (endsLowScl r d) (sclMoves r d) h .1) (omega arith)
+      (stuck sclHungLimit (λ (x : Device). x .bus .lowscl) (λ r d. endsLowScl r d || sclMoves r d) scl-restarts scl-fresh k rs)
+
+  sda-short : eqb ((run k rs) .bus .lowsda) sdaHungLimit ≡ false
+  sda-short =
+      short sdaHungLimit ((run k rs) .bus .lowsda) endsLowSda
+      (λ r d h. neither (sdaHigh ((next d r) .bus)) (sclMoves r d) (neither (reset r d) (sdaHigh ((next d r) .bus) || sclMoves r d) h .1) .1) (omega arith)
+      (stuck sdaHungLimit (λ (x : Device). x .bus .lowsda) endsLowSda sda-next sda-fresh k rs)
 
 pub clock-not-hung : ClockNotHung
-clock-not-hung k rs runs =
-    split (eqb ((run k rs) .bus .lowsda) sdaHungLimit)
-    (λ h. let s : SdaStuck k rs = stuck sdaHungLimit (λ (x : Device). x .bus .lowsda) endsLowSda sda-next sda-fresh k rs (eqb-true ((run k rs) .bus .lowsda) sdaHungLimit h) in
-    let enough : sdaHungLimit ≤ ticksIn (run k (s .before)) (s .since) = s .long in
-    absurd
-    (true≢false
-    (sym (unmoved (s .since) (run k (s .before)) (s .unbroken))
-    ∙ runs (s .before) (s .since) [] (s .whole ∙ sym (append-nil (s .before ++ s .since))) (omega arith))))
-    (λ h. h)
+clock-not-hung k rs runs = ap₂ (λ (a b : Bool). a || b) (scl-short k rs runs) (sda-short k rs runs)

@@ -12,8 +12,8 @@ use Rattle.arbiter.specs.Effects.{countedTo, ticked, wasReset, effect}
 use Rattle.arbiter.specs.Order.{isReset, isTick, sclChanged, levels}
 use Rattle.arbiter.specs.Steps.{parts, step}
 use Rattle.arbiter.specs.AuditWords.{next, reset, tick}
-use Rattle.arbiter.specs.Hung.{sameLevel, endsLowScl, endsLowSda}
-use Rattle.arbiter.proofs.Choice.{either, split, if-true}
+use Rattle.arbiter.specs.Hung.{sameLevel, sclMoves, endsLowScl, endsLowSda}
+use Rattle.arbiter.proofs.Choice.{either, split, if-true, neither}
 use Rattle.arbiter.proofs.Cases.{step-keeps}
 use Rattle.arbiter.proofs.Effects.{counts, effect-counts}
 use Rattle.arbiter.proofs.Raws.{refuses, takes, met, event-tick}
@@ -72,10 +72,6 @@ low-only : (ended : Bool) (n m : ℕ) → (ended ≡ false → n ≡ m) → (if 
 low-only true n m h = refl
 low-only false n m h = h refl
 
-neither : (a b : Bool) → a || b ≡ false → a ≡ false
-neither true b h = absurd (true≢false h)
-neither false b h = refl
-
 none-left : (ended : Bool) (n : ℕ) → n ≡ 0 → (if ended then 0 else n) ≡ 0
 none-left true n h = refl
 none-left false n h = h
@@ -97,7 +93,7 @@ module _ (e : Event) (d : Device) where
       ap (λ (b : Bus). b .lowsda) (parts-bus e d)
       ∙ low-only (sdaHigh ((effect e d) .bus) || sclChanged (d .bus) ((effect e d) .bus)) ((effect e d) .bus .lowsda)
       (countedTo sdaHungLimit (isTick e) (d .bus .lowsda))
-      (λ h. sda-counted e d ok (neither (sdaHigh ((effect e d) .bus)) (sclChanged (d .bus) ((effect e d) .bus)) h))
+      (λ h. sda-counted e d ok (neither (sdaHigh ((effect e d) .bus)) (sclChanged (d .bus) ((effect e d) .bus)) h .0))
       ∙ ap (λ (b : Bus). if sdaHigh b || sclChanged (d .bus) b then 0 else countedTo sdaHungLimit (isTick e) (d .bus .lowsda)) (sym (parts-bus e d))
 
   reset-parts : isReset e ≡ true → ((parts e d) .bus .lowscl ≡ 0) × ((parts e d) .bus .lowsda ≡ 0)
@@ -160,3 +156,47 @@ sda-next r d s =
     (λ d s. kept-low (sdaHigh (d .bus)) (d .bus .lowsda) (s .1)
     ∙ ap (λ (over : Bool). if over then 0 else d .bus .lowsda) (sym (ap (λ (c : Bool). sdaHigh (d .bus) || c) (scl-stays (d .bus)) ∙ or-false (sdaHigh (d .bus))))) r d s
     ∙ ap (λ (moved : Bool). if reset r d || (sdaHigh ((next d r) .bus) || moved) then 0 else countedTo sdaHungLimit (tick r d) (d .bus .lowsda)) (changed-moves (d .bus) ((next d r) .bus))
+
+-- ---- where SCL falls, its count starts, and no tick does that
+
+-- Where SCL is low after a tick, it was low before it.
+tick-parts : (e : Event) (d : Device) → isTick e ≡ true → sclHigh ((parts e d) .bus) ≡ false → sclHigh (d .bus) ≡ false
+unfolding levels effect ticked
+tick-parts e d t h =
+    hold-ends (d .bus .outscl && d .bus .drivescl) (d .bus .hold)
+    (subst (λ (f : Event). sclHigh ((effect f d) .bus) ≡ false) (event-tick e t) (ap sclHigh (sym (parts-bus e d)) ∙ h))
+
+tick-low : (r : Raw) (d : Device) → tick r d ≡ true → sclHigh ((next d r) .bus) ≡ false → sclHigh (d .bus) ≡ false
+tick-low r d t h =
+    elim (met r d) [
+      | refuses x ↦ absurd (false≢true (sym (x .none λ f y. isTick f) ∙ t))
+      | takes e x ↦ tick-parts e d (sym (x .same λ f y. isTick f) ∙ t) (ap (λ (n : Device). sclHigh (n .bus)) (sym (x .after)) ∙ h)
+    ]
+
+fallen : (high : Bool) → not (sameLevel high false) ≡ true → high ≡ true
+fallen true h = refl
+fallen false h = absurd (false≢true h)
+
+-- So a move of SCL restarts its count too, as it does SDA's.
+pub scl-restarts : (r : Raw) (d : Device) → Still (d .bus)
+    → (next d r) .bus .lowscl ≡ (if endsLowScl r d || sclMoves r d then 0 else countedTo sclHungLimit (tick r d) (d .bus .lowscl))
+scl-restarts r d s =
+    scl-next r d s
+    ∙ split (endsLowScl r d)
+    (λ h. ap (λ (b : Bool). if b then 0 else counted) h ∙ sym (ap (λ (b : Bool). if b || sclMoves r d then 0 else counted) h))
+    (λ h. ap (λ (b : Bool). if b then 0 else counted) h ∙ unless-moved h ∙ sym (ap (λ (b : Bool). if b || sclMoves r d then 0 else counted) h))
+  where
+    counted : ℕ
+    counted = countedTo sclHungLimit (tick r d) (d .bus .lowscl)
+
+    -- it has fallen: it was high, so nothing was counted, and the event is no tick
+    from-high : endsLowScl r d ≡ false → sclMoves r d ≡ true → counted ≡ 0
+    from-high h m =
+        let low : sclHigh ((next d r) .bus) ≡ false = neither (reset r d) (sclHigh ((next d r) .bus)) h .1 in
+        let high : sclHigh (d .bus) ≡ true = fallen (sclHigh (d .bus)) (ap (λ (b : Bool). not (sameLevel (sclHigh (d .bus)) b)) (sym low) ∙ m) in
+        split (tick r d)
+        (λ t. absurd (true≢false (sym high ∙ tick-low r d t low)))
+        (λ t. ap (λ (b : Bool). countedTo sclHungLimit b (d .bus .lowscl)) t ∙ s .0 high)
+
+    unless-moved : endsLowScl r d ≡ false → counted ≡ (if sclMoves r d then 0 else counted)
+    unless-moved h = either (λ (n : ℕ). counted ≡ n) (sclMoves r d) (λ m. from-high h m) (λ m. refl)

@@ -11,7 +11,9 @@ use Rattle.arbiter.specs.Order.{levels, lost, lossesFrom, losses, cutFro
 use Rattle.arbiter.specs.Steps.{parts, ownerByte, linesByte, byteRead, refused, taken, stepEvent, stepDecoded, step, runFrom, answersFrom, run}
 use Rattle.arbiter.specs.Traces.{rawsIn, readKind, readCounted, readStrapped, readTrace}
 use Rattle.arbiter.specs.Listing.{listingOf, listing}
-use Rattle.arbiter.specs.Marks.{marked, paidFor, contests, MarksHold, ReadingsHold}
+use Rattle.arbiter.specs.OldTraces.{oldNumber, converted, convertedNumber, convertedBytes}
+use Rattle.arbiter.specs.Writing.{traceOf}
+use Rattle.arbiter.specs.Marks.{marked, paidFor, contests, sections, MarksHold, ReadingsHold}
 
 pub marks-hold : MarksHold
 unfolding rulesOf byteOf addressOf contrByte statusByte registerByte isAsserted ownWritten mailWritten drivesWritten turnWritten
@@ -22,8 +24,9 @@ unfolding rulesOf byteOf addressOf contrByte statusByte registerByte isAsserted 
 marks-hold = refl
 
 pub readings-hold : ReadingsHold
-unfolding rulesOf byteOf contrByte statusByte registerByte isAsserted ownWritten mailWritten drivesWritten turnWritten
+unfolding rulesOf byteOf addressOf contrByte statusByte registerByte isAsserted ownWritten mailWritten drivesWritten turnWritten
     decode inSequence acknowledged outcome commanded written paired wasRead lined ticked freshSide wasReset powerUp effect
     levels lost lossesFrom losses cutFrom cut winner claim granted grantFrom grant joined clocked keptJoined connectFrom connect
-    parts ownerByte linesByte byteRead refused taken stepEvent stepDecoded step runFrom answersFrom run paidFor contests
+    parts ownerByte linesByte byteRead refused taken stepEvent stepDecoded step runFrom answersFrom run
+    rawsIn readKind readCounted readStrapped readTrace listingOf listing oldNumber converted convertedNumber convertedBytes traceOf paidFor contests sections
 readings-hold = refl

@@ -1,49 +1,68 @@
 -- What becomes of a trace from before the kind of part: as it stands it is refused, and with its section added it is accepted.
 -- Assumes nothing.
 use mathlib.Core.Path.{_≡_, _∙_, refl, sym, ap}
-use mathlib.Core.Bool.{Bool, true, false}
 use native.Mathlib.Omega.{arith}
 use lib.Dec.{lit<}
 use lib.ListN.{length-append, length-drop, List·getD-append}
 use lib.Seq.{drop-append-le, getD-append-add, getD-append-seam}
 use borrow.Author.Tests.{eqb-true, not-false, ltb-false, lt-ltb}
 use Prim.Native.Nat.{_≤_, _<_}
-use Rattle.arbiter.specs.Types.{ℕ, suc, _+_, _*_, not, List, [], _∷_, _++_, eqb, ltb, length, drop, Pca9641, Pins, Raw, Strapped, Address, TraceCut, Accepted, Refused}
-use Rattle.arbiter.specs.Words.{if_then_else_}
+use Rattle.arbiter.specs.Types.{ℕ, _+_, _*_, not, List, [], _∷_, _++_, eqb, ltb, length, drop, Pca9641, Raw, Strapped, Address, Unlisted, TraceCut, Accepted, Refused}
 use Rattle.arbiter.specs.Straps.{addressOf}
 use Rattle.arbiter.specs.Effects.{powerUp}
 use Rattle.arbiter.specs.Steps.{answersFrom}
 use Rattle.arbiter.specs.Traces.{pinCount, pinBytes, headBytes, eventBytes, mostEvents, eventsEnd, wholeBytes, kindCount, kindNumber, kindSection, kindAt, byteAt, pinsIn, countIn, rawsIn, eventsIn, readKind, readTrace, answersIn}
-use Rattle.arbiter.specs.OldTraces.{oldStrapped, oldNumber, converted, ConvertedAccepted, OldRefused}
+use Rattle.arbiter.specs.OldTraces.{oldCounted, oldStrapped, oldNumber, converted, ConvertedAccepted, OldRefused}
+use Rattle.arbiter.proofs.Choice.{passed}
 use Rattle.arbiter.proofs.Traces.{reads-on, accepts, raws-before}
 
 -- ---- an old trace that document 01's rules accept has passed every test
 
-passed : (b : Bool) (k y : ℕ) → (if b then suc k else y) ≡ 0 → (b ≡ false) × (y ≡ 0)
-passed true k y h = absurd (omega arith)
-passed false k y h = (refl, h)
+-- its pins have an address,
+abbrev Listed : Strapped → Type 0
+Listed s = (a : ℕ) × (s ≡ Address a)
+
+-- and it ends with its events
+abbrev pub Whole : List ℕ → Type 0
+Whole t = (byteAt 0 t ≡ pinCount) × (countIn t ≤ mostEvents) × (length t ≡ eventsEnd (countIn t))
+
+counted-whole : (t : List ℕ) → oldCounted t ≡ 0 → (countIn t ≤ mostEvents) × (length t ≡ eventsEnd (countIn t))
+counted-whole t h =
+    let p1 = passed (ltb (length t) headBytes) 4 _ h in
+    let p2 = passed (ltb mostEvents (countIn t)) 5 _ (p1 .1) in
+    let p3 = passed (ltb (length t) (eventsEnd (countIn t))) 4 _ (p2 .1) in
+    let p4 = passed (ltb (eventsEnd (countIn t)) (length t)) 6 _ (p3 .1) in
+    let long : eventsEnd (countIn t) ≤ length t = ltb-false _ _ (p3 .0) in
+    let short : length t ≤ eventsEnd (countIn t) = ltb-false _ _ (p4 .0) in
+    (ltb-false _ _ (p2 .0), omega arith)
+
+strapped-passed : (s : Strapped) (t : List ℕ) → oldStrapped s t ≡ 0 → (oldCounted t ≡ 0) × Listed s
+strapped-passed (Address a) t h = (h, (a, refl))
+strapped-passed Unlisted t h = absurd (omega arith)
+
+old-passed : (t : List ℕ) → oldNumber t ≡ 0 → (byteAt 0 t ≡ pinCount) × (oldStrapped (addressOf (pinsIn t)) t ≡ 0)
+unfolding oldNumber
+old-passed t h =
+    let p1 = passed (ltb (length t) 1) 4 _ h in
+    let p2 = passed (not (eqb (byteAt 0 t) pinCount)) 9 _ (p1 .1) in
+    let p3 = passed (ltb (length t) pinBytes) 4 _ (p2 .1) in
+    (eqb-true _ _ (not-false _ (p2 .0)), p3 .1)
+
+old-listed : (t : List ℕ) → oldNumber t ≡ 0 → Listed (addressOf (pinsIn t))
+old-listed t h = strapped-passed (addressOf (pinsIn t)) t (old-passed t h .1) .1
+
+pub old-whole : (t : List ℕ) → oldNumber t ≡ 0 → Whole t
+old-whole t h =
+    let tests = old-passed t h in
+    let counted = counted-whole t (strapped-passed (addressOf (pinsIn t)) t (tests .1) .0) in
+    (tests .0, counted .0, counted .1)
 
 module _ (t : List ℕ) (a : ℕ) (old : oldNumber t ≡ 0) (listed : addressOf (pinsIn t) ≡ Address a) where
   abbrev n : ℕ
   n = countIn t
 
-  abbrev Fits : Type 0
-  Fits = (byteAt 0 t ≡ pinCount) × (n ≤ mostEvents) × (length t ≡ eventsEnd n)
-
-  fits : Fits
-  unfolding oldNumber
-  fits =
-      let p1 = passed (ltb (length t) 1) 4 _ old in
-      let p2 = passed (not (eqb (byteAt 0 t) pinCount)) 9 _ (p1 .1) in
-      let p3 = passed (ltb (length t) pinBytes) 4 _ (p2 .1) in
-      let found = ap (λ (s : Strapped). oldStrapped s t) listed in
-      let p4 = passed (ltb (length t) headBytes) 4 _ (sym found ∙ p3 .1) in
-      let p5 = passed (ltb mostEvents n) 5 _ (p4 .1) in
-      let p6 = passed (ltb (length t) (eventsEnd n)) 4 _ (p5 .1) in
-      let p7 = passed (ltb (eventsEnd n) (length t)) 6 _ (p6 .1) in
-      let long : eventsEnd n ≤ length t = ltb-false _ _ (p6 .0) in
-      let short : length t ≤ eventsEnd n = ltb-false _ _ (p7 .0) in
-      (eqb-true _ _ (not-false _ (p2 .0)), ltb-false _ _ (p5 .0), omega arith)
+  fits : Whole t
+  fits = old-whole t old
 
   refused : (room : ℕ) → readTrace t room ≡ Refused TraceCut
   unfolding readKind
@@ -84,7 +103,7 @@ module _ (t : List ℕ) (a : ℕ) (old : oldNumber t ≡ 0) (listed : addressOf 
       ∙ raws-before n (drop headBytes t) (kindSection Pca9641) (simp length-drop (omega (arith, fits .2)))
 
 pub old-refused : OldRefused
-old-refused t room a old listed = refused t a old listed room
+old-refused t room old = let found = old-listed t old in refused t (found .0) old (found .1) room
 
 pub converted-accepted : ConvertedAccepted
 unfolding converted

@@ -1,6 +1,7 @@
 -- All answers in one record, one field a statement. proofs/Answers.antt fills it with one term, so that a lost proof fails the check.
 -- Assumes nothing.
 use Rattle.arbiter.specs.Audit.{RunsOn, KeepsKind, RunsOfKind, OneConnected, ApartUnowned, AnswersShow, AnswersShowOne, RegistersShow, RegistersShowOne, ResetEnds, ReserveLasts, ReserveEnds, ReserveExact, PartnerNext, PartnerInTime, PartnerInTimeThroughout, HeldUntilLetGo, IdleTimerExact, IdleTimerEnds, GrantedAtRest, EndsDisconnected, RefusedUnchanged, AllSettled}
+use Rattle.arbiter.specs.Bitwise.{AssertedBitByBit, ClearedBitByBit}
 use Rattle.arbiter.specs.Hung.{HungExact, ClockNotHung}
 use Rattle.arbiter.specs.HungRows.{HungRowsHold, SlowClockNeverHung}
 use Rattle.arbiter.specs.OldTraces.{ConvertedAccepted, OldRefused}
@@ -43,6 +44,9 @@ pub record Answers : Type 0 where
   pub clockNotHung : ClockNotHung
   pub hungRowsHold : HungRowsHold
   pub slowClockNeverHung : SlowClockNeverHung
+  -- What do the operations on INT_STATUS and INT_MSK mean, bit by bit?
+  pub assertedBitByBit : AssertedBitByBit
+  pub clearedBitByBit : ClearedBitByBit
   -- What becomes of a trace from before the kind of part?
   pub convertedAccepted : ConvertedAccepted
   pub oldRefused : OldRefused

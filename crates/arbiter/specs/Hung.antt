@@ -4,7 +4,7 @@
 use Prim.Native.Nat.{_≤_}
 use mathlib.Core.Path.{_≡_}
 use mathlib.Core.Logic.{_⊎_}
-use Rattle.arbiter.specs.Types.{ℕ, Bool, true, false, not, _||_, List, _++_, eqb, Kind, Device, Raw}
+use Rattle.arbiter.specs.Types.{ℕ, Bool, true, false, not, _||_, List, _++_, Kind, Device, Raw}
 use Rattle.arbiter.specs.State.{sclHigh, sdaHigh, sclHungLimit, sdaHungLimit, busHung}
 use Rattle.arbiter.specs.Steps.{run}
 use Rattle.arbiter.specs.AuditWords.{next, reset, ticksIn, never}
@@ -59,6 +59,6 @@ abbrev pub ClockRuns : Kind → List Raw → Type 0
 ClockRuns k rs =
     (before since after : List Raw) → rs ≡ before ++ since ++ after → sclHungLimit ≤ ticksIn (run k before) since → never sclMoves (run k before) since ≡ false
 
--- Then BUS_HUNG is never set by SDA, however long SDA is low and however slow the polling.
+-- Then BUS_HUNG is not shown, by either line, however long SDA is low and however slow the polling.
 abbrev pub ClockNotHung : Type 0
-ClockNotHung = (k : Kind) (rs : List Raw) → ClockRuns k rs → eqb ((run k rs) .bus .lowsda) sdaHungLimit ≡ false
+ClockNotHung = (k : Kind) (rs : List Raw) → ClockRuns k rs → busHung ((run k rs) .bus) ≡ false

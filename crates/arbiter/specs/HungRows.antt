@@ -5,7 +5,7 @@ use Rattle.arbiter.specs.Types.{ℕ, true, not, List, [], _∷_, _++_, P
 use Rattle.arbiter.specs.State.{busHung}
 use Rattle.arbiter.specs.Effects.{powerUp}
 use Rattle.arbiter.specs.AuditWords.{throughout}
-use Rattle.arbiter.specs.Marks.{Shown, Row, _is_, command, write, read, lines, tick, pulse, generalCall, sets, times, after_on_, bytes, AsThePaper}
+use Rattle.arbiter.specs.Marks.{Shown, Row, _is_, command, write, read, lines, tick, pulse, generalCall, sets, times, after_on_, bytes, initialising, AsThePaper}
 
 -- ---- what is done to the lines
 
@@ -33,7 +33,7 @@ drivenClock = sets 0 1 0x01 ++ command 0 2 ∷ write 0 0x40 ∷ times 20 tick ++
 abbrev pub statusAfter : List Raw → Shown
 statusAfter es = after es ++ command 0 2 ∷ [] on read 0
 
--- who owns is the third byte; then levels
+-- who owns, and whether it initialises, is the third byte; then levels
 abbrev pub free : ℕ → Shown
 free owner = bytes 0 0x48 owner 0x04
 
@@ -54,6 +54,9 @@ longRows =
     ∷ (statusAfter (sclLow 500) is bytes 0 0x8C 0 0x08)
     -- a refused event restarts nothing, nor does a PULSE, which is refused here
     ∷ (statusAfter (sdaLow 500 ++ lines 2 0 1 ∷ pulse 1 ∷ tick ∷ []) is hung 0)
+    -- nor does a PULSE of an initialisation, which is accepted
+    ∷ (statusAfter (initialising ++ sdaLow 250 ++ pulse 0 ∷ times 250 tick) is free 0x11)
+    ∷ (statusAfter (initialising ++ sdaLow 250 ++ pulse 0 ∷ times 251 tick) is hung 0x11)
     -- no latch: a change of SCL takes the flag back
     ∷ (statusAfter (sdaLow 501 ++ lines 0 0 1 ∷ lines 1 0 1 ∷ []) is free 0)
     ∷ []

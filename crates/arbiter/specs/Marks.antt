@@ -1,13 +1,17 @@
 -- Document 01, "Marked examples", as one table of what the definitions give and what the paper says; and in a second one "Readings we have
--- already paid for" and the winner table seen from outside. proofs/Marks.antt proves each whole.
+-- already paid for", the winner table seen from outside, and M1's trace written, converted and damaged. proofs/Marks.antt proves each whole.
 -- Assumes nothing.
 use mathlib.Core.Path.{_≡_}
 use Prim.Native.Char.{code}
 use Prim.Native.String.{String, [] as empty, _∷_ as _then_}
+use lib.ListN.{take}
 use Rattle.arbiter.specs.Types.{ℕ, zero, suc, List, [], _∷_, _++_, map, Zero, One, Turn, Claims, Kind, Pca9641, Tpt29641, Raw, Answer, Strapped, Address, Unlisted}
 use Rattle.arbiter.specs.Straps.{pins, addressOf}
 use Rattle.arbiter.specs.Steps.{step, run}
+use Rattle.arbiter.specs.Traces.{eventsIn}
 use Rattle.arbiter.specs.Listing.{listing}
+use Rattle.arbiter.specs.OldTraces.{convertedBytes}
+use Rattle.arbiter.specs.Writing.{traceOf}
 
 -- ---- a row: what is found, and what the paper says
 
@@ -228,6 +232,26 @@ contests =
     ∷ (contest (was 1) 0x81 0x81 is owner0)
     ∷ []
 
+-- ---- M1's trace without its kind of part or with a wrong one, and written: requests #101 and #105
+
+-- as it was before #105
+abbrev pub oldM1 : List ℕ
+oldM1 = take 23 m1
+
+unfoldable pub sections : List Row
+sections =
+    -- "10 for a count other than 1, 3 as a whole-call refusal for another kind", and 7 for a byte after that; an old trace is refused with 5
+    (text (listing (oldM1 ++ 0x02 ∷ 0x00 ∷ [])) is text (characters "R10\n"))
+    ∷ (text (listing (oldM1 ++ 0x01 ∷ 0x02 ∷ [])) is text (characters "R3\n"))
+    ∷ (text (listing (m1 ++ 0x00 ∷ [])) is text (characters "R7\n"))
+    ∷ (text (listing oldM1) is text (characters "R5\n"))
+    -- "an accepted old trace with 01 00 added": M1's own, in the 25 bytes that it wants, and nothing in 24
+    ∷ (text (convertedBytes oldM1 25) is text m1)
+    ∷ (text (convertedBytes oldM1 24) is text [])
+    -- its pins and events written
+    ∷ (text (traceOf (pins 0 0 0 0) (eventsIn 4 m1) Pca9641) is text m1)
+    ∷ []
+
 -- ---- the two statements: every row's finding is what the paper says
 
 abbrev pub AsThePaper : List Row → Type 0
@@ -238,4 +262,4 @@ abbrev pub MarksHold : Type 0
 MarksHold = AsThePaper marked
 
 abbrev pub ReadingsHold : Type 0
-ReadingsHold = AsThePaper (paidFor ++ contests)
+ReadingsHold = AsThePaper (paidFor ++ contests ++ sections)

@@ -70,4 +70,4 @@ ConvertedAccepted =
 
 -- "An old trace is refused": with 5, whatever the room.
 abbrev pub OldRefused : Type 0
-OldRefused = (t : List ℕ) (room a : ℕ) → oldNumber t ≡ 0 → addressOf (pinsIn t) ≡ Address a → readTrace t room ≡ Refused TraceCut
+OldRefused = (t : List ℕ) (room : ℕ) → oldNumber t ≡ 0 → readTrace t room ≡ Refused TraceCut

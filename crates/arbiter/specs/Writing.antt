@@ -73,3 +73,10 @@ Bytes t = (i : ℕ) → byteAt i t < 256
 abbrev pub WritesBack : Type 0
 WritesBack =
     (t : List ℕ) (address n room : ℕ) (k : Kind) → Bytes t → readTrace t room ≡ Accepted address n k → traceOf (pinsIn t) (eventsIn n t) k ≡ t
+
+-- ---- the three, which proofs/Back.antt of the crate `writer` fills with one term, so that a lost proof fails the check
+
+pub record UndoEachOther : Type 0 where
+  pub readsBack : ReadsBack
+  pub writesAsGiven : WritesAsGiven
+  pub writesBack : WritesBack

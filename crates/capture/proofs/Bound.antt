@@ -8,12 +8,11 @@ use mathlib.Core.Bool.{true≢false}
 use native.Mathlib.Omega.{arith}
 use lib.ListN.{length-append, length-map}
 use borrow.Author.Tests.{ltb-false}
-use Rattle.arbiter.specs.Traces.{mostEvents}
 use Rattle.arbiter.proofs.Choice.{either, split}
 use Rattle.capture.specs.Names.{ℕ, _+_, _*_, Bool, true, false, not, _&&_, _||_, List, [], _∷_, map, ltb, length, if_then_else_, Master, Zero, One, Stop, Levels, Sign, Steady, Starts, Stops, Clocks, Awaited, NoByte, AddressByte, CommandByte, WriteByte, ReadByte, CallByte, SkippedByte, Listener, Given, Nothing, Written, Gives}
 use Rattle.capture.specs.OneBus.{levels, isStart, isStop, rises, sign, signsAfter, signs, addressed, awaitedAfter, byteGives, owes, isOutside, silent, started, stopped, shifted, ended, atClock, heard, gives, givenFrom, given}
 use Rattle.capture.specs.Events.{fromOne, besideWrite, together, merged, captured}
-use Rattle.capture.specs.Import.{mostSamples}
+use Rattle.capture.specs.Answers.{NineSamples, MostCaptured, CapturedInRange}
 
 -- ---- the weight
 
@@ -204,15 +203,15 @@ merged-few (g ∷ gs) [] = omega arith
 merged-few (g ∷ gs) (h ∷ hs) = omega (arith, together-few g h, merged-few gs hs, length-append (together g h) (merged gs hs))
 
 -- Nine samples an event,
-pub nine-samples : (address : ℕ) (samples : List ℕ) → 9 * length (captured address samples) ≤ length samples
+pub nine-samples : NineSamples
 unfolding captured
 nine-samples address samples =
     omega (arith, bus-fair Zero address samples, bus-fair One address samples, merged-few (given Zero address samples) (given One address samples))
 
 -- so at most 3,640 in a capture that is not refused for its length, and proofs/Densest.antt has one that gives as many:
-pub most-captured : (address : ℕ) (samples : List ℕ) → length samples ≤ mostSamples → length (captured address samples) ≤ 3640
+pub most-captured : MostCaptured
 most-captured address samples h = omega (arith, nine-samples address samples)
 
 -- "No capture gives above 4,096 events".
-pub captured-in-range : (address : ℕ) (samples : List ℕ) → length samples ≤ mostSamples → length (captured address samples) ≤ mostEvents
+pub captured-in-range : CapturedInRange
 captured-in-range address samples h = omega (arith, nine-samples address samples)

@@ -8,12 +8,12 @@ use native.Mathlib.Omega.{arith}
 use lib.ListN.{length}
 use Rattle.arbiter.specs.Events.{decode}
 use Rattle.arbiter.specs.Traces.{rawsIn}
-use Rattle.arbiter.specs.declared.Decoded.the-variants.{Reads}
 use Rattle.capture.specs.Names.{Zero, One, Raw, Event, Command, Write, Read, Stop, Pair, Lines, Tick, Pulse, Reset, GeneralCall}
 use Rattle.capture.specs.Events.{rawOf, fourBytes, eventBytes}
+use Rattle.capture.specs.Answers.{EventsReadBack}
 
 -- what an import writes is what 01 reads
-pub reads-back : (e : Event) → decode (rawOf e) ≡ Reads e
+pub reads-back : EventsReadBack
 unfolding decode rawOf
 reads-back (Command Zero c) = refl
 reads-back (Command One c) = refl

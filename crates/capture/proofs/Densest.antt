@@ -11,6 +11,7 @@ use Rattle.capture.specs.OneBus.{sign, addressed, awaitedAfter, byteGive
 use Rattle.capture.specs.Events.{together, captured}
 use Rattle.capture.specs.Import.{cutOnEither, importNumber}
 use Rattle.capture.specs.Samples.{sampled, bothFrom, eventsFrom, bothAfter, eventsAfter}
+use Rattle.capture.specs.Answers.{MostReached}
 use Rattle.capture.proofs.Joined.{events-joined, cut-joined}
 
 -- ---- the capture
@@ -33,7 +34,7 @@ bytes : ℕ → List ℕ → List ℕ
 bytes zero rest = rest
 bytes (suc n) rest = byte (bytes n rest)
 
-pub densest : List ℕ
+densest : List ℕ
 densest = 0x0F ∷ 0x05 ∷ address (byte (bytes 1818 (0x0F ∷ [])))
 
 -- ---- what it gives
@@ -72,13 +73,13 @@ closing : (eventsFrom 0x70 0x05 both (0x0F ∷ []) ≡ Stop Zero ∷ Stop One �
 unfolding eventsFrom bothFrom sampled sign heard gives stopped together
 closing = (refl, refl)
 
-pub densest-count : length (captured 0x70 densest) ≡ 3640
+densest-count : length (captured 0x70 densest) ≡ 3640
 unfolding densest
 densest-count =
     let rest = bytes 1818 (0x0F ∷ []) in
     omega (arith, ap length (sym (events-joined 0x70 densest) ∙ opening rest .0), all-bytes 1818 (0x0F ∷ []) .0, ap length (closing .0))
 
-pub densest-long : length densest ≡ 32763
+densest-long : length densest ≡ 32763
 unfolding densest
 densest-long = omega (arith, bytes-long 1818 (0x0F ∷ []))
 
@@ -91,6 +92,13 @@ densest-whole =
     ∙ closing .1
 
 -- It is accepted where there is room for 3,640 events, and not with a byte less.
-pub densest-accepted : (importNumber 0x70 densest 14560 ≡ 0) × (importNumber 0x70 densest 14559 ≡ 9)
+pub most-reached : MostReached
 unfolding importNumber
-densest-accepted = (rw (densest-long, densest-whole, densest-count) refl, rw (densest-long, densest-whole, densest-count) refl)
+most-reached =
+    record {
+      address = 0x70;
+      samples = densest;
+      count = densest-count;
+      accepted = rw (densest-long, densest-whole, densest-count) refl;
+      noRoom = rw (densest-long, densest-whole, densest-count) refl;
+    }

@@ -1,12 +1,11 @@
 -- Both buses at once give what each gives by itself.
 -- Assumes nothing.
 use mathlib.Core.Path.{_≡_, refl, ap}
-use mathlib.Core.Bool.{_||_}
 use Rattle.capture.specs.Names.{ℕ, List, [], _∷_, _++_, map, Zero, One, Event, Both}
-use Rattle.capture.specs.OneBus.{levels, signsAfter, signs, heardFrom, givenFrom, given, isCut, cutOn}
+use Rattle.capture.specs.OneBus.{levels, signsAfter, signs, heardFrom, givenFrom, given, cutOn}
 use Rattle.capture.specs.Events.{merged, captured}
-use Rattle.capture.specs.Import.{cutOnEither}
 use Rattle.capture.specs.Samples.{sampled, eventsIn, bothSilent, bothFrom, eventsFrom, bothAfter, eventsAfter}
+use Rattle.capture.specs.Answers.{EventsJoined, CutJoined}
 
 bus-0 : (address before : ℕ) (s : Both) (rest : List ℕ)
     → bothFrom address before s rest .bus0 ≡ heardFrom address (s .bus0) (signsAfter (levels Zero before) (map (levels Zero) rest))
@@ -31,12 +30,12 @@ events-from address before s (now ∷ rest) =
 
 -- ---- a whole capture
 
-pub events-joined : (address : ℕ) (samples : List ℕ) → eventsAfter address samples ≡ captured address samples
+pub events-joined : EventsJoined
 unfolding eventsAfter captured given signs givenFrom merged
 events-joined address [] = refl
 events-joined address (first ∷ rest) = events-from address first bothSilent rest
 
-pub cut-joined : (address : ℕ) (samples : List ℕ) → (isCut (bothAfter address samples .bus0) || isCut (bothAfter address samples .bus1)) ≡ cutOnEither address samples
+pub cut-joined : CutJoined
 unfolding bothAfter cutOn signs heardFrom
 cut-joined address [] = refl
 cut-joined address (first ∷ rest) = rw (bus-0 address first bothSilent rest, bus-1 address first bothSilent rest) refl

@@ -12,12 +12,12 @@ use Rattle.capture.specs.OneBus.{levels, sign, signs, heardFrom, givenFr
 use Rattle.capture.specs.Events.{together, merged, captured}
 use Rattle.capture.specs.Import.{cutOnEither}
 use Rattle.capture.specs.Samples.{sampled, eventsIn, bothSilent, bothFrom, eventsFrom, bothAfter, eventsAfter}
+use Rattle.capture.specs.Answers.{OwnLines, lowBits, UpperBitsIgnored, RepeatedSample}
 use Rattle.capture.proofs.Joined.{events-joined, cut-joined}
 
 -- ---- each bus by itself: what it gives, and whether it refuses, comes of its own two lines alone
 
-pub own-lines : (m : Master) (address : ℕ) (p q : List ℕ) → map (levels m) p ≡ map (levels m) q
-    → (given m address p ≡ given m address q) × (cutOn m address p ≡ cutOn m address q)
+pub own-lines : OwnLines
 unfolding given cutOn
 own-lines m address p q h = (
   ap (λ (l : List Levels). givenFrom m address silent (signs l)) h,
@@ -46,13 +46,12 @@ same-levels One x =
     let b = low-bits x in
     λ j. record { scl = eqb (b .2 j) 1; sda = eqb (b .3 j) 1 }
 
-same-lines : (m : Master) (samples : List ℕ) → map (levels m) (map (λ (x : ℕ). x % 16) samples) ≡ map (levels m) samples
+same-lines : (m : Master) (samples : List ℕ) → map (levels m) (lowBits samples) ≡ map (levels m) samples
 same-lines m [] = refl
 same-lines m (x ∷ rest) = λ j. same-levels m x j ∷ same-lines m rest j
 
-pub upper-bits-ignored : (address : ℕ) (samples : List ℕ)
-    → (captured address (map (λ (x : ℕ). x % 16) samples) ≡ captured address samples) × (cutOnEither address (map (λ (x : ℕ). x % 16) samples) ≡ cutOnEither address samples)
-upper-bits-ignored address samples = both-lines address (map (λ (x : ℕ). x % 16) samples) samples λ m. same-lines m samples
+pub upper-bits-ignored : UpperBitsIgnored
+upper-bits-ignored address samples = both-lines address (lowBits samples) samples λ m. same-lines m samples
 
 -- ---- the sample before again
 
@@ -91,8 +90,7 @@ after-again address x [] q =
     (ap (λ (h : Heard). eventsIn h ++ eventsFrom address x (h .both) q) same, ap (λ (h : Heard). bothFrom address x (h .both) q) same)
 after-again address x (first ∷ p) q = from-again address first x bothSilent p q
 
-pub repeated-sample : (address x : ℕ) (p q : List ℕ)
-    → (captured address (p ++ x ∷ x ∷ q) ≡ captured address (p ++ x ∷ q)) × (cutOnEither address (p ++ x ∷ x ∷ q) ≡ cutOnEither address (p ++ x ∷ q))
+pub repeated-sample : RepeatedSample
 repeated-sample address x p q =
     let same = after-again address x p q in (
       sym (events-joined address (p ++ x ∷ x ∷ q)) ∙ same .0 ∙ events-joined address (p ++ x ∷ q),

@@ -5,3 +5,4 @@ pub mod Bound
 pub mod Laws
 pub mod Densest
 pub mod Examples
+pub mod Answers

@@ -1,6 +1,7 @@
 -- Captures where 02's words could be read in two ways, and what is given. They are of bus 0, with bus 1 idle, unless a row says otherwise.
 -- The device's address is 70h: E0h writes to it and E1h reads. proofs/Examples.antt proves the table whole.
 -- Assumes nothing.
+use mathlib.Core.Path.{_≡_}
 use Rattle.capture.specs.Names.{ℕ, _*_, _%_, Bool, true, false, List, [], _∷_, _++_, map, if_then_else_, bit}
 use Rattle.capture.specs.Import.{importNumber, bufferBy}
 
@@ -84,3 +85,6 @@ found r = r .found
 
 abbrev pub wanted : Row → List ℕ
 wanted r = r .wanted
+
+abbrev pub ExamplesHold : Type 0
+ExamplesHold = map found examples ≡ map wanted examples

@@ -4,3 +4,4 @@ pub mod Events
 pub mod Import
 pub mod Examples
 pub mod Samples
+pub mod Answers

@@ -3,49 +3,22 @@
 use mathlib.Core.Path.{_≡_, _∙_, refl, sym, ap}
 use mathlib.Core.Bool.{Bool, true, false, not}
 use mathlib.Core.List.{List, _++_}
-use Prim.Native.Nat.{ℕ, suc, _+_, _-_, _≤_}
+use Prim.Native.Nat.{ℕ, _+_, _-_, _≤_}
 use native.Mathlib.Omega.{arith}
 use lib.Dec.{eqb, ltb}
 use lib.ListN.{length, drop, length-append, length-drop}
 use lib.Seq.{take-length, take-at, drop-append-add, drop-drop, paste}
 use borrow.Author.Tests.{eq-eqb, ne-eqb, eqb-true, eqb-false, ltb-false, le-ltb}
 use Rattle.arbiter.specs.declared.Kind.the-variants.{Pca9641}
-use Rattle.arbiter.specs.declared.Strapped.{Strapped}
-use Rattle.arbiter.specs.declared.Strapped.the-variants.{Address, Unlisted}
 use Rattle.arbiter.specs.Words.{if_then_else_}
-use Rattle.arbiter.specs.Straps.{addressOf}
-use Rattle.arbiter.specs.Traces.{pinCount, pinBytes, headBytes, mostEvents, mostBytes, kindBytes, eventsEnd, wholeBytes, kindSection, byteAt, pinsIn, countIn}
-use Rattle.arbiter.specs.OldTraces.{oldStrapped, oldNumber, converted, convertedNumber, convertedBytes, conversion, bufferConverted}
+use Rattle.arbiter.specs.Traces.{mostBytes, kindBytes, eventsEnd, wholeBytes, kindSection, countIn}
+use Rattle.arbiter.specs.OldTraces.{oldNumber, converted, convertedNumber, convertedBytes, conversion, bufferConverted}
 use Rattle.arbiter.specs.declared.Written.{Written}
+use Rattle.arbiter.proofs.Choice.{passed}
+use Rattle.arbiter.proofs.OldTraces.{Whole, old-whole}
 use Rattle.format.specs.Places.{withKind}
 
 -- ---- a number of 0 has passed every test
-
-passed : (b : Bool) (k y : ℕ) → (if b then suc k else y) ≡ 0 → (b ≡ false) × (y ≡ 0)
-passed true k y h = absurd (omega arith)
-passed false k y h = (refl, h)
-
-abbrev Whole : List ℕ → Type 0
-Whole t = (countIn t ≤ mostEvents) × (length t ≡ eventsEnd (countIn t))
-
-strapped-whole : (s : Strapped) (t : List ℕ) → oldStrapped s t ≡ 0 → Whole t
-strapped-whole (Address a) t h =
-    let p1 = passed (ltb (length t) headBytes) 4 _ h in
-    let p2 = passed (ltb mostEvents (countIn t)) 5 _ (p1 .1) in
-    let p3 = passed (ltb (length t) (eventsEnd (countIn t))) 4 _ (p2 .1) in
-    let p4 = passed (ltb (eventsEnd (countIn t)) (length t)) 6 _ (p3 .1) in
-    let long : eventsEnd (countIn t) ≤ length t = ltb-false _ _ (p3 .0) in
-    let short : length t ≤ eventsEnd (countIn t) = ltb-false _ _ (p4 .0) in
-    (ltb-false _ _ (p2 .0), omega arith)
-strapped-whole Unlisted t h = absurd (omega arith)
-
-old-whole : (t : List ℕ) → oldNumber t ≡ 0 → Whole t
-unfolding oldNumber
-old-whole t h =
-    let p1 = passed (ltb (length t) 1) 4 _ h in
-    let p2 = passed (not (eqb (byteAt 0 t) pinCount)) 9 _ (p1 .1) in
-    let p3 = passed (ltb (length t) pinBytes) 4 _ (p2 .1) in
-    strapped-whole (addressOf (pinsIn t)) t (p3 .1)
 
 old-passed : (b : Bool) (k y : ℕ) → eqb k 0 ≡ b → (if not b then k else y) ≡ 0 → (k ≡ 0) × (y ≡ 0)
 old-passed true k y e h = (eqb-true _ _ e, h)
@@ -85,7 +58,7 @@ module _ (t out : List ℕ) (accepted : convertedNumber t (length out) ≡ 0) wh
   room = zero-fits t (length out) accepted .1
 
   end : length t ≡ eventsEnd n
-  end = zero-fits t (length out) accepted .0 .1
+  end = zero-fits t (length out) accepted .0 .2
 
   bytes-are : convertedBytes t (length out) ≡ t ++ section
   unfolding convertedBytes converted
@@ -137,7 +110,7 @@ conversion-few t out = go (eqb (convertedNumber t (length out)) 0) refl
         let accepted = eqb-true _ _ e in
         let whole = zero-fits t (length out) accepted .0 in
         let size = ap (λ (w : Written). w .length) (all-converted t out accepted) in
-        omega (arith, size, whole .0, whole .1)
+        omega (arith, size, whole .1, whole .2)
     go false e =
         let size = ap (λ (w : Written). w .length) (refused-converted t out _ refl (eqb-false _ _ e)) in
         omega (arith, size)

@@ -13,7 +13,7 @@ use Rattle.arbiter.specs.declared.Strapped.{Strapped}
 use Rattle.arbiter.specs.declared.Strapped.the-variants.{Address, Unlisted}
 use Rattle.arbiter.specs.declared.Strapping.{Strapping}
 use Rattle.arbiter.specs.declared.Strapping.the-variants.{Straps, Outside}
-use Rattle.straps.specs.Laws.{BackToPins, BackToAddress, NoneOutside, OneStrapping}
+use Rattle.straps.specs.Laws.{BackToPins, BackToAddress, NoneOutside, OneStrapping, StrapsHold}
 use Rattle.straps.proofs.Worked.{coded, allSettings, at-setting, workedPins, pins-worked}
 
 -- ---- pins that have an address are listed, and so each has a code
@@ -117,3 +117,6 @@ straps-told a s e = (e, ap strappingNumber e ∙ number (inRange a) refl)
     number : (b : Bool) → inRange a ≡ b → strappingNumber (strapsOf a) ≡ (if b then 0 else 11)
     number true h = ap strappingNumber (back-to-address a h .1)
     number false h = ap strappingNumber (none-outside a h)
+
+pub straps-hold : StrapsHold
+straps-hold = record { backToPins = back-to-pins; backToAddress = back-to-address; noneOutside = none-outside; oneStrapping = one-strapping }

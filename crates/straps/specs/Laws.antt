@@ -24,3 +24,10 @@ NoneOutside = (a : ℕ) → inRange a ≡ false → strapsOf a ≡ Outside
 -- exactly one: two strappings of one address are the same
 abbrev pub OneStrapping : Type 0
 OneStrapping = (p q : Pins) (a : ℕ) → addressOf p ≡ Address a → addressOf q ≡ Address a → p ≡ q
+
+-- all of them, which proofs/Laws.antt fills with one term, so that a lost proof fails the check
+pub record StrapsHold : Type 0 where
+  pub backToPins : BackToPins
+  pub backToAddress : BackToAddress
+  pub noneOutside : NoneOutside
+  pub oneStrapping : OneStrapping

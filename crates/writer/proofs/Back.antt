@@ -9,7 +9,7 @@ use lib.ListN.{length, take, drop, length-append, length-drop, take-append-drop,
 use lib.Seq.{drop-cons, drop-drop, length-take-le, getD-at, getD-append-add}
 use Rattle.arbiter.specs.Straps.{addressOf}
 use Rattle.arbiter.specs.Traces.{pinCount, headBytes, eventBytes, eventsEnd, kindCount, kindBytes, wholeBytes, byteAt, pinsIn, countIn, rawsIn, eventsIn, kindNumber, kindSection, kindAt, readTrace}
-use Rattle.arbiter.specs.Writing.{traceHead, rawsBytes, traceOf, ReadsBack, WritesAsGiven, Bytes, WritesBack}
+use Rattle.arbiter.specs.Writing.{traceHead, rawsBytes, traceOf, ReadsBack, WritesAsGiven, Bytes, WritesBack, UndoEachOther}
 use Rattle.arbiter.specs.declared.Kind.{Kind}
 use Rattle.arbiter.specs.declared.Pins.{Pins}
 use Rattle.arbiter.specs.declared.Raw.{Raw}
@@ -170,3 +170,6 @@ writes-back t address n room k bytes accepted =
     ap (λ (m : ℕ). traceHead (pinsIn t) m ++ rawsBytes (eventsIn n t) ++ kindSection k) (raws-length n (drop headBytes t))
     ∙ ap (λ (l : List ℕ). traceHead (pinsIn t) n ++ l) (rest-is t address n room k bytes accepted)
     ∙ head-is t address n room k bytes accepted
+
+pub undo-each-other : UndoEachOther
+undo-each-other = record { readsBack = reads-back; writesAsGiven = as-given; writesBack = writes-back }

@@ -3,26 +3,22 @@
 use mathlib.Core.Path.{_≡_, _∙_, refl, sym, ap}
 use mathlib.Core.Bool.{Bool, true, false, not}
 use mathlib.Core.List.{List, _++_}
-use Prim.Native.Nat.{ℕ, suc, _+_, _*_, _-_, _%_, _≤_}
+use Prim.Native.Nat.{ℕ, _+_, _*_, _-_, _%_, _≤_}
 use native.Mathlib.Omega.{arith}
 use lib.Dec.{eqb, ltb}
 use lib.ListN.{length, drop, length-append, length-drop}
 use lib.Seq.{take-length, take-at, drop-append-add, drop-drop, paste}
 use borrow.Author.Tests.{eq-eqb, ne-eqb, eqb-true, eqb-false, not-false, ltb-false, le-ltb}
-use Rattle.arbiter.specs.Words.{if_then_else_}
 use Rattle.arbiter.specs.Straps.{addressOf, strappedNumber}
 use Rattle.arbiter.specs.Traces.{headBytes, eventBytes, mostEvents, eventsEnd, kindBytes, wholeBytes, mostBytes, rawsIn, kindSection, isKind, kindOf, eventCount}
 use Rattle.arbiter.specs.Writing.{traceHead, rawsBytes, traceOf, writtenNumber, writtenBytes, written, bufferWritten}
 use Rattle.arbiter.specs.declared.Pins.{Pins}
 use Rattle.arbiter.specs.declared.Written.{Written}
+use Rattle.arbiter.proofs.Choice.{passed}
 use Rattle.format.specs.Places.{withHead, withKind}
 use Rattle.writer.proofs.Back.{as-given, raws-length}
 
 -- ---- a number of 0 has passed every test
-
-passed : (b : Bool) (k y : ℕ) → (if b then suc k else y) ≡ 0 → (b ≡ false) × (y ≡ 0)
-passed true k y h = absurd (omega arith)
-passed false k y h = (refl, h)
 
 abbrev pub Fits : List ℕ → ℕ → Type 0
 Fits events room = (length events ≡ eventBytes * eventCount events) × (eventCount events ≤ mostEvents) × (wholeBytes (eventCount events) ≤ room)
