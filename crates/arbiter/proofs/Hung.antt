@@ -17,8 +17,6 @@ use Rattle.arbiter.specs.Hung.{sclMoves, endsLowScl, endsLowSda, Stretch
 use Rattle.arbiter.proofs.Choice.{either, split, if-true, if-false, neither}
 use Rattle.arbiter.proofs.Cases.{run-keeps}
 use Rattle.arbiter.proofs.Runs.{from-append, never-comes}
-use Rattle.arbiter.proofs.Effects.{counts}
-use Rattle.arbiter.proofs.Raws.{takes}
 use Rattle.arbiter.proofs.Settled.{Still, parts-ready}
 use Rattle.arbiter.proofs.LowCounts.{next-still, scl-next, scl-restarts, sda-next}
 

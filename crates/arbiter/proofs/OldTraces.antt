@@ -11,7 +11,7 @@ use Rattle.arbiter.specs.Types.{ℕ, _+_, _*_, not, List, [], _∷_, _++
 use Rattle.arbiter.specs.Straps.{addressOf}
 use Rattle.arbiter.specs.Effects.{powerUp}
 use Rattle.arbiter.specs.Steps.{answersFrom}
-use Rattle.arbiter.specs.Traces.{pinCount, pinBytes, headBytes, eventBytes, mostEvents, eventsEnd, wholeBytes, kindCount, kindNumber, kindSection, kindAt, byteAt, pinsIn, countIn, rawsIn, eventsIn, readKind, readTrace, answersIn}
+use Rattle.arbiter.specs.Traces.{pinCount, pinBytes, headBytes, eventBytes, mostEvents, eventsEnd, wholeBytes, kindCount, kindNumber, kindSection, kindAt, byteAt, pinsIn, countIn, rawsIn, eventsIn, readKind, readTrace}
 use Rattle.arbiter.specs.OldTraces.{oldCounted, oldStrapped, oldNumber, converted, ConvertedAccepted, OldRefused}
 use Rattle.arbiter.proofs.Choice.{passed}
 use Rattle.arbiter.proofs.Traces.{reads-on, accepts, raws-before}

@@ -7,7 +7,7 @@ use Prim.Native.Nat.{ℕ, _+_, _-_, _≤_}
 use native.Mathlib.Omega.{arith}
 use lib.Dec.{eqb, ltb}
 use lib.ListN.{length, drop, length-append, length-drop}
-use lib.Seq.{take-length, take-at, drop-append-add, drop-drop, paste}
+use lib.Seq.{take-at, drop-append-add, drop-drop}
 use borrow.Author.Tests.{eq-eqb, ne-eqb, eqb-true, eqb-false, ltb-false, le-ltb}
 use Rattle.arbiter.specs.declared.Kind.the-variants.{Pca9641}
 use Rattle.arbiter.specs.Words.{if_then_else_}
@@ -16,7 +16,7 @@ use Rattle.arbiter.specs.OldTraces.{oldNumber, converted, convertedNumber, conv
 use Rattle.arbiter.specs.declared.Written.{Written}
 use Rattle.arbiter.proofs.Choice.{passed}
 use Rattle.arbiter.proofs.OldTraces.{Whole, old-whole}
-use Rattle.format.specs.Places.{withKind}
+use Rattle.format.specs.Places.{withBytes, withKind}
 
 -- ---- a number of 0 has passed every test
 
@@ -71,10 +71,11 @@ module _ (t out : List ℕ) (accepted : convertedNumber t (length out) ≡ 0) wh
   unfolding conversion
   all-converted = simp (accepted, bytes-are) (ap (λ (k : ℕ). record { number = 0; length = k }) (sym size))
 
-  pasted : paste out 0 t (length t) ≡ t ++ drop (eventsEnd n) out
-  pasted =
+  placed : withBytes out 0 t ≡ t ++ drop (eventsEnd n) out
+  unfolding withBytes
+  placed =
       let front : 0 + length t ≡ eventsEnd n = omega (arith, end) in
-      ap (λ (l : List ℕ). l ++ drop (0 + length t) out) (take-length t) ∙ ap (λ (k : ℕ). t ++ drop k out) front
+      simp (le-ltb (length out) (0 + length t) (omega (arith, room))) (ap (λ (k : ℕ). t ++ drop k out) front)
 
   kinded : withKind (t ++ drop (eventsEnd n) out) n Pca9641 ≡ (t ++ section) ++ drop (wholeBytes n) out
   unfolding withKind
@@ -88,11 +89,11 @@ module _ (t out : List ℕ) (accepted : convertedNumber t (length out) ≡ 0) wh
       ∙ drop-append-add t (drop (eventsEnd n) out) kindBytes
       ∙ drop-drop kindBytes (eventsEnd n) out))
 
-  pub all-stored : (first last : List ℕ) → first ≡ paste out 0 t (length t) → last ≡ withKind first n Pca9641 → last ≡ bufferConverted t out
+  pub all-stored : (first last : List ℕ) → first ≡ withBytes out 0 t → last ≡ withKind first n Pca9641 → last ≡ bufferConverted t out
   unfolding bufferConverted
   all-stored first last e l =
       l
-      ∙ ap (λ (b : List ℕ). withKind b n Pca9641) (e ∙ pasted)
+      ∙ ap (λ (b : List ℕ). withKind b n Pca9641) (e ∙ placed)
       ∙ kinded
       ∙ ap (λ (k : ℕ). (t ++ section) ++ drop k out) whole
       ∙ ap (λ (b : List ℕ). b ++ drop (length b) out) (sym bytes-are)

@@ -1,8 +1,5 @@
 // A trace from before the kind of part (#105), written into a lent buffer with the section of a PCA9641 added.
-ghost use Prim.Native.Nat.{_≤_};
 ghost use mathlib.Core.Path.{_≡_};
-ghost use lib.ListN.{length};
-ghost use lib.Seq.{paste};
 ghost use Rattle.arbiter.specs.OldTraces.{oldCounted, oldNumber, convertedNumber, conversion, bufferConverted};
 use arbiter::Kind;
 use arbiter::Strapped;
@@ -15,6 +12,7 @@ use format::PIN_COUNT;
 use format::count_in;
 use format::events_end;
 use format::pins_in;
+use format::put_bytes;
 use format::put_kind;
 use straps::address_of;
 
@@ -76,18 +74,6 @@ fn convert_number(t: &[u8], room: usize) -> u8
 
 // ---- the trace
 
-// The old trace at the front of the buffer, byte by byte.
-fn put_old(out: &mut [u8], t: &[u8])
-    requires { ⌜ length (now t) ≤ length (now out) ⌝ }
-    ensures { λ _. ⌜ now (out .exit) ≡ paste (now (out .entry)) 0 (now (t .entry)) (length (now (t .entry))) ⌝ }
-{
-    let mut i: usize = 0;
-    while i < t.len() {
-        out[i] = t[i];
-        i += 1;
-    }
-}
-
 // An old trace with its section added: its length, and its bytes in the lent buffer. A refusal by number leaves the buffer as it was and
 // has length 0.
 pub fn convert_trace(t: &[u8], out: &mut [u8]) -> Written
@@ -95,7 +81,7 @@ pub fn convert_trace(t: &[u8], out: &mut [u8]) -> Written
 {
     let number = convert_number(t, out.len());
     if number == 0 {
-        put_old(out, t);
+        put_bytes(out, 0, t);
         put_kind(out, count_in(t), Kind::Pca9641);
         return Written {
             number: 0,

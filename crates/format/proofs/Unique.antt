@@ -11,6 +11,7 @@ use Rattle.format.proofs.whole_bytes.Reads as whole-bytes
 use Rattle.format.proofs.pins_in.Reads as pins-in
 use Rattle.format.proofs.count_in.Reads as count-in
 use Rattle.format.proofs.put_head.Reads as put-head
+use Rattle.format.proofs.put_bytes.Reads as put-bytes
 use Rattle.format.proofs.events_in.{signature, ended}
 use Rattle.format.proofs.events_in.Reads as events-in
 use Rattle.format.proofs.event_at.Reads as event-at
@@ -36,6 +37,9 @@ count-in-once κ a x y s t p q = once p q
 
 pub put-head-once : OneLeft (λ κ s. now (s .0)) put-head.Post
 put-head-once κ a x y s t p q = (refl, once p q)
+
+pub put-bytes-once : OneLeft (λ κ s. now (s .0)) put-bytes.Post
+put-bytes-once κ a x y s t p q = (refl, once p q)
 
 -- of the part of a trace that is handed back: what is read there
 pub events-in-once : (κ : Lfts 1) (a : Args signature κ) (x y : Res signature κ) (s t : AtExit ended κ) → events-in.Post κ a x s → events-in.Post κ a y t → now x ≡ now y

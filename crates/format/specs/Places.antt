@@ -1,5 +1,5 @@
 -- Where the head of a trace, its events and its kind are, and where the answers go, for any bytes: a place past their end has no event and
--- takes no answer.
+-- takes neither answer nor byte.
 -- Assumes nothing.
 use Prim.Native.Nat.{ℕ, _+_, _*_}
 use mathlib.Core.List.{List, [], _++_}
@@ -16,6 +16,10 @@ use Rattle.arbiter.specs.declared.Answer.{Answer}
 -- a buffer with the head of a trace of n events, if it has room for that
 unfoldable pub withHead : List ℕ → Pins → ℕ → List ℕ
 withHead buffer p n = if ltb (length buffer) headBytes then buffer else traceHead p n ++ drop headBytes buffer
+
+-- a buffer with these bytes from a place on, if it has room for them
+unfoldable pub withBytes : List ℕ → ℕ → List ℕ → List ℕ
+withBytes buffer at bytes = if ltb (length buffer) (at + length bytes) then buffer else take at buffer ++ bytes ++ drop (at + length bytes) buffer
 
 -- the bytes of a trace's events: none where it ends before they do
 unfoldable pub eventsPart : List ℕ → List ℕ

@@ -1,10 +1,12 @@
 // The format of a trace: its sections, where each begins and how long it is. Whoever reads, runs, lists or writes a trace has these from
 // here. A trace is a count byte and the four pins, a two-byte count of events, then the events, four bytes each, and last a count byte and
 // the kind of part.
-ghost use Prim.Native.Nat.{_<_};
+ghost use Prim.Native.Nat.{_+_, _<_, _≤_};
 ghost use mathlib.Core.Path.{_≡_};
+ghost use lib.ListN.{length};
+ghost use lib.Seq.{paste};
 ghost use Rattle.arbiter.specs.Traces.{byteAt, pinsIn, countIn, eventsEnd, wholeBytes, kindNumber, isKind, kindOf, kindAt};
-ghost use Rattle.format.specs.Places.{withHead, eventsPart, eventAt, withKind, withAnswer};
+ghost use Rattle.format.specs.Places.{withHead, withBytes, eventsPart, eventAt, withKind, withAnswer};
 use arbiter::Answer;
 use arbiter::Kind;
 use arbiter::Pins;
@@ -94,6 +96,31 @@ pub fn put_head(out: &mut [u8], p: Pins, n: u16)
         out[4] = p.ad0;
         out[5] = (n % 256) as u8;
         out[6] = (n / 256) as u8;
+    }
+}
+
+// ---- bytes as they are
+
+// These bytes from a place on, one after the other.
+fn copy_bytes(out: &mut [u8], at: usize, bytes: &[u8])
+    requires { ⌜ at + length (now bytes) ≤ length (now out) ⌝ }
+    ensures { λ _. ⌜ now (out .exit) ≡ paste (now (out .entry)) at (now (bytes .entry)) (length (now (bytes .entry))) ⌝ }
+{
+    let mut i: usize = 0;
+    while i < bytes.len() {
+        out[at + i] = bytes[i];
+        i += 1;
+    }
+}
+
+// The same in a buffer that has room for them.
+pub fn put_bytes(out: &mut [u8], at: usize, bytes: &[u8])
+    ensures { λ _. ⌜ now (out .exit) ≡ withBytes (now (out .entry)) at (now (bytes .entry)) ⌝ }
+{
+    if bytes.len() <= out.len() {
+        if at <= out.len() - bytes.len() {
+            copy_bytes(out, at, bytes);
+        }
     }
 }
 

@@ -7,7 +7,7 @@ use Prim.Native.Nat.{ℕ, _+_, _*_, _-_, _%_, _≤_}
 use native.Mathlib.Omega.{arith}
 use lib.Dec.{eqb, ltb}
 use lib.ListN.{length, drop, length-append, length-drop}
-use lib.Seq.{take-length, take-at, drop-append-add, drop-drop, paste}
+use lib.Seq.{take-at, drop-append-add, drop-drop}
 use borrow.Author.Tests.{eq-eqb, ne-eqb, eqb-true, eqb-false, not-false, ltb-false, le-ltb}
 use Rattle.arbiter.specs.Straps.{addressOf, strappedNumber}
 use Rattle.arbiter.specs.Traces.{headBytes, eventBytes, mostEvents, eventsEnd, kindBytes, wholeBytes, mostBytes, rawsIn, kindSection, isKind, kindOf, eventCount}
@@ -15,7 +15,7 @@ use Rattle.arbiter.specs.Writing.{traceHead, rawsBytes, traceOf, writtenNumber,
 use Rattle.arbiter.specs.declared.Pins.{Pins}
 use Rattle.arbiter.specs.declared.Written.{Written}
 use Rattle.arbiter.proofs.Choice.{passed}
-use Rattle.format.specs.Places.{withHead, withKind}
+use Rattle.format.specs.Places.{withHead, withBytes, withKind}
 use Rattle.writer.proofs.Back.{as-given, raws-length}
 
 -- ---- a number of 0 has passed every test
@@ -88,11 +88,14 @@ module _ (p : Pins) (kind : ℕ) (events out : List ℕ) (accepted : writtenNumb
   unfolding withHead
   headed = simp (le-ltb (length out) headBytes (omega (arith, fits .2)))
 
-  pasted : paste (head ++ drop headBytes out) headBytes events (length events) ≡ (head ++ events) ++ drop (eventsEnd n) out
-  pasted =
-      ap (λ (l : List ℕ). (head ++ l) ++ drop (headBytes + length events) (head ++ drop headBytes out)) (take-length events)
-      ∙ ap (λ (l : List ℕ). (head ++ events) ++ l) (drop-append-add head (drop headBytes out) (length events) ∙ drop-drop (length events) headBytes out)
-      ∙ ap (λ (k : ℕ). (head ++ events) ++ drop k out) sum-at
+  placed : withBytes (head ++ drop headBytes out) headBytes events ≡ (head ++ events) ++ drop (eventsEnd n) out
+  unfolding withBytes
+  placed =
+      let whole = length-append head (drop headBytes out) in
+      let rest = length-drop headBytes out in
+      simp (le-ltb (length (head ++ drop headBytes out)) (headBytes + length events) (omega (arith, whole, rest, sum-at, fits .2)))
+      (ap (λ (l : List ℕ). (head ++ events) ++ l) (drop-append-add head (drop headBytes out) (length events) ∙ drop-drop (length events) headBytes out)
+      ∙ ap (λ (k : ℕ). (head ++ events) ++ drop k out) sum-at)
 
   -- the kind after them
   kinded : withKind ((head ++ events) ++ drop (eventsEnd n) out) n (kindOf kind) ≡ (head ++ events ++ section) ++ drop (wholeBytes n) out
@@ -107,11 +110,11 @@ module _ (p : Pins) (kind : ℕ) (events out : List ℕ) (accepted : writtenNumb
       ∙ drop-append-add (head ++ events) (drop (eventsEnd n) out) kindBytes
       ∙ drop-drop kindBytes (eventsEnd n) out))
 
-  pub all-stored : (first second last : List ℕ) → first ≡ withHead out p n → second ≡ paste first headBytes events (length events) → last ≡ withKind second n (kindOf kind) → last ≡ bufferWritten p kind events out
+  pub all-stored : (first second last : List ℕ) → first ≡ withHead out p n → second ≡ withBytes first headBytes events → last ≡ withKind second n (kindOf kind) → last ≡ bufferWritten p kind events out
   unfolding bufferWritten
   all-stored first second last h e l =
       l
-      ∙ ap (λ (b : List ℕ). withKind b n (kindOf kind)) (e ∙ ap (λ (d : List ℕ). paste d headBytes events (length events)) (h ∙ headed) ∙ pasted)
+      ∙ ap (λ (b : List ℕ). withKind b n (kindOf kind)) (e ∙ ap (λ (b : List ℕ). withBytes b headBytes events) (h ∙ headed) ∙ placed)
       ∙ kinded
       ∙ ap (λ (k : ℕ). (head ++ events ++ section) ++ drop k out) whole
       ∙ ap (λ (b : List ℕ). b ++ drop (length b) out) (sym bytes-are)

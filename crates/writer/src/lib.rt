@@ -1,9 +1,5 @@
 // A trace written from its pins, its kind of part and its events into a lent buffer, as the reader takes it.
-ghost use Prim.Native.Nat.{_+_, _≤_};
 ghost use mathlib.Core.Path.{_≡_};
-ghost use lib.ListN.{length};
-ghost use lib.Seq.{paste};
-ghost use Rattle.arbiter.specs.Traces.{headBytes};
 ghost use Rattle.arbiter.specs.Writing.{writtenNumber, written, bufferWritten};
 ghost use Rattle.writer.specs.Numbers.{bodyNumber};
 use arbiter::Pins;
@@ -15,6 +11,7 @@ use format::KIND_BYTES;
 use format::MOST_EVENTS;
 use format::is_kind;
 use format::kind_of;
+use format::put_bytes;
 use format::put_head;
 use format::put_kind;
 use straps::address_of;
@@ -53,18 +50,6 @@ fn write_number(p: Pins, kind: u8, events: &[u8], room: usize) -> u8
 
 // ---- the trace
 
-// The events' bytes after the head, as they are given.
-fn put_events(out: &mut [u8], events: &[u8])
-    requires { ⌜ headBytes + length (now events) ≤ length (now out) ⌝ }
-    ensures { λ _. ⌜ now (out .exit) ≡ paste (now (out .entry)) headBytes (now (events .entry)) (length (now (events .entry))) ⌝ }
-{
-    let mut i: usize = 0;
-    while i < events.len() {
-        out[HEAD_BYTES + i] = events[i];
-        i += 1;
-    }
-}
-
 // The trace of these pins, this kind of part and these events: its length, and its bytes in the lent buffer. A refusal by number leaves
 // the buffer as it was and has length 0. No event is looked at.
 pub fn write_trace(p: Pins, kind: u8, events: &[u8], out: &mut [u8]) -> Written
@@ -74,7 +59,7 @@ pub fn write_trace(p: Pins, kind: u8, events: &[u8], out: &mut [u8]) -> Written
     if number == 0 {
         let n = (events.len() / EVENT_BYTES) as u16;
         put_head(out, p, n);
-        put_events(out, events);
+        put_bytes(out, HEAD_BYTES, events);
         put_kind(out, n, kind_of(kind));
         return Written {
             number: 0,

@@ -1,10 +1,13 @@
-//! Holds `docs/PROMISES.md` to the code. [`faults`] tells in sentences where the two differ; a repository in order has none.
+//! Holds `docs/PROMISES.md` to the code. [`faults`] tells in sentences where the two differ; a repository in order has none. [`unsealed`] tells
+//! of proofs that open the rules of a kind of part.
 
 mod calls;
 mod edits;
 mod list;
+mod sealed;
 mod tree;
 
+pub use sealed::unsealed;
 pub use tree::Tree;
 
 use calls::{calls_of, Call};

@@ -10,10 +10,8 @@ use Rattle.converter.proofs.convert_trace.Tie as tie
 convert-number-requires : tie.Need-convert-number-requires
 convert-number-requires c κs = search needs
 
-put-old-requires : tie.Need-put-old-requires
-put-old-requires c κs =
-    let fits = zero-fits _ _ (sym (c .before .before .convert-number .ensures) ∙ c .before .if1 .taken) in
-    omega (arith, fits .1)
+put-bytes-requires : tie.Need-put-bytes-requires
+put-bytes-requires c κs = search needs
 
 count-in-requires : tie.Need-count-in-requires
 count-in-requires c κs = search needs
@@ -35,7 +33,7 @@ returns c =
     let passed = old .before .before in
     let accepted = sym (passed .before .convert-number .ensures) ∙ passed .if1 .taken in (
       all-converted _ _ accepted,
-      all-stored _ _ accepted _ _ (old .put-old .ensures) (simp (counted .count-in .ensures) at (put .put-kind .ensures)),
+      all-stored _ _ accepted _ _ (old .put-bytes .ensures) (simp (counted .count-in .ensures) at (put .put-kind .ensures)),
     )
 
 returns-2 : tie.Need-returns-2
@@ -48,7 +46,7 @@ convert-trace-spec =
     tie.close
     (tie.spec
     convert-number-requires
-    put-old-requires
+    put-bytes-requires
     count-in-requires
     put-kind-requires
     add-t14

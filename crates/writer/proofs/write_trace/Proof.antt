@@ -18,12 +18,8 @@ cast-n c =
 put-head-requires : tie.Need-put-head-requires
 put-head-requires c κs = search needs
 
-put-events-requires : tie.Need-put-events-requires
-put-events-requires c κs =
-    let put = c .before .before .before in
-    let passed = put .before .before in
-    let fits = zero-fits _ _ _ _ (sym (passed .before .write-number .ensures) ∙ passed .if1 .taken) in
-    omega (arith, fits .0, fits .2, put .put-head .kept .0)
+put-bytes-requires : tie.Need-put-bytes-requires
+put-bytes-requires c κs = search needs
 
 kind-of-requires : tie.Need-kind-of-requires
 kind-of-requires c κs = search needs
@@ -48,7 +44,7 @@ returns c =
     let passed = head .before .before in
     let accepted = sym (passed .before .write-number .ensures) ∙ passed .if1 .taken in (
       all-written _ _ _ _ accepted,
-      all-stored _ _ _ _ accepted _ _ _ (head .put-head .ensures) (events .put-events .ensures) (simp (kind .before .kind-of .ensures) at (kind .put-kind .ensures)),
+      all-stored _ _ _ _ accepted _ _ _ (head .put-head .ensures) (events .put-bytes .ensures) (simp (kind .before .kind-of .ensures) at (kind .put-kind .ensures)),
     )
 
 returns-2 : tie.Need-returns-2
@@ -63,7 +59,7 @@ write-trace-spec =
     write-number-requires
     cast-n
     put-head-requires
-    put-events-requires
+    put-bytes-requires
     kind-of-requires
     put-kind-requires
     add-t10

@@ -1,4 +1,4 @@
--- `writer::put_events` meets its contract: after i turns the first i bytes stand after the head.
+-- `format::copy_bytes` meets its contract: after i turns the first i bytes stand at their places.
 -- Assumes nothing.
 use Prim.Native.Nat.{ℕ, _+_, _≤_, _-_}
 use mathlib.Core.Path.{_≡_, refl, sym, ap, _∙_}
@@ -7,18 +7,17 @@ use native.Mathlib.Numerals.{add-one}
 use native.Mathlib.Omega.{arith}
 use lib.ListN.{length, getD, set, length-set}
 use lib.Seq.{paste, paste-zero, paste-suc}
-use Rattle.arbiter.specs.Traces.{headBytes}
-use Rattle.writer.proofs.put_events.Statement.{statement}
-use Rattle.writer.proofs.put_events.Tie as tie
+use Rattle.format.proofs.copy_bytes.Statement.{statement}
+use Rattle.format.proofs.copy_bytes.Tie as tie
 
 abbrev Inv-loop : tie.InvT-loop
-Inv-loop out₀ events i₀ out i = (i ≤ length events) × (length out ≡ length out₀) × (out ≡ paste out₀ headBytes events i)
+Inv-loop out₀ at bytes i₀ out i = (i ≤ length bytes) × (length out ≡ length out₀) × (out ≡ paste out₀ at bytes i)
 
 abbrev μ-loop : tie.MeasureT-loop
-μ-loop out₀ events i₀ out i = length events - i
+μ-loop out₀ at bytes i₀ out i = length bytes - i
 
 loop-holds : tie.Need-loop-holds Inv-loop μ-loop
-loop-holds c = (omega arith, refl, paste-zero (c .args .out .now) headBytes (c .args .events .now))
+loop-holds c = (omega arith, refl, paste-zero (c .args .out .now) (c .args .at) (c .args .bytes .now))
 
 shared-slice-read-out : tie.Need-shared-slice-read-out Inv-loop μ-loop
 shared-slice-read-out c = omega arith
@@ -37,15 +36,15 @@ loop-less c = omega arith
 
 loop-again : tie.Need-loop-again Inv-loop μ-loop
 loop-again c =
-    let at = c .before .before .loop in
+    let here = c .before .before .loop in
     let start = c .before .before .before .args in
     let out₀ = start .out .now in
-    let events = start .events .now in (
+    let bytes = start .bytes .now in (
       omega arith,
-      simp length-set (at .inv .1),
-      ap (λ (l : List ℕ). set l (headBytes + at .i) (getD events (at .i) 0)) (at .inv .2)
-          ∙ paste-suc out₀ headBytes events (at .i) 0 (omega arith) (omega arith)
-          ∙ ap (paste out₀ headBytes events) (sym (add-one (at .i))),
+      simp length-set (here .inv .1),
+      ap (λ (l : List ℕ). set l (start .at + here .i) (getD bytes (here .i) 0)) (here .inv .2)
+          ∙ paste-suc out₀ (start .at) bytes (here .i) 0 (omega arith) (omega arith)
+          ∙ ap (paste out₀ (start .at) bytes) (sym (add-one (here .i))),
     )
 
 same-length : tie.Need-same-length Inv-loop μ-loop
@@ -54,11 +53,11 @@ same-length c = c .before .loop .inv .1
 returns : tie.Need-returns Inv-loop μ-loop
 returns c =
     let start = c .before .before .args in
-    let e : c .before .loop .i ≡ length (start .events .now) = omega arith in
-    c .before .loop .inv .2 ∙ ap (paste (start .out .now) headBytes (start .events .now)) e
+    let e : c .before .loop .i ≡ length (start .bytes .now) = omega arith in
+    c .before .loop .inv .2 ∙ ap (paste (start .out .now) (start .at) (start .bytes .now)) e
 
-pub put-events-spec : {M : Type 1} → statement M
-put-events-spec =
+pub copy-bytes-spec : {M : Type 1} → statement M
+copy-bytes-spec =
     tie.close
     (tie.spec
     Inv-loop
