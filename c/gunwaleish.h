@@ -1,6 +1,6 @@
 /* The proved model of a PCA9641 bus arbiter, and of its second source TPT29641, for C and C++.
  *
- * Link with libgunwaleish.a, which `rt staticlib gunwaleish` writes to target/staticlib/ (x86-64).
+ * Link with libgunwaleish.a, which `tools/library` writes to target/staticlib/.
  *
  * What a caller owes, since C cannot say it: a pointer is never null, also with length 0; the bytes it points to are there for that
  * length; and the two ranges of one call do not overlap. Any bytes are taken as a trace, as events or as samples.

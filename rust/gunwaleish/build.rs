@@ -1,6 +1,6 @@
 //! Finds the proved library and has it linked.
 //!
-//! It stands where `rt staticlib gunwaleish` writes it, or in the folder that GUNWALEISH_LIB_DIR
+//! It stands where `tools/library` writes it, or in the folder that GUNWALEISH_LIB_DIR
 //! names (a full path).
 
 use std::env;
@@ -17,7 +17,7 @@ fn main() {
     println!("cargo::rerun-if-changed={}", library.display());
     if !library.is_file() {
         println!(
-            "cargo::error=The proved library is not at {}; run: rt staticlib gunwaleish",
+            "cargo::error=The proved library is not at {}; run: tools/library",
             library.display()
         );
         return;

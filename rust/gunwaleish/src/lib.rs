@@ -1,8 +1,7 @@
 //! The proved model of a PCA9641 bus arbiter, and of its second source TPT29641, for Rust.
 //!
 //! The work is done by a static library whose every function is proved. This crate gives its
-//! numbers and bytes names and nothing more. Build the library first, with `rt staticlib
-//! gunwaleish`; it links on x86-64.
+//! numbers and bytes names and nothing more. Build the library first, with `tools/library`.
 //!
 //! A trace is one byte string: the count 4 and the pins AD3 to AD0; a two-byte low-first count of
 //! events and four bytes an event; the count 1 and the kind of part, 0 for a PCA9641 or 1 for a
