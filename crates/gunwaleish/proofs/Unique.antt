@@ -7,6 +7,8 @@ use Rattle.gunwaleish.proofs.gunwaleish_write_trace.Reads as gunwaleish
 use Rattle.gunwaleish.proofs.gunwaleish_convert_trace.Reads as gunwaleish-convert-trace
 use Rattle.gunwaleish.proofs.gunwaleish_listing.Reads as gunwaleish-listing
 use Rattle.gunwaleish.proofs.gunwaleish_import_capture.Reads as gunwaleish-import-capture
+use Rattle.gunwaleish.proofs.gunwaleish_sheet_box.Reads as gunwaleish-sheet-box
+use Rattle.gunwaleish.proofs.gunwaleish_sheet_events.Reads as gunwaleish-sheet-events
 use Rattle.gunwaleish.proofs.gunwaleish_address_of.Reads as gunwaleish-address-of
 use Rattle.gunwaleish.proofs.gunwaleish_pins_of.Reads as gunwaleish-pins-of
 
@@ -24,6 +26,12 @@ gunwaleish-listing-once κ a x y s t p q = (once (p .0) (q .0), once (p .1) (q .
 
 pub gunwaleish-import-capture-once : OneLeft (λ κ s. now (s .1 .1 .0)) gunwaleish-import-capture.Post
 gunwaleish-import-capture-once κ a x y s t p q = (once (p .0) (q .0), once (p .1) (q .1))
+
+pub gunwaleish-sheet-box-once : OneResult gunwaleish-sheet-box.Post
+gunwaleish-sheet-box-once κ a x y s t p q = once p q
+
+pub gunwaleish-sheet-events-once : OneLeft (λ κ s. now (s .1 .1 .0)) gunwaleish-sheet-events.Post
+gunwaleish-sheet-events-once κ a x y s t p q = (once (p .0) (q .0), once (p .1) (q .1))
 
 pub gunwaleish-address-of-once : OneResult gunwaleish-address-of.Post
 gunwaleish-address-of-once κ a x y s t p q = once p q

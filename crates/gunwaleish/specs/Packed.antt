@@ -10,6 +10,10 @@ use Rattle.arbiter.specs.declared.Strapped.{Strapped}
 use Rattle.arbiter.specs.declared.Strapping.{Strapping}
 use Rattle.arbiter.specs.declared.Strapping.the-variants.{Straps, Outside}
 use Rattle.capture.specs.declared.Imported.{Imported}
+use Rattle.sheets.specs.Sheets.{placeNumber}
+use Rattle.sheets.specs.declared.Ordered.{Ordered}
+use Rattle.sheets.specs.declared.Place.{Place}
+use Rattle.sheets.specs.declared.Place.the-variants.{Board, House, Refused}
 
 -- a report: the number, the address, from 65,536 on the count of events, and from 4,294,967,296 on the kind of part
 abbrev pub packedReport : Report → ℕ
@@ -22,6 +26,20 @@ packedWritten w = w .number + 256 * w .length
 -- an import: the number, and from 256 on the count of events
 abbrev pub packedImport : Imported → ℕ
 packedImport r = r .number + 256 * r .count
+
+-- a box of an order sheet: the number; then the sheet, 1 the board sheet and 2 the house sheet; and from 65,536 on the byte of it at which the
+-- box starts (0 and 0 where there is none)
+abbrev pub packedWhere : Place → ℕ
+packedWhere (Board at) = 256 * 1 + 65536 * at
+packedWhere (House at) = 256 * 2 + 65536 * at
+packedWhere (Refused f) = 0
+
+abbrev pub packedBox : Place → ℕ
+packedBox p = placeNumber p + packedWhere p
+
+-- the events of two order sheets: the number, and from 256 on the count of events
+abbrev pub packedOrder : Ordered → ℕ
+packedOrder o = o .number + 256 * o .count
 
 -- an address: the number, and the address (00h where there is none)
 abbrev pub packedAddress : Strapped → ℕ

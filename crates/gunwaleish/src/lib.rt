@@ -1,4 +1,4 @@
-// The library for Rust and C: traces, captures and straps over numbers and byte slices. A slice passes as a pointer and then a length.
+// The library for Rust and C: traces, captures, order sheets and straps over numbers and byte slices. A slice passes as a pointer and then a length.
 ghost use Prim.Native.Nat.{_<_};
 ghost use mathlib.Core.Path.{_≡_};
 ghost use lib.ListN.{length};
@@ -9,13 +9,19 @@ ghost use Rattle.arbiter.specs.Writing.{written, bufferWritten};
 ghost use Rattle.arbiter.specs.Listing.{listing};
 ghost use Rattle.text.specs.Written.{textAfter};
 ghost use Rattle.capture.specs.Import.{imported, importedBuffer};
+ghost use Rattle.sheets.specs.Sheets.{placeOf};
+ghost use Rattle.sheets.specs.Orders.{ordered, orderedBuffer};
 ghost use Rattle.arbiter.specs.declared.Strapping.the-variants.{Straps};
-ghost use Rattle.gunwaleish.specs.Packed.{packedReport, packedWritten, packedImport, packedAddress, packedPins};
+ghost use Rattle.gunwaleish.specs.Packed.{packedReport, packedWritten, packedImport, packedBox, packedOrder, packedAddress, packedPins};
 use arbiter::Pins;
 use arbiter::Strapped;
 use arbiter::Strapping;
 use converter::convert_trace;
 use importing::import_capture;
+use sheets::Place;
+use sheets::lookup::place_of;
+use sheets::orders::order_events;
+use sheets::sheet::fault_number;
 use straps::address_of;
 use straps::straps_of;
 use text::list_trace;
@@ -78,6 +84,33 @@ pub extern "C" fn gunwaleish_import_capture(samples: &[u8], address: u8, events:
 {
     let r = import_capture(samples, address, events);
     byte(r.number) + 256 * (r.count as u64)
+}
+
+// Where the box of a section and a controller is taken from, of a board sheet and a house sheet.
+#[no_mangle]
+pub extern "C" fn gunwaleish_sheet_box(
+    board: &[u8],
+    house: &[u8],
+    section: u8,
+    controller: u8,
+) -> u64
+    ensures { λ r. ⌜ r ≡ packedBox (placeOf section controller (now (board .entry)) (now (house .entry))) ⌝ }
+{
+    let found = place_of(board, house, section, controller);
+    match found {
+        Place::Board(at) => 256 + 65536 * (at as u64),
+        Place::House(at) => 512 + 65536 * (at as u64),
+        Place::Refused(why) => byte(fault_number(why)),
+    }
+}
+
+// The twelve events that a board sheet and a house sheet order, into a lent buffer.
+#[no_mangle]
+pub extern "C" fn gunwaleish_sheet_events(board: &[u8], house: &[u8], events: &mut [u8]) -> u64
+    ensures { λ r. ⌜ (r ≡ packedOrder (ordered (now (board .entry)) (now (house .entry)) (now (events .entry)))) × (now (events .exit) ≡ orderedBuffer (now (board .entry)) (now (house .entry)) (now (events .entry))) ⌝ }
+{
+    let told = order_events(board, house, events);
+    byte(told.number) + 256 * (told.count as u64)
 }
 
 // The address of four pins.

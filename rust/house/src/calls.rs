@@ -49,7 +49,7 @@ pub fn calls_of(tree: &Tree) -> Vec<Call> {
 fn public_name(line: &str) -> Option<&str> {
     let rest = line.trim_start().strip_prefix("pub ")?;
     let rest = rest.strip_prefix("extern \"C\" ").unwrap_or(rest);
-    rest.strip_prefix("fn ")?.split('(').next()
+    rest.strip_prefix("fn ")?.split(['(', '<']).next()
 }
 
 fn main_name(line: &str) -> Option<&str> {

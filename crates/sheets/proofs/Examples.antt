@@ -1,0 +1,11 @@
+-- Every row of the tables of specs/Examples.antt holds: antt computes each.
+-- Assumes nothing.
+use mathlib.Core.Path.{refl}
+use Rattle.sheets.specs.Sheets.{countsRight, boxRight, flagRight, boxesRight, checkSheet, checkPair, placeAt, boxOn, placeOf, partOf}
+use Rattle.sheets.specs.Orders.{tickedOnEither, isComplete, valueAt, settingOf, orderOf, controlByte, orderEvents, readComplete, readOrder, orderedOf, bufferOf, ordered, orderedBuffer}
+use Rattle.sheets.specs.Examples.{lookups, calls, ExamplesHold}
+
+pub examples-hold : ExamplesHold
+unfolding countsRight boxRight flagRight boxesRight checkSheet checkPair placeAt boxOn placeOf partOf tickedOnEither isComplete valueAt settingOf orderOf
+    controlByte orderEvents readComplete readOrder orderedOf bufferOf ordered orderedBuffer lookups calls
+examples-hold = (refl, refl)

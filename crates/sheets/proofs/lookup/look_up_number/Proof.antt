@@ -1,0 +1,46 @@
+-- `sheets::lookup::look_up_number` meets its contract.
+-- Assumes nothing.
+use Rattle.sheets.specs.Sheets.{placeOf}
+use borrow.Author.Needs.{needs}
+use Rattle.sheets.proofs.lookup.look_up_number.Statement.{statement}
+use Rattle.sheets.proofs.lookup.look_up_number.Tie as tie
+
+place-of-requires : tie.Need-place-of-requires
+place-of-requires c κs = search needs
+
+enum-told : tie.Need-enum-told
+enum-told c = search needs
+
+enum-told-2 : tie.Need-enum-told-2
+enum-told-2 c = search needs
+
+enum-known-why : tie.Need-enum-known-why
+enum-known-why c = search needs
+
+fault-number-requires : tie.Need-fault-number-requires
+fault-number-requires c κs = search needs
+
+returns : tie.Need-returns
+unfolding placeOf
+returns c = simp (c .enum-told .given .1, ← c .before .before .place-of .ensures)
+
+returns-2 : tie.Need-returns-2
+unfolding placeOf
+returns-2 c = simp (c .enum-told2 .given .1, ← c .before .before .place-of .ensures)
+
+returns-3 : tie.Need-returns-3
+unfolding placeOf
+returns-3 c = simp (← c .fault-number .ensures, c .before .before .why .given .1, ← c .before .before .before .before .place-of .ensures)
+
+pub look-up-number-spec : {M : Type 1} → statement M
+look-up-number-spec =
+    tie.close
+    (tie.spec
+    place-of-requires
+    enum-told
+    enum-told-2
+    enum-known-why
+    fault-number-requires
+    returns
+    returns-2
+    returns-3)

@@ -1,0 +1,39 @@
+-- `sheets::lookup::place_of` meets its contract.
+-- Assumes nothing.
+use mathlib.Core.Path.{sym, _∙_}
+use Rattle.sheets.specs.Sheets.{placeOf}
+use Rattle.sheets.proofs.Sound.{pair-long}
+use borrow.Author.Needs.{needs}
+use Rattle.sheets.proofs.lookup.place_of.Statement.{statement}
+use Rattle.sheets.proofs.lookup.place_of.Tie as tie
+
+check-pair-requires : tie.Need-check-pair-requires
+check-pair-requires c κs = search needs
+
+enum-told : tie.Need-enum-told
+enum-told c = search needs
+
+box-on-requires : tie.Need-box-on-requires
+box-on-requires c κs = pair-long _ _ (sym (c .before .before .check-pair .ensures) ∙ c .enum-told .given .1)
+
+enum-known-checked : tie.Need-enum-known-checked
+enum-known-checked c = search needs
+
+returns : tie.Need-returns
+unfolding placeOf
+returns c = simp (← c .box-on .ensures, c .before .enum-told .given .1, ← c .before .before .before .check-pair .ensures)
+
+returns-2 : tie.Need-returns-2
+unfolding placeOf
+returns-2 c = simp (c .before .checked .given .1, ← c .before .before .before .check-pair .ensures)
+
+pub place-of-spec : {M : Type 1} → statement M
+place-of-spec =
+    tie.close
+    (tie.spec
+    check-pair-requires
+    enum-told
+    box-on-requires
+    enum-known-checked
+    returns
+    returns-2)

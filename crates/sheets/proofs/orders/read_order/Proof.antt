@@ -1,0 +1,39 @@
+-- `sheets::orders::read_order` meets its contract.
+-- Assumes nothing.
+use mathlib.Core.Path.{sym, _∙_}
+use Rattle.sheets.specs.Orders.{readOrder}
+use Rattle.sheets.proofs.Sound.{pair-long}
+use borrow.Author.Needs.{needs}
+use Rattle.sheets.proofs.orders.read_order.Statement.{statement}
+use Rattle.sheets.proofs.orders.read_order.Tie as tie
+
+check-pair-requires : tie.Need-check-pair-requires
+check-pair-requires c κs = search needs
+
+enum-told : tie.Need-enum-told
+enum-told c = search needs
+
+read-complete-requires : tie.Need-read-complete-requires
+read-complete-requires c κs = pair-long _ _ (sym (c .before .before .check-pair .ensures) ∙ c .enum-told .given .1)
+
+enum-known-checked : tie.Need-enum-known-checked
+enum-known-checked c = search needs
+
+returns : tie.Need-returns
+unfolding readOrder
+returns c = simp (← c .read-complete .ensures, c .before .enum-told .given .1, ← c .before .before .before .check-pair .ensures)
+
+returns-2 : tie.Need-returns-2
+unfolding readOrder
+returns-2 c = simp (c .before .checked .given .1, ← c .before .before .before .check-pair .ensures)
+
+pub read-order-spec : {M : Type 1} → statement M
+read-order-spec =
+    tie.close
+    (tie.spec
+    check-pair-requires
+    enum-told
+    read-complete-requires
+    enum-known-checked
+    returns
+    returns-2)

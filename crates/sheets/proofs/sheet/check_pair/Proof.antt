@@ -1,0 +1,37 @@
+-- `sheets::sheet::check_pair` meets its contract.
+-- Assumes nothing.
+use Rattle.sheets.specs.Sheets.{checkPair}
+use borrow.Author.Needs.{needs}
+use Rattle.sheets.proofs.sheet.check_pair.Statement.{statement}
+use Rattle.sheets.proofs.sheet.check_pair.Tie as tie
+
+check-sheet-requires : tie.Need-check-sheet-requires
+check-sheet-requires c κs = search needs
+
+enum-told : tie.Need-enum-told
+enum-told c = search needs
+
+check-sheet-requires-2 : tie.Need-check-sheet-requires-2
+check-sheet-requires-2 c κs = search needs
+
+enum-known-first : tie.Need-enum-known-first
+enum-known-first c = search needs
+
+returns : tie.Need-returns
+unfolding checkPair
+returns c = simp (← c .check-sheet2 .ensures, c .before .enum-told .given .1, ← c .before .before .before .check-sheet .ensures)
+
+returns-2 : tie.Need-returns-2
+unfolding checkPair
+returns-2 c = simp (c .before .first .given .1, ← c .before .before .before .check-sheet .ensures)
+
+pub check-pair-spec : {M : Type 1} → statement M
+check-pair-spec =
+    tie.close
+    (tie.spec
+    check-sheet-requires
+    enum-told
+    check-sheet-requires-2
+    enum-known-first
+    returns
+    returns-2)

@@ -1,0 +1,7 @@
+pub mod Sheets
+pub mod Orders
+pub mod Stored
+pub mod Laws
+pub mod Started
+pub mod Examples
+pub mod Answers
