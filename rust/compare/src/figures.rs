@@ -5,6 +5,7 @@ use std::fmt;
 
 use model::happenings::{kinds_of, Happenings};
 use model::part::BOTH_KINDS;
+use model::sheets::SHEET_SIGHTS;
 use model::sightings::SIGHTS;
 use model::trace::hex;
 use model::{read_trace, TraceResult};
@@ -12,6 +13,7 @@ use model::{read_trace, TraceResult};
 use crate::check::{check_listing, check_run, Difference};
 use crate::converting::check_convert;
 use crate::importing::check_import;
+use crate::ordering::{check_box, check_sheet_events};
 use crate::writing::{check_write, check_write_again};
 
 /// The calls that answer a number, each with the numbers that have to occur.
@@ -20,6 +22,8 @@ const CALLS: &[(&str, &[u8])] = &[
     ("write", &[0, 3, 5, 6, 8, 9]),
     ("convert", &[0, 5, 6, 7, 8, 9, 10]),
     ("import", &[0, 9, 11, 12, 13]),
+    ("look up", &[0, 3, 5, 7, 10, 14, 15]),
+    ("sheet events", &[0, 3, 5, 7, 9, 10, 14]),
 ];
 /// So many mismatches are told in full. The rest are only counted.
 const TOLD: usize = 3;
@@ -35,7 +39,7 @@ pub struct Figures {
     listings: u64,
     /// What happened in runs, one for each kind of part.
     happenings: [Happenings; 2],
-    /// What was seen in captures.
+    /// What was seen in captures and on order sheets.
     sights: Happenings,
     mismatches: u64,
     told: Vec<String>,
@@ -89,6 +93,28 @@ impl Figures {
                 let call = format!("address {address:02X}h, room {room}");
                 self.tell("capture", samples, &format!("{call}; {difference}"))
             }
+        }
+    }
+
+    /// Looks up a box on both sides and counts it.
+    pub fn look_up(&mut self, board: &[u8], house: &[u8], section: u8, controller: u8) {
+        match check_box(board, house, section, controller) {
+            Ok(number) => {
+                self.answered("look up", number);
+                self.sights.see_box(board, house, section, controller);
+            }
+            Err(difference) => self.tell("board", board, &difference),
+        }
+    }
+
+    /// Has the twelve events written on both sides and counts it.
+    pub fn sheet_events(&mut self, board: &[u8], house: &[u8], room: usize) {
+        match check_sheet_events(board, house, room) {
+            Ok(number) => {
+                self.answered("sheet events", number);
+                self.sights.see_sheet_events(board, house);
+            }
+            Err(difference) => self.tell("board", board, &difference),
         }
     }
 
@@ -184,8 +210,8 @@ impl Figures {
         self.mismatches == 0
     }
 
-    /// Every kind of happening in runs, for each kind of part, and every sight in captures, each
-    /// with its count.
+    /// Every kind of happening in runs, for each kind of part, and every sight in captures and on
+    /// order sheets, each with its count.
     fn occurred(&self) -> Vec<(String, u64)> {
         let mut all = vec![];
         for (part, happenings) in BOTH_KINDS.into_iter().zip(&self.happenings) {
@@ -193,7 +219,8 @@ impl Figures {
                 kinds_of(part).map(|name| (format!("{part:?}: {name}"), happenings.count(name))),
             );
         }
-        all.extend(SIGHTS.iter().map(|name| (name.to_string(), self.sights.count(name))));
+        let sights = SIGHTS.iter().chain(SHEET_SIGHTS);
+        all.extend(sights.map(|name| (name.to_string(), self.sights.count(name))));
         all
     }
 

@@ -35,7 +35,7 @@ pub fn check_import(samples: &[u8], address: u8, room: usize) -> Result<u8, Diff
 }
 
 /// Every byte of the buffer counts, also those that have to stay.
-fn same_events(count: usize, expected: &[u8], events: &[u8]) -> Result<(), Difference> {
+pub fn same_events(count: usize, expected: &[u8], events: &[u8]) -> Result<(), Difference> {
     let Some(place) = (0..expected.len()).find(|&at| expected[at] != events[at]) else {
         return Ok(());
     };

@@ -3,6 +3,7 @@
 use std::thread;
 
 use compare::fixed::*;
+use compare::ordering::{sheets_one_by_one, sheets_side_by_side};
 use compare::{clock_seed, round, seed_or, Figures};
 use model::traces::seed_of;
 
@@ -28,6 +29,8 @@ fn main() {
     all_addresses(&mut figures);
     captures_about_bytes(&mut figures);
     short_captures(&mut figures);
+    sheets_one_by_one(&mut figures);
+    sheets_side_by_side(&mut figures);
     print!("{figures}{}", figures.happenings());
     let never = figures.never();
     if !never.is_empty() {

@@ -4,6 +4,7 @@
 use std::io::Write;
 
 use compare::fixed::*;
+use compare::ordering::{sheets_one_by_one, sheets_side_by_side};
 use compare::{clock_seed, round, seed_or, Figures};
 use model::traces::seed_of;
 
@@ -79,4 +80,14 @@ fn captures_about_the_bounds_of_bytes() {
 #[test]
 fn every_short_capture() {
     check_all(short_captures);
+}
+
+#[test]
+fn every_byte_of_an_order_sheet() {
+    check_all(sheets_one_by_one);
+}
+
+#[test]
+fn order_sheets_refused_side_by_side() {
+    check_all(sheets_side_by_side);
 }

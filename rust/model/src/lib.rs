@@ -17,9 +17,11 @@
 //! - `writer`: a trace out of pins, kind and events (document 02, #101).
 //! - `converter`: an old trace given its third section (document 02, #105).
 //! - `capture`: a logic-analyser capture turned into events (document 02, #104).
+//! - `sheet`: the order sheet (document 02, #106).
 //! - `rng`, `phrases`, `waits`, `traces`, `damage`: random cases for the tests.
 //! - `happenings`, `hanging`, `second_part`, `kinds`: what happens in them.
 //! - `pen`, `captures`, `capture_damage`, `sightings`: random captures, and what is seen in them.
+//! - `sheets`: random order sheets, and what is seen in them.
 //! - `stored`: the traces that the repository keeps as one set.
 
 pub mod bytes;
@@ -38,6 +40,8 @@ pub mod pen;
 pub mod phrases;
 pub mod rng;
 pub mod second_part;
+pub mod sheet;
+pub mod sheets;
 pub mod sightings;
 pub mod step;
 pub mod stored;
@@ -51,6 +55,7 @@ pub use capture::{import_capture, Imported};
 pub use converter::convert_trace;
 pub use device::Device;
 pub use part::Kind;
+pub use sheet::{look_up, sheet_events};
 pub use straps::{address_of, pins_of};
 pub use trace::{listing, read_trace, run_trace, Trace, TraceResult};
 pub use writer::{write_trace, Written};
