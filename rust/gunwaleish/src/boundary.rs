@@ -3,9 +3,9 @@
 //!
 //! This is the only file with `unsafe`. Every call is sound for the same four reasons. A Rust
 //! slice passes as its pointer and its length, as the library asks. The pointer of a Rust slice
-//! is never null, also that of an empty one. A `&[u8]` and a `&mut [u8]` never overlap. And the
-//! library is proved to read and write inside the slices alone, to keep nothing of them, and to
-//! end.
+//! is never null, also that of an empty one. A `&[u8]` and a `&mut [u8]` never overlap; two
+//! `&[u8]` may, since they are only read. And the library is proved to read and write inside the
+//! slices alone, to keep nothing of them, and to end.
 
 extern "C" {
     fn gunwaleish_run_trace(
@@ -43,6 +43,22 @@ extern "C" {
         samples: *const u8,
         samples_len: usize,
         address: u8,
+        events: *mut u8,
+        events_len: usize,
+    ) -> u64;
+    fn gunwaleish_sheet_box(
+        board: *const u8,
+        board_len: usize,
+        house: *const u8,
+        house_len: usize,
+        section: u8,
+        controller: u8,
+    ) -> u64;
+    fn gunwaleish_sheet_events(
+        board: *const u8,
+        board_len: usize,
+        house: *const u8,
+        house_len: usize,
         events: *mut u8,
         events_len: usize,
     ) -> u64;
@@ -100,5 +116,25 @@ pub fn import_capture(samples: &[u8], address: u8, events: &mut [u8]) -> u64 {
     unsafe {
         let (to, to_len) = (events.as_mut_ptr(), events.len());
         gunwaleish_import_capture(from, from_len, address, to, to_len)
+    }
+}
+
+/// The number, then the sheet (1 board, 2 house) and the byte of it at which the box starts, packed
+/// as 1, 256 and 65536. A refusal has 0 above its number.
+pub fn sheet_box(board: &[u8], house: &[u8], section: u8, controller: u8) -> u64 {
+    let (board, board_len) = (board.as_ptr(), board.len());
+    let (house, house_len) = (house.as_ptr(), house.len());
+    // SAFETY: see the head of this file.
+    unsafe { gunwaleish_sheet_box(board, board_len, house, house_len, section, controller) }
+}
+
+/// The number, then the count of events, packed as 1 and 256.
+pub fn sheet_events(board: &[u8], house: &[u8], events: &mut [u8]) -> u64 {
+    let (board, board_len) = (board.as_ptr(), board.len());
+    let (house, house_len) = (house.as_ptr(), house.len());
+    // SAFETY: see the head of this file.
+    unsafe {
+        let (to, to_len) = (events.as_mut_ptr(), events.len());
+        gunwaleish_sheet_events(board, board_len, house, house_len, to, to_len)
     }
 }

@@ -27,6 +27,10 @@
 //! # Ok::<(), gunwaleish::Refusal>(())
 //! ```
 //!
+//! Where the events of a start-up come from is an order sheet: `sheet_box` looks up a box on a board
+//! sheet and a house sheet, and `sheet_events` gives the events that they order. An empty box is
+//! refused, and never becomes a value.
+//!
 //! The calls whose names end in `_into`, and `run_trace`, work on bytes in lent buffers and
 //! allocate nothing.
 
@@ -38,6 +42,7 @@ mod part;
 mod pins;
 mod refusal;
 mod run;
+mod sheet;
 mod writing;
 
 pub use answer::{Answer, Outcome};
@@ -47,6 +52,9 @@ pub use part::Part;
 pub use pins::Pins;
 pub use refusal::Refusal;
 pub use run::{run, run_trace, Report, Run};
+pub use sheet::{
+    sheet_box, sheet_events, sheet_events_into, Found, Section, Sheet, SHEET_EVENTS, SHEET_LENGTH,
+};
 pub use writing::{convert_trace, convert_trace_into, write_trace, write_trace_into};
 
 /// The most events a trace may have.

@@ -3,6 +3,7 @@
 use std::fmt;
 
 /// A refusal of a whole call. The library keeps to the documents' numbers, and so does `number`.
+/// Where a number says one thing of a trace and another of an order sheet, it has a name for each.
 /// Later calls bring numbers of their own.
 #[derive(Clone, Copy, Debug, PartialEq, Eq, Hash)]
 #[non_exhaustive]
@@ -30,6 +31,20 @@ pub enum Refusal {
     ByteCut,
     /// 13: the capture has more than 32,768 samples.
     TooManySamples,
+    /// 3: of an order sheet: a tick, or a priority's or idle timer's value, is neither 0 nor 1, or a
+    /// box that is not ticked has a value.
+    BadBox,
+    /// 5: an order sheet has under 15 bytes.
+    SheetCut,
+    /// 7: an order sheet has bytes after its 15.
+    BytesAfterSheet,
+    /// 10: a section of an order sheet does not begin with the count 2.
+    WrongBoxCount,
+    /// 14: a box is empty: ticked neither on the board sheet nor on the house sheet.
+    EmptyBox,
+    /// 15: an order sheet has no such section or controller. `sheet_box` takes those that there
+    /// are, so only a caller of `boundary` meets it.
+    NoSuchBox,
     /// A number that no document has here. The proved library never gives one. It
     /// stands here so that nothing has to panic if some other library is linked in its place.
     Unknown(u8),
@@ -50,23 +65,38 @@ impl Refusal {
             11 => Refusal::AddressOutside,
             12 => Refusal::ByteCut,
             13 => Refusal::TooManySamples,
+            14 => Refusal::EmptyBox,
+            15 => Refusal::NoSuchBox,
             other => Refusal::Unknown(other),
         })
+    }
+
+    /// The refusal of this number by a call with order sheets. 0 is no refusal.
+    pub(crate) fn of_sheets(number: u8) -> Option<Refusal> {
+        match number {
+            3 => Some(Refusal::BadBox),
+            5 => Some(Refusal::SheetCut),
+            7 => Some(Refusal::BytesAfterSheet),
+            10 => Some(Refusal::WrongBoxCount),
+            _ => Refusal::of(number),
+        }
     }
 
     /// The document's number.
     pub fn number(self) -> u8 {
         match self {
-            Refusal::NoSuchPart => 3,
-            Refusal::TraceCut => 5,
+            Refusal::NoSuchPart | Refusal::BadBox => 3,
+            Refusal::TraceCut | Refusal::SheetCut => 5,
             Refusal::TooManyEvents => 6,
-            Refusal::BytesAfterEnd => 7,
+            Refusal::BytesAfterEnd | Refusal::BytesAfterSheet => 7,
             Refusal::NoSuchStrapping => 8,
             Refusal::TooLittleRoom => 9,
-            Refusal::WrongCount => 10,
+            Refusal::WrongCount | Refusal::WrongBoxCount => 10,
             Refusal::AddressOutside => 11,
             Refusal::ByteCut => 12,
             Refusal::TooManySamples => 13,
+            Refusal::EmptyBox => 14,
+            Refusal::NoSuchBox => 15,
             Refusal::Unknown(number) => number,
         }
     }
@@ -87,6 +117,14 @@ impl fmt::Display for Refusal {
             Refusal::AddressOutside => "the address is not one of 08h to 77h",
             Refusal::ByteCut => "a START or STOP inside a byte, or the capture ends inside one",
             Refusal::TooManySamples => "the capture has more than 32,768 samples",
+            Refusal::BadBox => {
+                "a tick or value is out of range, or a box that is not ticked has a value"
+            }
+            Refusal::SheetCut => "the sheet has under 15 bytes",
+            Refusal::BytesAfterSheet => "there are bytes after the sheet's end",
+            Refusal::WrongBoxCount => "a section's count is not 2, the boxes of two controllers",
+            Refusal::EmptyBox => "a box is ticked on neither sheet, and an empty box is no value",
+            Refusal::NoSuchBox => "a sheet has no such section or controller",
             Refusal::Unknown(_) => "the library gave a number that no document has here",
         };
         write!(f, "refusal {}: {line}", self.number())
