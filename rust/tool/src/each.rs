@@ -25,6 +25,17 @@ impl Made {
     pub fn refused(why: String) -> Made {
         Made { output: None, refused: Some(why) }
     }
+
+    /// Writes the output there, or to standard output, and then tells the refusal.
+    pub fn hand_out(self, to: Option<&Path>) -> Result<(), Failure> {
+        if let Some(bytes) = self.output {
+            match to {
+                Some(path) => files::write_whole(path, &bytes)?,
+                None => files::print_bytes(&bytes)?,
+            }
+        }
+        self.refused.map_or(Ok(()), |why| Err(Failure::Refused(why)))
+    }
 }
 
 /// How a command goes over its inputs.
@@ -60,14 +71,7 @@ impl<F: Fn(&Input) -> Made> Each<F> {
     }
 
     fn one(&self, file: &Path, output: Option<&Path>) -> Result<(), Failure> {
-        let made = (self.make)(&files::read(file, self.most)?);
-        if let Some(bytes) = made.output {
-            match output {
-                Some(path) => files::write_whole(path, &bytes)?,
-                None => files::print_bytes(&bytes)?,
-            }
-        }
-        made.refused.map_or(Ok(()), |why| Err(Failure::Refused(why)))
+        (self.make)(&files::read(file, self.most)?).hand_out(output)
     }
 
     /// A file that fails is told, and the others go on.
@@ -104,7 +108,7 @@ impl<F: Fn(&Input) -> Made> Each<F> {
     ) -> Result<Vec<Option<PathBuf>>, Failure> {
         let outputs = match output {
             Some(folder) if folder.is_dir() => {
-                files.iter().map(|file| self.in_folder(folder, file).map(Some)).collect()
+                files.iter().map(|file| in_folder(folder, file, self.ending).map(Some)).collect()
             }
             _ if files.len() > 1 => {
                 wrong("many files need a folder for their outputs: -o FOLDER, which is there")
@@ -112,8 +116,7 @@ impl<F: Fn(&Input) -> Made> Each<F> {
             Some(path) if !files::is_standard(path) => Ok(vec![Some(path.to_path_buf())]),
             _ => Ok(vec![None]),
         }?;
-        let inputs: HashSet<PathBuf> =
-            files.iter().filter_map(|file| file.canonicalize().ok()).collect();
+        let inputs = found(files);
         let mut taken: HashMap<&PathBuf, &PathBuf> = HashMap::new();
         for (file, path) in files.iter().zip(&outputs) {
             let Some(path) = path else { continue };
@@ -121,23 +124,49 @@ impl<F: Fn(&Input) -> Made> Each<F> {
                 let (one, two, to) = (other.display(), file.display(), path.display());
                 return wrong(&format!("{one} and {two} would both be written to {to}"));
             }
-            if path.canonicalize().is_ok_and(|path| inputs.contains(&path)) {
-                return wrong(&format!("{} is an input, and is not written over", path.display()));
-            }
+            keep_inputs(path, &inputs)?;
         }
         Ok(outputs)
     }
+}
 
-    fn in_folder(&self, folder: &Path, file: &Path) -> Result<PathBuf, Failure> {
-        let stem = file.file_stem().filter(|_| !files::is_standard(file));
-        let Some(stem) = stem else {
-            return wrong(&format!("{} has no name to use in a folder", files::name_of(file)));
-        };
-        let mut name = stem.to_os_string();
-        name.push(".");
-        name.push(self.ending);
-        Ok(folder.join(name))
+/// Where the one output of several inputs goes; `None` is standard output. In a folder it has the
+/// first one's name, and it takes the place of none of them.
+pub fn output_of(
+    files: &[PathBuf],
+    ending: &str,
+    output: Option<&Path>,
+) -> Result<Option<PathBuf>, Failure> {
+    let path = match (output, files.first()) {
+        (Some(folder), Some(first)) if folder.is_dir() => in_folder(folder, first, ending)?,
+        (Some(path), _) if !files::is_standard(path) => path.to_path_buf(),
+        _ => return Ok(None),
+    };
+    keep_inputs(&path, &found(files))?;
+    Ok(Some(path))
+}
+
+/// The files that are there, by their full names.
+fn found(files: &[PathBuf]) -> HashSet<PathBuf> {
+    files.iter().filter_map(|file| file.canonicalize().ok()).collect()
+}
+
+fn keep_inputs(path: &Path, inputs: &HashSet<PathBuf>) -> Result<(), Failure> {
+    match path.canonicalize().is_ok_and(|path| inputs.contains(&path)) {
+        true => wrong(&format!("{} is an input, and is not written over", path.display())),
+        false => Ok(()),
     }
+}
+
+fn in_folder(folder: &Path, file: &Path, ending: &str) -> Result<PathBuf, Failure> {
+    let stem = file.file_stem().filter(|_| !files::is_standard(file));
+    let Some(stem) = stem else {
+        return wrong(&format!("{} has no name to use in a folder", files::name_of(file)));
+    };
+    let mut name = stem.to_os_string();
+    name.push(".");
+    name.push(ending);
+    Ok(folder.join(name))
 }
 
 fn wrong<T>(what: &str) -> Result<T, Failure> {

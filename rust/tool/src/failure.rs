@@ -5,7 +5,7 @@ use std::process::ExitCode;
 /// What kept a command from being done. The text is for a person.
 #[derive(Clone, Debug, PartialEq, Eq)]
 pub enum Failure {
-    /// The trace, the script or the capture is refused.
+    /// The trace, the script, the capture or an order sheet is refused.
     Refused(String),
     /// The tool was used wrongly, or a file cannot be read or written.
     Wrong(String),

@@ -1,16 +1,19 @@
 //! The tool that people run: a subcommand reads traces (or scripts, or captures) and writes one
-//! thing of each.
+//! thing of each, or reads two order sheets and says what they order.
 //!
 //! Every answer comes from the proved library. What is here is words and pictures: `story` follows
-//! a run and says what changed, `commands` has a file for each subcommand, and `arguments`, `files`
-//! and `each` are the way from the command line to the files and back.
+//! a run and says what changed, `order` says what is on two sheets, `commands` has a file for each
+//! subcommand, and `arguments`, `files` and `each` are the way from the command line to the files
+//! and back.
 
 pub mod arguments;
 pub mod commands;
 pub mod cut;
+pub mod device;
 pub mod each;
 pub mod failure;
 pub mod files;
+pub mod order;
 pub mod picture;
 pub mod script;
 pub mod story;
@@ -56,8 +59,8 @@ pub fn overview() -> String {
          that is there; then each output has its input's name. Many files need such a folder.\n\
          Controller 0 and controller 1 are document 01's masters 0 and 1.\n\n\
          gunwaleish COMMAND --help tells more, with an example. --version gives the version.\n\n\
-         Exit code: 0 done; 1 a trace, script or capture is refused, standard error says why and\n\
-         where; 2 wrong use, or a file that cannot be read or written.\n",
+         Exit code: 0 done; 1 a trace, script, capture or order sheet is refused, standard error\n\
+         says why and where; 2 wrong use, or a file that cannot be read or written.\n",
     );
     text
 }

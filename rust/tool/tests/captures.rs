@@ -4,8 +4,9 @@ use std::fs;
 use std::path::{Path, PathBuf};
 
 use gunwaleish::{import_capture, run, Event, Master, Part, Pins};
-use gunwaleish_tool::commands::import::{import, Device};
+use gunwaleish_tool::commands::import::import;
 use gunwaleish_tool::cut::{cuts, Cut};
+use gunwaleish_tool::device::Device;
 use gunwaleish_tool::files::Input;
 use model::capture::{transfers, Edge, Transfer, MOST_SAMPLES};
 use model::capture_damage::{about_bytes, any_samples, damaged, densest, lengthen};

@@ -1,10 +1,11 @@
 //! `import`: a logic analyser's capture to a trace, or to its script.
 
-use gunwaleish::{import_capture, write_trace, Part, Pins, Refusal, MOST_SAMPLES};
+use gunwaleish::{import_capture, write_trace, Refusal, MOST_SAMPLES};
 
 use super::Command;
 use crate::arguments::Arguments;
 use crate::cut::cuts;
+use crate::device::{read_device, Device};
 use crate::each::{Each, Made};
 use crate::failure::Failure;
 use crate::files::Input;
@@ -28,78 +29,11 @@ pub const COMMAND: Command = Command {
 };
 
 fn run(arguments: &Arguments) -> Result<(), Failure> {
-    let device = device(arguments)?;
+    let device = read_device(COMMAND.name, arguments)?;
     let script = arguments.options.contains_key("--script");
     let ending = if script { "script" } else { "trace" };
     let make = |input: &Input| import(input, device, script);
     Each { most: MOST_SAMPLES, ending, make }.run(arguments)
-}
-
-/// Whom the capture is read for.
-#[derive(Clone, Copy, Debug, PartialEq, Eq)]
-pub struct Device {
-    pub address: u8,
-    pub pins: Pins,
-    pub part: Part,
-}
-
-/// The device that the command line names.
-fn device(arguments: &Arguments) -> Result<Device, Failure> {
-    let words = |name| arguments.options.get(name).map(Vec::as_slice).unwrap_or_default();
-    let (address, pins) = strapping(words("--address"), words("--pins"))?;
-    let part = part(words("--part"))?;
-    Ok(Device { address, pins, part })
-}
-
-/// The address and the pins, out of the words after --address or after --pins.
-fn strapping(address: &[String], pins: &[String]) -> Result<(u8, Pins), Failure> {
-    match (address, pins) {
-        ([address], []) => {
-            let address = number(address)?;
-            let refused = |refusal| wrong(format!("{refusal}{}", as_first_byte(address)));
-            Ok((address, Pins::of_address(address).map_err(refused)?))
-        }
-        ([], [ad3, ad2, ad1, ad0]) => {
-            let pins = Pins::from([number(ad3)?, number(ad2)?, number(ad1)?, number(ad0)?]);
-            let address = pins.address().map_err(|refusal| wrong(refusal.to_string()))?;
-            Ok((address, pins))
-        }
-        ([], []) => Err(wrong("import needs the device: --address, or --pins".to_string())),
-        _ => Err(wrong("--address and --pins are both there".to_string())),
-    }
-}
-
-/// The part, which has no default.
-fn part(words: &[String]) -> Result<Part, Failure> {
-    let either = "--part PCA9641 or --part TPT29641";
-    let [name] = words else {
-        return Err(wrong(format!(
-            "import needs the part: {either}; a kind left out and read as a default is how the \
-             incident came about"
-        )));
-    };
-    let unknown = || wrong(format!("'{}' is no part, expected {either}", name.escape_debug()));
-    Part::named(name).ok_or_else(unknown)
-}
-
-/// A byte in hex. Some people write 70h or 0x70.
-fn number(word: &str) -> Result<u8, Failure> {
-    let digits = word.strip_prefix("0x").or(word.strip_suffix('h')).unwrap_or(word);
-    let plain = (1..=2).contains(&digits.len()) && digits.bytes().all(|c| c.is_ascii_hexdigit());
-    let byte = u8::from_str_radix(digits, 16).ok().filter(|_| plain);
-    byte.ok_or_else(|| wrong(format!("'{}' is no byte in hex", word.escape_debug())))
-}
-
-/// What to do if the address was given as a transfer's first byte.
-fn as_first_byte(byte: u8) -> String {
-    match byte {
-        0x80.. => format!("; if {byte:02X}h is a transfer's first byte, it is {:02X}h", byte / 2),
-        _ => String::new(),
-    }
-}
-
-fn wrong(what: String) -> Failure {
-    Failure::Wrong(format!("{what}; gunwaleish import --help tells more"))
 }
 
 pub fn import(input: &Input, device: Device, script: bool) -> Made {

@@ -7,6 +7,7 @@ pub mod explain;
 pub mod import;
 pub mod list;
 pub mod picture;
+pub mod sheet;
 pub mod wave;
 
 use crate::arguments::Arguments;
@@ -29,6 +30,7 @@ pub struct Command {
 const TRACES: &str = "[TRACE...] [-o OUT]";
 
 pub const COMMANDS: &[Command] = &[
+    sheet::COMMAND,
     list::COMMAND,
     explain::COMMAND,
     compose::COMMAND,

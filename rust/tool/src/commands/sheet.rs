@@ -1,0 +1,129 @@
+//! `sheet`: what two order sheets order, in words, or their events as a trace.
+
+use gunwaleish::{sheet_events, write_trace, Refusal, Sheet, SHEET_LENGTH};
+
+use super::Command;
+use crate::arguments::Arguments;
+use crate::device::{read_device, Device};
+use crate::each::{output_of, Made};
+use crate::failure::Failure;
+use crate::files::{self, is_standard, Input};
+use crate::order::{faults, words, Order};
+use crate::script::write_script;
+
+pub const COMMAND: Command = Command {
+    name: "sheet",
+    summary: "what a board sheet and a house sheet order, in words, or as a trace",
+    usage: "BOARD HOUSE [(--address HEX | --pins AD3 AD2 AD1 AD0) --part NAME [--script]] [-o OUT]",
+    help: "BOARD and HOUSE are two order sheets, 15 bytes each; sheets/README.md has their layout. The\n\
+           output says of each box what is ordered and from which sheet: the board sheet's if it is\n\
+           ticked there, else the house sheet's. A box that is ticked on neither is empty and never\n\
+           becomes a value: all empty boxes are named, and the pair is refused with 14. A ticked\n\
+           reserve of 0 is an order, without limit.\n\n\
+           With a device, named by its address or the codes of its pins and by its part, PCA9641 or\n\
+           TPT29641, the output is not the words but a trace: the twelve events that start the shelf.\n\
+           They fit a fresh device. With --script it is their script, to which tick and lines are\n\
+           added by hand before gunwaleish compose makes a trace of it. Nothing of a pair that is\n\
+           refused is written.\n\n\
+           Exit code: 0 the pair is complete; 1 a box is empty, or a sheet is no sheet: standard error\n\
+           says which, and at which byte; 2 wrong use, or a file that cannot be read or written.",
+    options: &[("--address", 1), ("--pins", 4), ("--part", 1), ("--script", 0)],
+    example: "target/rust/release/gunwaleish sheet sheets/board.sheet sheets/house.sheet",
+    run,
+};
+
+/// What is to be made of the two sheets.
+#[derive(Clone, Copy, Debug, PartialEq, Eq)]
+pub enum Wanted {
+    Words,
+    Trace(Device),
+    Script(Device),
+}
+
+impl Wanted {
+    /// The ending of its name in a folder.
+    fn ending(self) -> &'static str {
+        match self {
+            Wanted::Words => "txt",
+            Wanted::Trace(_) => "trace",
+            Wanted::Script(_) => "script",
+        }
+    }
+}
+
+fn run(arguments: &Arguments) -> Result<(), Failure> {
+    let [board, house] = arguments.files.as_slice() else {
+        let count = arguments.files.len();
+        return Err(wrong(&format!(
+            "sheet needs two files, the board sheet and then the house sheet, and has {count}"
+        )));
+    };
+    if is_standard(board) && is_standard(house) {
+        return Err(wrong("standard input cannot be both sheets"));
+    }
+    let wanted = wanted(arguments)?;
+    let output = output_of(&arguments.files, wanted.ending(), arguments.output.as_deref())?;
+    let read = |path| files::read(path, SHEET_LENGTH);
+    sheet(&read(board)?, &read(house)?, wanted).hand_out(output.as_deref())
+}
+
+fn wanted(arguments: &Arguments) -> Result<Wanted, Failure> {
+    if arguments.options.is_empty() {
+        return Ok(Wanted::Words);
+    }
+    let device = read_device(COMMAND.name, arguments)?;
+    Ok(match arguments.options.contains_key("--script") {
+        true => Wanted::Script(device),
+        false => Wanted::Trace(device),
+    })
+}
+
+fn wrong(what: &str) -> Failure {
+    Failure::Wrong(format!("{what}; gunwaleish sheet --help tells more"))
+}
+
+pub fn sheet(board: &Input, house: &Input, wanted: Wanted) -> Made {
+    let events = match sheet_events(&board.bytes, &house.bytes) {
+        Ok(events) => events,
+        Err(refusal) => {
+            let words = || order_in_words(board, house);
+            let output = (wanted == Wanted::Words).then(words).flatten();
+            return Made { output, refused: Some(refused(board, house, refusal)) };
+        }
+    };
+    match wanted {
+        Wanted::Words => Made { output: order_in_words(board, house), refused: None },
+        Wanted::Script(to) => Made::done(write_script(to.pins, to.part, &events)),
+        Wanted::Trace(to) => match write_trace(to.pins, to.part, &events) {
+            Ok(trace) => Made::done(trace),
+            Err(refusal) => Made::refused(refused(board, house, refusal)),
+        },
+    }
+}
+
+/// What both sheets order, also if boxes are empty. Of what is no sheet there is nothing to say.
+fn order_in_words(board: &Input, house: &Input) -> Option<Vec<u8>> {
+    let order = Order::read(&board.bytes, &house.bytes).ok()?;
+    let (board, house) = (&board.name, &house.name);
+    let told = words::told(&order);
+    Some(format!("board sheet: {board}\nhouse sheet: {house}\n\n{told}").into())
+}
+
+/// Why a pair of sheets is refused: number and words, and the empty boxes by their names, or what is
+/// wrong at which byte of which sheet.
+fn refused(board: &Input, house: &Input, refusal: Refusal) -> String {
+    if let (Refusal::EmptyBox, Ok(order)) = (refusal, Order::read(&board.bytes, &house.bytes)) {
+        let empty: Vec<String> = order.empty().map(words::empty).collect();
+        return format!("{}, {}: {refusal} ({})", board.name, house.name, empty.join("; "));
+    }
+    let sheets = [(board, Sheet::Board), (house, Sheet::House)];
+    let told = sheets.into_iter().filter_map(|(input, which)| {
+        let fault = faults::fault(&input.bytes, which)?;
+        Some(faults::in_words(&input.name, which, &input.bytes, fault))
+    });
+    let told: Vec<String> = told.collect();
+    match told.is_empty() {
+        true => format!("{}, {}: {refusal}", board.name, house.name),
+        false => told.join("; and "),
+    }
+}

@@ -1,0 +1,204 @@
+//! `gunwaleish sheet` as people call it: the samples of `sheets/` with what is said of each, exit
+//! codes, and files in and out.
+
+use std::collections::BTreeSet;
+use std::fs;
+use std::path::{Path, PathBuf};
+use std::process::{Command, Output, Stdio};
+
+const TOOL: &str = env!("CARGO_BIN_EXE_gunwaleish");
+/// The tool's place in what people read.
+const BUILT: &str = "target/rust/release/gunwaleish";
+
+fn root() -> PathBuf {
+    Path::new(env!("CARGO_MANIFEST_DIR")).join("../..")
+}
+
+/// Runs the tool at the repository's root.
+fn run(arguments: &[&str]) -> Output {
+    Command::new(TOOL).args(arguments).current_dir(root()).output().unwrap()
+}
+
+/// Runs a line of a shell there, with the tool that was built for the test.
+fn shell(line: &str) -> Output {
+    let line = line.replace(BUILT, TOOL);
+    Command::new("sh").args(["-c", &line]).current_dir(root()).output().unwrap()
+}
+
+fn code(output: &Output) -> i32 {
+    output.status.code().unwrap()
+}
+
+fn said(output: &Output) -> String {
+    String::from_utf8(output.stderr.clone()).unwrap()
+}
+
+fn text(path: &str) -> String {
+    fs::read_to_string(root().join(path)).unwrap()
+}
+
+/// A folder of a test's own, taken away when the test is over.
+struct Folder(PathBuf);
+
+impl Folder {
+    fn new(name: &str) -> Folder {
+        let path = std::env::temp_dir().join(format!("gunwaleish-{name}-{}", std::process::id()));
+        fs::create_dir_all(&path).unwrap();
+        Folder(path)
+    }
+
+    fn path(&self, name: &str) -> String {
+        self.0.join(name).to_str().unwrap().to_string()
+    }
+}
+
+impl Drop for Folder {
+    fn drop(&mut self) {
+        let _ = fs::remove_dir_all(&self.0);
+    }
+}
+
+/// Each command of the samples' page, what it says word for word, and its exit code, which the line
+/// before it names.
+#[test]
+fn the_samples_say_what_their_page_has() {
+    let page = text("sheets/README.md");
+    let command = format!("\n    {BUILT} sheet ");
+    let mut parts = page.split(&command);
+    let mut before = parts.next().unwrap();
+    let mut ran = 0;
+    for part in parts {
+        let (line, rest) = part.split_once("\n\n```\n").unwrap();
+        let (expected, _) = rest.split_once("```\n").unwrap();
+        let output = shell(&format!("{BUILT} sheet {line} 2>&1"));
+        let found = String::from_utf8(output.stdout.clone()).unwrap();
+        assert!(found == expected, "sheets/README.md: {BUILT} sheet {line} says\n{found}");
+        let named = format!("The exit code is {}.\n", code(&output));
+        assert!(before.ends_with(&named), "{line}: {named}");
+        before = part;
+        ran += 1;
+    }
+    assert_eq!(ran, 5);
+}
+
+/// The page has every sheet with its bytes, and its other command lines work.
+#[test]
+fn the_samples_have_the_bytes_of_their_page() {
+    let page = text("sheets/README.md");
+    let mut files = BTreeSet::new();
+    for line in page.lines().filter(|line| line.contains(".sheet` | `")) {
+        let cells: Vec<&str> = line.split('`').collect();
+        let bytes = cells[3].split(' ').map(|byte| u8::from_str_radix(byte, 16).unwrap());
+        let stored = fs::read(root().join("sheets").join(cells[1])).unwrap();
+        assert_eq!(bytes.collect::<Vec<u8>>(), stored, "{}", cells[1]);
+        files.insert(cells[1].to_string());
+    }
+    files.insert("README.md".to_string());
+    let entries = fs::read_dir(root().join("sheets")).unwrap();
+    let there = entries.map(|entry| entry.unwrap().file_name().into_string().unwrap());
+    assert_eq!(there.collect::<BTreeSet<_>>(), files);
+    let made: Vec<&str> = page.lines().filter(|line| line.starts_with("    printf ")).collect();
+    assert_eq!(made.len(), 1);
+    assert_eq!(code(&shell(made[0])), 0, "{}", made[0]);
+}
+
+/// The commands that the release coordinator is told, in their order. Outputs under target/ go to a
+/// folder of the test's own.
+#[test]
+fn the_coordinators_commands_work() {
+    let folder = Folder::new("coordinator");
+    let page = text("docs/SHEETS.md");
+    let lines = page.lines().filter(|line| line.starts_with(&format!("    {BUILT} ")));
+    let mut ran = 0;
+    for line in lines {
+        let output = shell(&line.replace("-o target/", &format!("-o {}/", folder.path(""))));
+        assert_eq!(code(&output), 0, "{line}: {}", said(&output));
+        ran += 1;
+    }
+    assert!(ran >= 2, "{ran}");
+}
+
+/// An empty box is 1 for a script, with the words or without; a complete pair is 0.
+#[test]
+fn exit_codes_are_for_scripts() {
+    let (empty, full) = ("sheets/board-box14.sheet", "sheets/board.sheet");
+    let device = ["--pins", "0", "0", "0", "1", "--part", "TPT29641"];
+    let words = run(&["sheet", empty, "sheets/house.sheet"]);
+    assert_eq!((code(&words), words.stdout.is_empty()), (1, false));
+    let trace = run(&[&["sheet", empty, "sheets/house.sheet"], &device[..]].concat());
+    assert_eq!((code(&trace), trace.stdout.len()), (1, 0));
+    assert_eq!(said(&trace), said(&words));
+    assert!(said(&trace).contains(": refusal 14: "));
+    let good = run(&["sheet", full, "sheets/house.sheet"]);
+    assert_eq!((code(&good), said(&good).as_str()), (0, ""));
+    let good = run(&[&["sheet", full, "sheets/house.sheet"], &device[..]].concat());
+    assert_eq!((code(&good), said(&good).as_str(), good.stdout.len()), (0, "", 7 + 48 + 2));
+    let no_sheet = run(&["sheet", full, "traces/m1.trace"]);
+    assert_eq!((code(&no_sheet), no_sheet.stdout.len()), (1, 0));
+    assert!(said(&no_sheet).contains("traces/m1.trace, the house sheet: refusal 10: "));
+}
+
+#[test]
+fn wrong_use_is_2() {
+    let (board, house) = ("sheets/board.sheet", "sheets/house.sheet");
+    let cases: [(&[&str], &str); 10] = [
+        (&[], "sheet needs two files, the board sheet and then the house sheet, and has 0"),
+        (&[board], "and has 1"),
+        (&[board, house, house], "and has 3"),
+        (&["-", "-"], "standard input cannot be both sheets"),
+        (&[board, "no-such.sheet"], "no-such.sheet cannot be read"),
+        (&[board, house, "--address", "71"], "sheet needs the part: --part PCA9641 or --part TPT"),
+        (&[board, house, "--part", "PCA9641"], "sheet needs the device: --address, or --pins"),
+        (&[board, house, "--script"], "sheet needs the device: --address, or --pins"),
+        (&[board, house, "-o", house], "sheets/house.sheet is an input, and is not written over"),
+        (&[board, house, "--loud"], "sheet has no option '--loud'"),
+    ];
+    for (arguments, expected) in cases {
+        let output = run(&[&["sheet"], arguments].concat());
+        assert_eq!((code(&output), output.stdout.len()), (2, 0), "{arguments:?}");
+        assert!(said(&output).contains(expected), "{arguments:?}: {}", said(&output));
+    }
+}
+
+/// Into a named file, into a folder under the board sheet's name, and out of standard input.
+#[test]
+fn outputs_go_where_they_should() {
+    let folder = Folder::new("sheets");
+    let to = folder.0.to_str().unwrap();
+    let pair = ["sheet", "sheets/board.sheet", "sheets/house.sheet"];
+    let device = ["--address", "71", "--part", "PCA9641"];
+    let trace = run(&[&pair[..], &device].concat()).stdout;
+    let named = folder.path("start.trace");
+    let all: [&[&str]; 3] = [&["-o", &named], &["-o", to], &["--script", "-o", to]];
+    for options in all {
+        let output = run(&[&pair[..], &device, options].concat());
+        assert_eq!((code(&output), output.stdout.len()), (0, 0), "{}", said(&output));
+    }
+    assert_eq!(code(&run(&[&pair[..], &["-o", to]].concat())), 0);
+    assert_eq!(fs::read(&named).unwrap(), trace);
+    assert_eq!(fs::read(folder.path("board.trace")).unwrap(), trace);
+    assert!(fs::read(folder.path("board.script")).unwrap().starts_with(b"pins 0 0 0 1\n"));
+    assert!(fs::read(folder.path("board.txt")).unwrap().starts_with(b"board sheet: sheets/board"));
+    let mut child = Command::new(TOOL)
+        .args(["sheet", "-", "sheets/house.sheet"])
+        .current_dir(root())
+        .stdin(Stdio::from(fs::File::open(root().join("sheets/board.sheet")).unwrap()))
+        .stdout(Stdio::piped())
+        .spawn()
+        .unwrap();
+    assert!(child.wait().unwrap().success());
+}
+
+/// A pair that is refused leaves the file that was there.
+#[test]
+fn nothing_is_written_of_what_is_refused() {
+    let folder = Folder::new("sheet-refused");
+    let out = folder.path("start.trace");
+    fs::write(&out, "old").unwrap();
+    let device = ["--address", "71", "--part", "PCA9641", "-o", &out];
+    for board in ["sheets/board-box14.sheet", "traces/m1.trace"] {
+        let output = run(&[&["sheet", board, "sheets/house.sheet"], &device[..]].concat());
+        assert_eq!((code(&output), output.stdout.len()), (1, 0));
+        assert_eq!(fs::read(&out).unwrap(), b"old");
+    }
+}
