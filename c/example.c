@@ -1,14 +1,17 @@
 /* Lists a trace, says in words what part it is for and who owns the bus at its end, writes the trace again, takes its part away as in an
- * old trace and has it converted, and shows straps both ways. With a capture it says what that has for the device at 71h.
- * Usage: example TRACE-FILE [CAPTURE-FILE] */
+ * old trace and has it converted, and shows straps both ways. With a capture it says what that has for the device at 71h, and with two order
+ * sheets what they order.
+ * Usage: example TRACE-FILE [CAPTURE-FILE [BOARD-SHEET HOUSE-SHEET]] */
 #include <stdio.h>
 #include <string.h>
 
 #include "gunwaleish.h"
 
-/* One byte more than the longest trace or capture, so that a longer file is refused, with 7 or 13, and not cut to fit. */
+/* One byte more than the longest trace or capture or a sheet, so that a longer file is refused, with 7 or 13, and not cut to fit. */
 static uint8_t trace[GUNWALEISH_MOST_TRACE + 1];
 static uint8_t samples[GUNWALEISH_MOST_SAMPLES + 1];
+static uint8_t board[GUNWALEISH_SHEET_BYTES + 1];
+static uint8_t house[GUNWALEISH_SHEET_BYTES + 1];
 static uint8_t events[GUNWALEISH_MOST_CAPTURED_BYTES];
 static uint8_t answers[GUNWALEISH_MOST_ANSWERS];
 static uint8_t written[GUNWALEISH_MOST_TRACE];
@@ -16,6 +19,7 @@ static uint8_t text[GUNWALEISH_MOST_TEXT];
 
 static const char *const owners[4] = {"nobody", "master 0", "master 1", "?"};
 static const char *const parts[2] = {"PCA9641", "TPT29641"};
+static const char *const sections[3] = {"Downstream reserve, ms", "Priority", "Idle timer"};
 
 /* Whether the first bytes of what was written are those of the trace. */
 static const char *compared(size_t written_length, size_t length) {
@@ -92,6 +96,41 @@ static void show_capture(size_t length, uint8_t address) {
     }
 }
 
+/* One box: its value and the sheet it comes from, or why there is none. */
+static void show_box(size_t board_length, size_t house_length, uint8_t section, uint8_t controller) {
+    uint64_t packed = gunwaleish_sheet_box(board, board_length, house, house_length, section, controller);
+    size_t value_at = gunwaleish_offset(packed) + 1;
+    printf("%s, controller %u: ", sections[section], controller);
+    if (gunwaleish_number(packed) == GUNWALEISH_EMPTY_BOX) {
+        printf("empty on both sheets, number %u\n", gunwaleish_number(packed));
+    } else if (gunwaleish_number(packed) != GUNWALEISH_DONE) {
+        printf("refused, number %u\n", gunwaleish_number(packed));
+    } else if (gunwaleish_sheet(packed) == GUNWALEISH_BOARD_SHEET) {
+        printf("%u, board sheet\n", board[value_at]);
+    } else {
+        printf("%u, house sheet\n", house[value_at]);
+    }
+}
+
+/* Every box, and the events that a trace is then written of. */
+static void show_sheets(size_t board_length, size_t house_length) {
+    uint8_t ordered[GUNWALEISH_SHEET_EVENTS_BYTES];
+    for (uint8_t section = GUNWALEISH_SECTION_RESERVE; section <= GUNWALEISH_SECTION_IDLE; section++) {
+        show_box(board_length, house_length, section, 0);
+        show_box(board_length, house_length, section, 1);
+    }
+    uint64_t result = gunwaleish_sheet_events(board, board_length, house, house_length, ordered, sizeof ordered);
+    if (gunwaleish_number(result) != GUNWALEISH_DONE) {
+        printf("no events: refused, number %u\n", gunwaleish_number(result));
+        return;
+    }
+    uint64_t start = gunwaleish_write_trace(0, 0, 0, 1, GUNWALEISH_PCA9641, ordered, sizeof ordered, written, sizeof written);
+    uint64_t report = gunwaleish_run_trace(written, gunwaleish_length(start), answers, sizeof answers);
+    const uint8_t *last = answers + 4 * (gunwaleish_ordered(result) - 1);
+    printf("%zu events; after them the bus at %02Xh is owned by %s\n", gunwaleish_ordered(result), gunwaleish_address(report),
+           owners[gunwaleish_owner(last[GUNWALEISH_ANSWER_BUS])]);
+}
+
 /* Reads a file into a buffer. Gives 0 if it cannot be opened. */
 static int read_file(const char *name, uint8_t *bytes, size_t room, size_t *length) {
     FILE *file = fopen(name, "rb");
@@ -104,16 +143,23 @@ static int read_file(const char *name, uint8_t *bytes, size_t room, size_t *leng
 }
 
 int main(int argc, char **argv) {
-    size_t trace_length = 0;
-    size_t capture_length = 0;
-    if (argc < 2 || argc > 3 || !read_file(argv[1], trace, sizeof trace, &trace_length) ||
-        (argc == 3 && !read_file(argv[2], samples, sizeof samples, &capture_length))) {
-        fprintf(stderr, "usage: example TRACE-FILE [CAPTURE-FILE], which can be read\n");
+    size_t lengths[4] = {0, 0, 0, 0};
+    uint8_t *const buffers[4] = {trace, samples, board, house};
+    const size_t rooms[4] = {sizeof trace, sizeof samples, sizeof board, sizeof house};
+    int readable = argc == 2 || argc == 3 || argc == 5;
+    for (int file = 0; readable && file + 1 < argc; file++) {
+        readable = read_file(argv[file + 1], buffers[file], rooms[file], &lengths[file]);
+    }
+    if (!readable) {
+        fprintf(stderr, "usage: example TRACE-FILE [CAPTURE-FILE [BOARD-SHEET HOUSE-SHEET]], which can be read\n");
         return 2;
     }
-    show_trace(trace_length);
-    if (argc == 3) {
-        show_capture(capture_length, 0x71);
+    show_trace(lengths[0]);
+    if (argc > 2) {
+        show_capture(lengths[1], 0x71);
+    }
+    if (argc > 3) {
+        show_sheets(lengths[2], lengths[3]);
     }
     show_address(1, 1, 1, 3);
     show_address(1, 0, 0, 0);

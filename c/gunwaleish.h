@@ -3,7 +3,7 @@
  * Link with libgunwaleish.a, which `tools/library` writes to target/staticlib/.
  *
  * What a caller owes, since C cannot say it: a pointer is never null, also with length 0; the bytes it points to are there for that
- * length; and the two ranges of one call do not overlap. Any bytes are taken as a trace, as events or as samples.
+ * length; and the range that a call writes overlaps none that it reads. Any bytes are taken as a trace, as events, as samples or as a sheet.
  */
 #ifndef GUNWALEISH_H
 #define GUNWALEISH_H
@@ -15,24 +15,31 @@
 extern "C" {
 #endif
 
-/* The numbers of documents 01 and 02. 0 to 4 are outcomes of one event, and 5 to 13 refuse a whole call; so does 3, for a kind of part other
- * than 0 and 1. A call that is not refused has 0. */
+/* The numbers of documents 01 and 02. 0 to 4 are outcomes of one event, the others refuse a whole call; so does 3, for a kind of part other
+ * than 0 and 1 and for an order sheet. Where a number says one thing of a trace and another of an order sheet, it has a name for each. A call
+ * that is not refused has 0. */
 enum gunwaleish_numbers {
     GUNWALEISH_DONE = 0,                   /* done, accepted */
     GUNWALEISH_NOT_ACKNOWLEDGED = 1,       /* the byte was not acknowledged */
     GUNWALEISH_UNKNOWN_KIND = 2,           /* the event's first byte is no kind */
     GUNWALEISH_FIELD_OUT_OF_RANGE = 3,     /* of an event: a field out of range, or an unused one not 0 */
     GUNWALEISH_NO_SUCH_PART = 3,           /* of a whole call: the kind of part is neither 0 nor 1 */
+    GUNWALEISH_BAD_BOX = 3,                /* of an order sheet: a tick or value out of range, or a value in a box that is not ticked */
     GUNWALEISH_OUT_OF_SEQUENCE = 4,        /* the event cannot come now */
     GUNWALEISH_TRACE_CUT = 5,              /* bytes are missing at the end, or event bytes do not come in fours */
+    GUNWALEISH_SHEET_CUT = 5,              /* of an order sheet: under 15 bytes */
     GUNWALEISH_TOO_MANY_EVENTS = 6,        /* more than 4,096 events */
     GUNWALEISH_BYTES_AFTER_END = 7,        /* bytes after the trace's end */
+    GUNWALEISH_BYTES_AFTER_SHEET = 7,      /* bytes after an order sheet's end */
     GUNWALEISH_NO_SUCH_STRAPPING = 8,      /* a pin code above 3, or a strapping without an address */
     GUNWALEISH_TOO_LITTLE_ROOM = 9,        /* the buffer is too short */
     GUNWALEISH_WRONG_COUNT = 10,           /* the first byte, the count of pins, is not 4, or the count of the kind of part is not 1 */
+    GUNWALEISH_WRONG_BOX_COUNT = 10,       /* of an order sheet: the count of a section is not 2 */
     GUNWALEISH_ADDRESS_OUTSIDE = 11,       /* the address is not one of 08h to 77h */
     GUNWALEISH_BYTE_CUT = 12,              /* a START or STOP inside a byte of a capture, or its end */
-    GUNWALEISH_TOO_MANY_SAMPLES = 13       /* more than 32,768 samples */
+    GUNWALEISH_TOO_MANY_SAMPLES = 13,      /* more than 32,768 samples */
+    GUNWALEISH_EMPTY_BOX = 14,             /* a box is ticked neither on the board sheet nor on the house sheet */
+    GUNWALEISH_NO_SUCH_BOX = 15            /* an order sheet has no such section or controller */
 };
 
 /* The kinds of part. A TPT29641 differs in two things: its idle timer ends a grant at 151 idle ticks, not at 101, and its write pointer
@@ -41,6 +48,26 @@ enum gunwaleish_parts {
     GUNWALEISH_PCA9641 = 0,
     GUNWALEISH_TPT29641 = 1
 };
+
+/* The sections of an order sheet. */
+enum gunwaleish_sections {
+    GUNWALEISH_SECTION_RESERVE = 0,        /* "Downstream reserve, ms": any byte; a ticked 0 orders a reserve without limit */
+    GUNWALEISH_SECTION_PRIORITY = 1,       /* 0 or 1 */
+    GUNWALEISH_SECTION_IDLE = 2            /* the idle timer: 0 off, 1 on */
+};
+
+/* The sheet that a box comes from, as gunwaleish_sheet gives it. */
+enum gunwaleish_sheets {
+    GUNWALEISH_NO_SHEET = 0,
+    GUNWALEISH_BOARD_SHEET = 1,
+    GUNWALEISH_HOUSE_SHEET = 2
+};
+
+/* The bytes of an order sheet: three sections, each with the count 2 and a box for each controller. A box is two bytes, its tick and its
+ * value, which is 0 where it is not ticked. Then the events that a complete pair of sheets orders, and their bytes. */
+#define GUNWALEISH_SHEET_BYTES 15
+#define GUNWALEISH_SHEET_EVENTS 12
+#define GUNWALEISH_SHEET_EVENTS_BYTES (4 * GUNWALEISH_SHEET_EVENTS)
 
 /* A trace: the count 4 and the pins AD3 to AD0; the count of events in two bytes, low first, and four bytes an event; the count 1 and the
  * kind of part. These are the bytes before and after the events. */
@@ -102,6 +129,22 @@ uint64_t gunwaleish_convert_trace(const uint8_t *old, size_t old_len, uint8_t *t
  * shorter than the events. A refusal writes nothing, and the count is 0. Bytes past the events stay. */
 uint64_t gunwaleish_import_capture(const uint8_t *samples, size_t samples_len, uint8_t address, uint8_t *events, size_t events_len);
 
+/* Looks up the box of a section and a controller (0 or 1): the board sheet's if it is ticked there, also with 0, else the house sheet's. The
+ * result is packed: number + 256 * the sheet it comes from (1 board, 2 house) + 65536 * the byte of that sheet at which the box starts. That
+ * byte is its tick, and the next one its value. Refusals, in this order, all of the board sheet before those of the house sheet: 5 under 15
+ * bytes, 10 for a count, 3 for a box, 7 for bytes after the end; then 15 for the section or the controller, 14 if the box is ticked on neither
+ * sheet. All above the number is 0 then: an empty box is no value. The two sheets are only read, and may be the same. */
+uint64_t gunwaleish_sheet_box(const uint8_t *board, size_t board_len, const uint8_t *house, size_t house_len, uint8_t section,
+                              uint8_t controller);
+
+/* Writes the twelve events that a complete pair of sheets orders, four bytes each: for controller 0, then 1, COMMAND 03h, WRITE of its
+ * reserve, STOP, COMMAND 01h, WRITE of 01h plus 80h for priority and 20h for the idle timer, STOP. They fit a fresh device: to a controller
+ * that owns the bus the WRITE of its reserve is acknowledged and not stored. The result is packed: number + 256 * the count of events.
+ * Refusals: those of the sheets, as above; 14 if one of the six boxes is ticked on neither; 9 if the buffer has under 48 bytes. A refusal
+ * writes nothing, and the count is 0. Bytes past the events stay. */
+uint64_t gunwaleish_sheet_events(const uint8_t *board, size_t board_len, const uint8_t *house, size_t house_len, uint8_t *events,
+                                 size_t events_len);
+
 /* The address of a strapping; pin codes are 0 VSS, 1 VDD, 2 pull-down, 3 pull-up. Packed: number + 256 * address; number 0 or 8. */
 uint32_t gunwaleish_address_of(uint8_t ad3, uint8_t ad2, uint8_t ad1, uint8_t ad0);
 
@@ -138,6 +181,20 @@ static inline size_t gunwaleish_length(uint64_t packed) {
 
 /* Out of what gunwaleish_import_capture gave. */
 static inline size_t gunwaleish_captured(uint64_t packed) {
+    return (size_t)(packed >> 8);
+}
+
+/* The sheet, and the byte of it at which the box starts, out of what gunwaleish_sheet_box gave. */
+static inline unsigned gunwaleish_sheet(uint64_t packed) {
+    return (unsigned)(packed >> 8 & 0xff);
+}
+
+static inline size_t gunwaleish_offset(uint64_t packed) {
+    return (size_t)(packed >> 16);
+}
+
+/* Out of what gunwaleish_sheet_events gave. */
+static inline size_t gunwaleish_ordered(uint64_t packed) {
     return (size_t)(packed >> 8);
 }
 
