@@ -55,8 +55,9 @@ pub fn overview() -> String {
         text.push_str(&format!("  {:<10} {}\n", command.name, command.summary));
     }
     text.push_str(
-        "\nWithout FILE, or with -, standard input is read. -o names the file to write, or a folder\n\
-         that is there; then each output has its input's name. Many files need such a folder.\n\
+        "\nWithout FILE, or with -, standard input is read; sheet needs its two files. -o names the file\n\
+         to write, or a folder that is there; then each output has its input's name. Many files need\n\
+         such a folder.\n\
          Controller 0 and controller 1 are document 01's masters 0 and 1.\n\n\
          gunwaleish COMMAND --help tells more, with an example. --version gives the version.\n\n\
          Exit code: 0 done; 1 a trace, script, capture or order sheet is refused, standard error\n\
