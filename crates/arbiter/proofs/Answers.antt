@@ -15,6 +15,7 @@ use Rattle.arbiter.proofs.Tenure.{granted-at-rest}
 use Rattle.arbiter.proofs.Ended.{ends-disconnected}
 use Rattle.arbiter.proofs.Settled.{refused-unchanged, all-settled}
 use Rattle.arbiter.proofs.Bitwise.{asserted-bit-by-bit, cleared-bit-by-bit}
+use Rattle.arbiter.proofs.Grounds.{ground-with-claim, ground-of-choice, ground-stays, contest-is-pair}
 use Rattle.arbiter.proofs.Hung.{hung-exact, clock-not-hung}
 use Rattle.arbiter.proofs.HungRows.{hung-rows-hold, slow-clock-never-hung}
 use Rattle.arbiter.proofs.OldTraces.{converted-accepted, old-refused}
@@ -47,6 +48,10 @@ answers =
       endsDisconnected = ends-disconnected;
       refusedUnchanged = refused-unchanged;
       allSettled = all-settled;
+      groundWithClaim = ground-with-claim;
+      groundOfChoice = ground-of-choice;
+      groundStays = ground-stays;
+      contestIsPair = contest-is-pair;
       hungExact = hung-exact;
       clockNotHung = clock-not-hung;
       hungRowsHold = hung-rows-hold;

@@ -2,7 +2,7 @@
 -- Assumes nothing.
 use mathlib.Core.Path.{_≡_, refl, sym, ap, subst, _∙_}
 use mathlib.Core.Bool.{Bool, true, false, _&&_}
-use Rattle.arbiter.specs.Types.{ℕ, List, [], _∷_, eqb, ltb, Master, Zero, One, Turn, Nobody, Claims, Owns, Switch, Apart, Initialising, Closed, Clock, NoClock, ClockLow, ClockHigh, Device, Raw, Event, Decoded, Reads, UnknownKind, BadField, OutOfSequence, Stepped}
+use Rattle.arbiter.specs.Types.{ℕ, List, [], _∷_, eqb, ltb, Master, Zero, One, Ground, Sole, Turn, Nobody, Claims, Owns, Switch, Apart, Initialising, Closed, Clock, NoClock, ClockLow, ClockHigh, Device, Raw, Event, Decoded, Reads, UnknownKind, BadField, OutOfSequence, Stepped}
 use Rattle.arbiter.specs.Words.{sameMaster, side}
 use Rattle.arbiter.specs.Parts.{withBusConnect, withBusInit, withContr, withSwitch, withInitFail, withSide, withArb}
 use Rattle.arbiter.specs.State.{atRest}
@@ -15,38 +15,38 @@ use Rattle.arbiter.proofs.Choice.{either, split, if-true, if-false}
 
 -- ---- part 4: the owner's BUS_CONNECT is cleared, or nothing is
 
-pub cut-cases : (P : Device → Type 0) (on : Bool) (m : Master) (d : Device) → P (withSide m (disconnected (side m d)) d) → P d → P (cutFrom on (Owns m) d)
+pub cut-cases : (P : Device → Type 0) (on : Bool) (m : Master) (g : Ground) (d : Device) → P (withSide m (disconnected (side m d)) d) → P d → P (cutFrom on (Owns m g) d)
 unfolding cutFrom
-cut-cases P on m d cleared left = either P (on && eqb (d .bus .lowscl) cutTicks && (side m d) .contr .smbusdis) (λ h. cleared) (λ h. left)
+cut-cases P on m g d cleared left = either P (on && eqb (d .bus .lowscl) cutTicks && (side m d) .contr .smbusdis) (λ h. cleared) (λ h. left)
 
 -- ---- part 5
 
 -- a claimant that still requests stays
-pub claimant-stays : (m : Master) (d : Device) → requests m d ≡ true → claimAfter (Claims m) d ≡ Claims m
-claimant-stays m d h = if-true (Claims m) _ h
+pub claimant-stays : (m : Master) (g : Ground) (d : Device) → requests m d ≡ true → claimAfter (Claims m g) d ≡ Claims m g
+claimant-stays m g d h = if-true (Claims m g) _ h
 
 -- a new claim is nobody's or a claimant's
-new-by : (P : Turn → Type 0) → P Nobody → ((m : Master) → P (Claims m)) → (r0 r1 : Bool) (w : Master) → P (claimBy r0 r1 w)
-new-by P none some false false w = none
-new-by P none some true false w = some Zero
-new-by P none some false true w = some One
-new-by P none some true true w = some w
+new-by : (P : Turn → Type 0) → P Nobody → ((m : Master) (g : Ground) → P (Claims m g)) → (r0 r1 : Bool) (w : Master) (g : Ground) → P (claimBy r0 r1 w g)
+new-by P none some false false w g = none
+new-by P none some true false w g = some Zero Sole
+new-by P none some false true w g = some One Sole
+new-by P none some true true w g = some w g
 
-pub new-cases : (P : Turn → Type 0) (d : Device) → P Nobody → ((m : Master) → P (Claims m)) → P (newClaim d)
-new-cases P d none some = new-by P none some (requests Zero d) (requests One d) _
+pub new-cases : (P : Turn → Type 0) (d : Device) → P Nobody → ((m : Master) (g : Ground) → P (Claims m g)) → P (newClaim d)
+new-cases P d none some = new-by P none some (requests Zero d) (requests One d) _ _
 
 -- and so is what comes of a claim
-pub claim-cases : (P : Turn → Type 0) (m : Master) (d : Device) → P Nobody → ((m : Master) → P (Claims m)) → P (claimAfter (Claims m) d)
-claim-cases P m d none some =
+pub claim-cases : (P : Turn → Type 0) (m : Master) (g : Ground) (d : Device) → P Nobody → ((m : Master) (g : Ground) → P (Claims m g)) → P (claimAfter (Claims m g) d)
+claim-cases P m g d none some =
     split (requests m d)
-    (λ h. subst P (sym (claimant-stays m d h)) (some m))
+    (λ h. subst P (sym (claimant-stays m g d h)) (some m g))
     (λ h. subst P (sym (if-false _ (newClaim d) h)) (new-cases P d none some))
 
 -- ---- part 6: the claimant is granted, or nothing is done
 
-pub grant-cases : (P : Device → Type 0) (m : Master) (d : Device) → P (granted m d) → P d → P (grantFrom (Claims m) d)
+pub grant-cases : (P : Device → Type 0) (m : Master) (g : Ground) (d : Device) → P (granted m g d) → P d → P (grantFrom (Claims m g) d)
 unfolding grantFrom
-grant-cases P m d given left = either P (atRest ((side m d) .port) && eqb (d .bus .hold) 0) (λ h. given) (λ h. left)
+grant-cases P m g d given left = either P (atRest ((side m d) .port) && eqb (d .bus .hold) 0) (λ h. given) (λ h. left)
 
 -- ---- part 7: it sets the switch and BUS_INIT_FAIL, and perhaps clears an owner's BUS_INIT, and with it perhaps its BUS_CONNECT
 
@@ -84,8 +84,8 @@ module _ (P : Device → Type 0) (d : Device) (plain : (w : Switch) (fail : Bool
   from-cases : (c : Clock) (t : Turn) → P (connectFrom c t d)
   unfolding connectFrom
   from-cases c Nobody = plain _ _
-  from-cases c (Claims m) = plain _ _
-  from-cases c (Owns m) =
+  from-cases c (Claims m g) = plain _ _
+  from-cases c (Owns m g) =
       either P ((side m d) .contr .busconnect) (λ h. kept-cases c m (d .arb .switch)) (λ h. plain _ _)
 
   pub connect-cases : (c : Clock) → P (connect c d)

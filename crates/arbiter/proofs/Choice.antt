@@ -3,7 +3,7 @@
 use mathlib.Core.Path.{_≡_, refl, sym, ap, _∙_}
 use mathlib.Core.Bool.{Bool, true, false, not, _||_, Bool·not-not, true≢false, false≢true}
 use native.Mathlib.Omega.{arith}
-use Rattle.arbiter.specs.Types.{ℕ, suc, Master, Zero, One, Turn, Nobody, Claims, Owns, Side, Device}
+use Rattle.arbiter.specs.Types.{ℕ, suc, Master, Zero, One, Ground, Turn, Nobody, Claims, Owns, Side, Device}
 use Rattle.arbiter.specs.Words.{if_then_else_, partner, sameMaster, of, side}
 use Rattle.arbiter.specs.State.{ownsTurn}
 
@@ -57,13 +57,13 @@ same-eq Zero One h = absurd (false≢true h)
 same-eq One Zero h = absurd (false≢true h)
 same-eq One One h = refl
 
--- m owns exactly if the turn is its own.
-pub owns-turn : (m : Master) (t : Turn) → ownsTurn m t ≡ true → t ≡ Owns m
+-- m owns exactly if the turn is its own, on whatever ground it was won.
+pub owns-turn : (m : Master) (t : Turn) → ownsTurn m t ≡ true → (g : Ground) × (t ≡ Owns m g)
 owns-turn m Nobody h = absurd (false≢true h)
-owns-turn m (Claims k) h = absurd (false≢true h)
-owns-turn m (Owns k) h = ap Owns (same-eq m k h)
+owns-turn m (Claims k g) h = absurd (false≢true h)
+owns-turn m (Owns k g) h = (g, ap (λ (j : Master). Owns j g) (same-eq m k h))
 
-pub turn-owns : (m : Master) (t : Turn) → t ≡ Owns m → ownsTurn m t ≡ true
+pub turn-owns : (m : Master) {g : Ground} (t : Turn) → t ≡ Owns m g → ownsTurn m t ≡ true
 turn-owns m t h = ap (ownsTurn m) h ∙ same-self m
 
 -- What holds of k's side and of its partner's, before and after k's event, holds of m's.

@@ -3,7 +3,7 @@
 use mathlib.Core.Path.{_≡_, refl, sym, ap, _∙_}
 use mathlib.Core.Bool.{Bool, true, false, _&&_, false≢true, and-eq-true-iff}
 use mathlib.Core.List.{List}
-use Rattle.arbiter.specs.Types.{ℕ, _+_, ltb, Master, Zero, One, Turn, Nobody, Claims, Owns, Switch, Apart, Initialising, Closed, Clock, NoClock, ClockLow, ClockHigh, Kind, Device, Raw, Event}
+use Rattle.arbiter.specs.Types.{ℕ, _+_, ltb, Master, Zero, One, Ground, Turn, Nobody, Claims, Owns, Switch, Apart, Initialising, Closed, Clock, NoClock, ClockLow, ClockHigh, Kind, Device, Raw, Event}
 use Rattle.arbiter.specs.Words.{sameMaster, partner, side}
 use Rattle.arbiter.specs.State.{ownsTurn, owns, closedFor}
 use Rattle.arbiter.specs.Effects.{effect, powerUp}
@@ -44,8 +44,8 @@ apart-from One One h = refl
 -- where m owns, its partner does not
 pub partner-not : (m : Master) (t : Turn) → ownsTurn m t ≡ true → ownsTurn (partner m) t ≡ false
 partner-not m Nobody h = refl
-partner-not m (Claims k) h = refl
-partner-not m (Owns k) h = apart-from m k h
+partner-not m (Claims k g) h = refl
+partner-not m (Owns k g) h = apart-from m k h
 
 -- a switch that serves nobody but m does not serve the partner
 not-partner : (m : Master) (w : Switch) → onlyFor m w ≡ true → serves (partner m) w ≡ false
@@ -61,7 +61,7 @@ serves-by One Zero w on h s = not-partner Zero w h
 serves-by One One w on h s = s
 
 -- the same, where m is the owner by the turn
-served : (m : Master) (t : Turn) (w : Switch) (on : Master → Bool) → t ≡ Owns m → onlyFor m w ≡ true → serves m w ≡ on m
+served : (m : Master) {g : Ground} (t : Turn) (w : Switch) (on : Master → Bool) → t ≡ Owns m g → onlyFor m w ≡ true → serves m w ≡ on m
     → (j : Master) → serves j w ≡ ownsTurn j t && on j
 served m t w on e h s j = serves-by j m w on h s ∙ sym (ap (λ (t : Turn). ownsTurn j t && on j) e)
 
@@ -76,7 +76,7 @@ failed-asks : (m : Master) (d : Device) → asksOn m (initFailed m d) ≡ false
 failed-asks Zero d = refl
 failed-asks One d = refl
 
-module _ (m : Master) (d : Device) (e : d .arb .turn ≡ Owns m) where
+module _ (m : Master) {g : Ground} (d : Device) (e : d .arb .turn ≡ Owns m g) where
   -- an open switch is right for an owner that does not ask
   apart-served : asksOn m d ≡ false → Served (switched Apart d)
   apart-served a = served m (d .arb .turn) Apart (λ j. asksOn j d) e refl (sym a)
@@ -121,8 +121,8 @@ unowned-served t d e none j = sym (ap (λ (t : Turn). ownsTurn j t && asksOn j d
 connect-from-served : (c : Clock) (t : Turn) (d : Device) → d .arb .turn ≡ t → Served (connectFrom c t d)
 unfolding connectFrom
 connect-from-served c Nobody d e = unowned-served Nobody d e (λ j. refl)
-connect-from-served c (Claims m) d e = unowned-served (Claims m) d e (λ j. refl)
-connect-from-served c (Owns m) d e =
+connect-from-served c (Claims m g) d e = unowned-served (Claims m g) d e (λ j. refl)
+connect-from-served c (Owns m g) d e =
     either Served (asksOn m d) (λ a. kept-served m d e a c (d .arb .switch) refl) (λ a. apart-served m d e a)
 
 -- so part 7 leaves it so

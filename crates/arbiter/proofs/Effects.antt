@@ -16,14 +16,14 @@ use Rattle.arbiter.proofs.Choice.{either, of-either}
 
 -- ---- what a side shows to the later parts
 
--- a side's request, its idle timer, its RT and its port
-abbrev pub kept : Side → Bool × Bool × ℕ × Port
-kept s = (s .contr .lockreq, s .contr .idletimer, s .rt, s .port)
+-- a side's request, its idle timer, its RT, its port and its priority
+abbrev pub kept : Side → Bool × Bool × ℕ × Port × Bool
+kept s = (s .contr .lockreq, s .contr .idletimer, s .rt, s .port, s .contr .priority)
 
 -- ---- a written byte, register by register
 
--- The partner's byte brings mail, and leaves these four.
-mail-kept : (r : Register) (v : ℕ) (s : Side) → kept (mailWritten r v s) ≡ kept s
+-- The partner's byte brings mail, and leaves these.
+pub mail-kept : (r : Register) (v : ℕ) (s : Side) → kept (mailWritten r v s) ≡ kept s
 unfolding mailWritten
 mail-kept Id v s = refl
 mail-kept Contr v s = refl
@@ -191,32 +191,32 @@ turn-unwritten r v t = turn-written false r v t ∙ ap (λ (b : Bool). if b then
 -- the owner, if there is one, lets go
 abbrev pub ownerLetsGo : Turn → Event → Device → Bool
 ownerLetsGo Nobody e d = false
-ownerLetsGo (Claims m) e d = false
-ownerLetsGo (Owns m) e d = letsGo m e d
+ownerLetsGo (Claims m g) e d = false
+ownerLetsGo (Owns m g) e d = letsGo m e d
 
 byte-turn : (k : Master) (v : ℕ) (d : Device) (t : Turn)
     → turnWritten (ownsTurn k t) ((side k d) .pointer) v t ≡ (if ownerLetsGo t (Write k v) d then Nobody else t)
 byte-turn k v d Nobody = turn-unwritten ((side k d) .pointer) v Nobody
-byte-turn k v d (Claims m) = turn-unwritten ((side k d) .pointer) v (Claims m)
-byte-turn Zero v d (Owns Zero) = turn-written true (d .side0 .pointer) v (Owns Zero)
-byte-turn Zero v d (Owns One) = turn-unwritten (d .side0 .pointer) v (Owns One)
-byte-turn One v d (Owns Zero) = turn-unwritten (d .side1 .pointer) v (Owns Zero)
-byte-turn One v d (Owns One) = turn-written true (d .side1 .pointer) v (Owns One)
+byte-turn k v d (Claims m g) = turn-unwritten ((side k d) .pointer) v (Claims m g)
+byte-turn Zero v d (Owns Zero g) = turn-written true (d .side0 .pointer) v (Owns Zero g)
+byte-turn Zero v d (Owns One g) = turn-unwritten (d .side0 .pointer) v (Owns One g)
+byte-turn One v d (Owns Zero g) = turn-unwritten (d .side1 .pointer) v (Owns Zero g)
+byte-turn One v d (Owns One g) = turn-written true (d .side1 .pointer) v (Owns One g)
 
 pair-turn : (v0 v1 : ℕ) (d : Device) (t : Turn)
     → turnWritten (ownsTurn One t) (d .side1 .pointer) v1 (turnWritten (ownsTurn Zero t) (d .side0 .pointer) v0 t)
     ≡ (if ownerLetsGo t (Pair v0 v1) d then Nobody else t)
 pair-turn v0 v1 d Nobody = turn-unwritten (d .side1 .pointer) v1 _ ∙ turn-unwritten (d .side0 .pointer) v0 Nobody
-pair-turn v0 v1 d (Claims m) = turn-unwritten (d .side1 .pointer) v1 _ ∙ turn-unwritten (d .side0 .pointer) v0 (Claims m)
-pair-turn v0 v1 d (Owns Zero) = turn-unwritten (d .side1 .pointer) v1 _ ∙ turn-written true (d .side0 .pointer) v0 (Owns Zero)
-pair-turn v0 v1 d (Owns One) =
-    ap (turnWritten true (d .side1 .pointer) v1) (turn-unwritten (d .side0 .pointer) v0 (Owns One)) ∙ turn-written true (d .side1 .pointer) v1 (Owns One)
+pair-turn v0 v1 d (Claims m g) = turn-unwritten (d .side1 .pointer) v1 _ ∙ turn-unwritten (d .side0 .pointer) v0 (Claims m g)
+pair-turn v0 v1 d (Owns Zero g) = turn-unwritten (d .side1 .pointer) v1 _ ∙ turn-written true (d .side0 .pointer) v0 (Owns Zero g)
+pair-turn v0 v1 d (Owns One g) =
+    ap (turnWritten true (d .side1 .pointer) v1) (turn-unwritten (d .side0 .pointer) v0 (Owns One g)) ∙ turn-written true (d .side1 .pointer) v1 (Owns One g)
 
 -- Where nobody can let go, the owner does not.
 no-byte : (e : Event) (d : Device) (t : Turn) → ((m : Master) → letsGo m e d ≡ false) → t ≡ (if ownerLetsGo t e d then Nobody else t)
 no-byte e d Nobody h = refl
-no-byte e d (Claims m) h = refl
-no-byte e d (Owns m) h = ap (λ (b : Bool). if b then Nobody else Owns m) (sym (h m))
+no-byte e d (Claims m g) h = refl
+no-byte e d (Owns m g) h = ap (λ (b : Bool). if b then Nobody else Owns m g) (sym (h m))
 
 -- The turn stays, unless a reset comes or the owner lets go.
 pub effect-turn : (e : Event) (d : Device) → (effect e d) .arb .turn ≡ (if isReset e || ownerLetsGo (d .arb .turn) e d then Nobody else d .arb .turn)

@@ -3,7 +3,7 @@
 use mathlib.Core.Path.{_≡_, refl, sym, ap, _∙_}
 use mathlib.Core.Bool.{Bool, true, false, not, _&&_, true≢false, false≢true, and-eq-true-iff, and-not-self}
 use borrow.Author.Tests.{not-true}
-use Rattle.arbiter.specs.Types.{ℕ, Master, Zero, One, Turn, Nobody, Claims, Owns, Register, Id, Contr, Status, Rt, IntStatus, IntMask, MailLow, MailHigh, Control, Side, Clock, Device, Event, Command, Write, Read, Stop, Pair, Lines, Tick, Pulse, Reset, GeneralCall, Stepped}
+use Rattle.arbiter.specs.Types.{ℕ, Master, Zero, One, Ground, Turn, Nobody, Claims, Owns, Register, Id, Contr, Status, Rt, IntStatus, IntMask, MailLow, MailHigh, Control, Side, Clock, Device, Event, Command, Write, Read, Stop, Pair, Lines, Tick, Pulse, Reset, GeneralCall, Stepped}
 use Rattle.arbiter.specs.Rules.{idleLimit, rolls}
 use Rattle.arbiter.specs.Words.{partner, sameMaster, side, device}
 use Rattle.arbiter.specs.Parts.{withContr, withSide}
@@ -168,22 +168,22 @@ lost-off One One d f = refl
 losses-off : (m : Master) (t : Turn) (d : Device) → d .arb .turn ≡ t → Off m d → Off m (lossesFrom t d)
 unfolding lossesFrom
 losses-off m Nobody d e f = f
-losses-off m (Claims k) d e f = f
-losses-off m (Owns k) d e f =
+losses-off m (Claims k g) d e f = f
+losses-off m (Owns k g) d e f =
     either (Off m) (runsOut (idleLimit d) (side k d) (d .arb .reserve) (d .bus)) (λ out h. lost-off m k d λ n. f (ap (ownsTurn m) e ∙ n)) (λ out. f)
 
 -- part 4 only clears
 cut-off : (m : Master) (on : Bool) (t : Turn) (d : Device) → Off m d → Off m (cutFrom on t d)
 unfolding cutFrom
 cut-off m on Nobody d f = f
-cut-off m on (Claims k) d f = f
-cut-off m on (Owns k) d f = cut-cases (Off m) on k d (λ h. put-off m k _ d (λ x. refl) (f h)) f
+cut-off m on (Claims k g) d f = f
+cut-off m on (Owns k g) d f = cut-cases (Off m) on k g d (λ h. put-off m k _ d (λ x. refl) (f h)) f
 
 -- a claim makes no owner and unmakes none
 claim-owner : (m : Master) (t : Turn) (d : Device) → ownsTurn m (claimAfter t d) ≡ ownsTurn m t
-claim-owner m Nobody d = new-cases (λ (t : Turn). ownsTurn m t ≡ false) d refl (λ k. refl)
-claim-owner m (Claims k) d = claim-cases (λ (t : Turn). ownsTurn m t ≡ false) k d refl (λ j. refl)
-claim-owner m (Owns k) d = refl
+claim-owner m Nobody d = new-cases (λ (t : Turn). ownsTurn m t ≡ false) d refl (λ k g. refl)
+claim-owner m (Claims k g) d = claim-cases (λ (t : Turn). ownsTurn m t ≡ false) k g d refl (λ j i. refl)
+claim-owner m (Owns k g) d = refl
 
 -- part 5
 claim-off : (m : Master) (d : Device) → Off m d → Off m (claim d)
@@ -191,19 +191,19 @@ unfolding claim
 claim-off m d f h = f (sym (claim-owner m (d .arb .turn) d) ∙ h)
 
 -- a grant leaves both BUS_CONNECT, and where it is given nobody owned
-granted-asks : (m k : Master) (d : Device) → asksOn m (granted k d) ≡ asksOn m d
+granted-asks : (m k : Master) (g : Ground) (d : Device) → asksOn m (granted k g d) ≡ asksOn m d
 unfolding granted
-granted-asks Zero Zero d = refl
-granted-asks Zero One d = refl
-granted-asks One Zero d = refl
-granted-asks One One d = refl
+granted-asks Zero Zero g d = refl
+granted-asks Zero One g d = refl
+granted-asks One Zero g d = refl
+granted-asks One One g d = refl
 
 -- part 6
 grant-off : (m : Master) (t : Turn) (d : Device) → d .arb .turn ≡ t → Off m d → Off m (grantFrom t d)
 unfolding grantFrom
 grant-off m Nobody d e f = f
-grant-off m (Claims k) d e f = grant-cases (Off m) k d (λ h. granted-asks m k d ∙ f (ap (ownsTurn m) e)) f
-grant-off m (Owns k) d e f = f
+grant-off m (Claims k g) d e f = grant-cases (Off m) k g d (λ h. granted-asks m k g d ∙ f (ap (ownsTurn m) e)) f
+grant-off m (Owns k g) d e f = f
 
 -- part 7 sets no BUS_CONNECT
 connect-off : (m : Master) (c : Clock) (d : Device) → Off m d → Off m (connect c d)

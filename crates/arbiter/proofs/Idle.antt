@@ -22,9 +22,9 @@ unidled d = withIdle 0 (d .bus)
 grant-bus : (t : Turn) (d : Device) → unidled (grantFrom t d) ≡ unidled d
 unfolding grantFrom granted
 grant-bus Nobody d = refl
-grant-bus (Claims Zero) d = grant-cases (λ (n : Device). unidled n ≡ unidled d) Zero d refl refl
-grant-bus (Claims One) d = grant-cases (λ (n : Device). unidled n ≡ unidled d) One d refl refl
-grant-bus (Owns m) d = refl
+grant-bus (Claims Zero g) d = grant-cases (λ (n : Device). unidled n ≡ unidled d) Zero g d refl refl
+grant-bus (Claims One g) d = grant-cases (λ (n : Device). unidled n ≡ unidled d) One g d refl refl
+grant-bus (Owns m g) d = refl
 
 pub parts-bus : (e : Event) (d : Device) → unidled (parts e d) ≡ unidled (mid e d)
 unfolding parts losses cut claim grant

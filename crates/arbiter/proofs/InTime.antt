@@ -4,7 +4,7 @@ use Prim.Native.Nat.{_<_, _≤_}
 use mathlib.Core.Path.{_≡_, sym, ap, _∙_, subst}
 use mathlib.Core.Bool.{true≢false}
 use native.Mathlib.Omega.{arith}
-use Rattle.arbiter.specs.Types.{_+_, _-_, true, false, List, [], _∷_, _++_, Master, Owns, Device, Raw}
+use Rattle.arbiter.specs.Types.{_+_, _-_, true, false, List, [], _∷_, _++_, Master, Ground, Sole, Owns, Device, Raw}
 use Rattle.arbiter.specs.Words.{worth, partner}
 use Rattle.arbiter.specs.State.{owns, isIdle}
 use Rattle.arbiter.specs.Order.{isReset}
@@ -23,25 +23,25 @@ use Rattle.arbiter.proofs.Waiting.{Waiting, next-owns, next-waits}
 
 -- p owns, or waits.
 data InLine (p : Master) (d : Device) : Type 0 where
-  mine : d .arb .turn ≡ Owns p → InLine p d
+  mine : (g : Ground) → d .arb .turn ≡ Owns p g → InLine p d
   soon : Waiting p d → InLine p d
 
 -- Who is next is in line.
-next-in-line : (p : Master) (d : Device) → Next p d → InLine p d
-next-in-line p d n = split (resting p d) (λ r. mine (next-owns p d n r)) (λ r. soon (next-waits p d n r))
+next-in-line : (p : Master) {g : Ground} (d : Device) → Next p g d → InLine p d
+next-in-line p {g} d n = split (resting p d) (λ r. mine g (next-owns p d n r)) (λ r. soon (next-waits p d n r))
 
 -- It stays in line as long as its request stands and no reset comes: a loss and a withdrawal would take the request away.
 stays-in-line : (p : Master) (r : Raw) (d : Device) → Owned d → reset r d ≡ false → InLine p d → requests p (next d r) ≡ true → InLine p (next d r)
-stays-in-line p r d i ok (mine t) q =
-    elim (lot p r d (i p t) ok) [ keeps k ↦ mine (k .owner .turn) | over h c ↦ absurd (true≢false (sym q ∙ h .request)) ]
+stays-in-line p r d i ok (mine g t) q =
+    elim (lot p r d (i p g t) ok) [ keeps k ↦ mine (k .owner .ground) (k .owner .turn) | over h c ↦ absurd (true≢false (sym q ∙ h .request)) ]
 stays-in-line p r d i ok (soon w) q =
     elim (met r d) [
       | refuses x ↦ subst (InLine p) (sym (x .after)) (soon w)
       | takes e x ↦
           (let no : isReset e ≡ false = sym (x .same λ f y. isReset f) ∙ ok in
           split (letsGo p e d)
-          (λ g. absurd (true≢false (sym q ∙ ap (requests p) (x .after) ∙ withdraws p e d no (w .turn) g)))
-          (λ g. subst (InLine p) (sym (x .after)) (next-in-line p (parts e d) (waits p e d no (w .turn) (w .request) (w .hold) g))))
+          (λ l. absurd (true≢false (sym q ∙ ap (requests p) (x .after) ∙ withdraws p e d no (w .turn) l)))
+          (λ l. subst (InLine p) (sym (x .after)) (next-in-line p (parts e d) (waits p e d no (w .turn) (w .request) (w .hold) l))))
     ]
 
 -- So over any events and a last one t.
@@ -56,7 +56,7 @@ line p (r ∷ rs) t d i l nr ok st =
 
 -- In line with its port at rest, it owns.
 line-owns : (p : Master) (d : Device) → InLine p d → resting p d ≡ true → owns p d ≡ true
-line-owns p d (mine t) r = turn-owns p (d .arb .turn) t
+line-owns p d (mine g t) r = turn-owns p (d .arb .turn) t
 line-owns p d (soon w) r = absurd (true≢false (sym r ∙ w .port))
 
 -- ---- the tick that uses up the reserve
@@ -80,26 +80,26 @@ partner-in-time k m rs r later t g l h nr nw q idle rest =
 -- ---- with the partner's request standing all the while
 
 -- From any device in which m owns with its reserve count just used up by t.
-by-the-tick : (m : Master) (rs : List Raw) (t : Raw) (d : Device) → Owned d → d .arb .turn ≡ Owns m → 0 < reserveOf m d
+by-the-tick : (m : Master) (rs : List Raw) (t : Raw) (d : Device) → Owned d → Owner m d → 0 < reserveOf m d
     → ticksIn d rs + 1 ≡ d .arb .reserve → tick t (runFrom d rs) ≡ true → never reset d rs ≡ true
     → throughout (requests (partner m)) d (rs ++ t ∷ []) ≡ true → isIdle ((next (runFrom d rs) t) .bus) ≡ true
     → resting (partner m) (next (runFrom d rs) t) ≡ true → owns (partner m) (next (runFrom d rs) t) ≡ true
 unfolding runFrom ticksIn
 by-the-tick m [] t d i u rt l h nr st idle rest =
     let q = now (requests (partner m)) [] (next d t) (hence (requests (partner m)) t [] d st) in
-    follows m t d (i m u) rt (omega arith) h q idle rest
+    follows m t d u rt (omega arith) h q idle rest
 by-the-tick m (r ∷ rs) t d i u rt l h nr st idle rest =
     let p : Master = partner m in
     let n : Device = next d r in
     let ok = never-comes reset r rs d nr in
     let on = hence (requests p) r (rs ++ t ∷ []) d st in
-    elim (lot m r d (i m u) (ok .0)) [
+    elim (lot m r d u (ok .0)) [
       | keeps k ↦
-          (let same : reserveOf m n ≡ reserveOf m d = rt-kept m r d (i m u) (ok .0) k in
-          let count : n .arb .reserve ≡ d .arb .reserve - worth 1 (tick r d) = reserve-kept m r d (i m u) (ok .0) k in
-          by-the-tick m rs t n (next-owned r d i) (k .owner .turn) (omega arith) (omega arith) h (ok .1) on idle rest)
+          (let same : reserveOf m n ≡ reserveOf m d = rt-kept m r d u (ok .0) k in
+          let count : n .arb .reserve ≡ d .arb .reserve - worth 1 (tick r d) = reserve-kept m r d u (ok .0) k in
+          by-the-tick m rs t n (next-owned r d i) (k .owner) (omega arith) (omega arith) h (ok .1) on idle rest)
       | over o c ↦
-          (let x : Next p n = over-next m n o (now (requests p) (rs ++ t ∷ []) n on) in
+          (let x : Next p Sole n = over-next m n o (now (requests p) (rs ++ t ∷ []) n on) in
           line-owns p (next (runFrom n rs) t)
           (line p rs t n (next-owned r d i) (next-in-line p n x) (ok .1) (tick-no-reset t (runFrom n rs) h) on) rest)
     ]
@@ -109,4 +109,4 @@ partner-in-time-throughout k m rs r later t g l h nr st idle rest =
     let d : Device = next (run k rs) r in
     let new = taken-fresh m r (run k rs) g in
     let count : d .arb .reserve ≡ reserveOf m d = new .0 .reserve in
-    by-the-tick m later t d (next-owned r (run k rs) (run-owned k rs)) (new .1 .turn) (omega arith) (omega arith) h nr st idle rest
+    by-the-tick m later t d (next-owned r (run k rs) (run-owned k rs)) (new .1) (omega arith) (omega arith) h nr st idle rest

@@ -41,22 +41,22 @@ effect-kind (GeneralCall m b) d = either (Alike d) (softReset b) (λ h. refl) (�
 losses-kind : (t : Turn) (d : Device) → Alike d (lossesFrom t d)
 unfolding lossesFrom lost
 losses-kind Nobody d = refl
-losses-kind (Claims m) d = refl
-losses-kind (Owns m) d = either (Alike d) (runsOut (idleLimit d) (side m d) (d .arb .reserve) (d .bus)) (λ h. refl) (λ h. refl)
+losses-kind (Claims m g) d = refl
+losses-kind (Owns m g) d = either (Alike d) (runsOut (idleLimit d) (side m d) (d .arb .reserve) (d .bus)) (λ h. refl) (λ h. refl)
 
 -- part 4
 cut-kind : (on : Bool) (t : Turn) (d : Device) → Alike d (cutFrom on t d)
 unfolding cutFrom
 cut-kind on Nobody d = refl
-cut-kind on (Claims m) d = refl
-cut-kind on (Owns m) d = cut-cases (Alike d) on m d refl refl
+cut-kind on (Claims m g) d = refl
+cut-kind on (Owns m g) d = cut-cases (Alike d) on m g d refl refl
 
 -- part 6
 grant-kind : (t : Turn) (d : Device) → Alike d (grantFrom t d)
 unfolding grantFrom granted
 grant-kind Nobody d = refl
-grant-kind (Claims m) d = grant-cases (Alike d) m d refl refl
-grant-kind (Owns m) d = refl
+grant-kind (Claims m g) d = grant-cases (Alike d) m g d refl refl
+grant-kind (Owns m g) d = refl
 
 -- part 7
 connect-kind : (c : Clock) (d : Device) → Alike d (connect c d)

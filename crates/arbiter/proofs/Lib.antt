@@ -25,6 +25,7 @@ pub mod OldTraces
 pub mod Marks
 pub mod Witnesses
 pub mod LowCounts
+pub mod Grounds
 pub mod Hung
 pub mod HungRows
 pub mod Answers

@@ -3,7 +3,7 @@
 use mathlib.Core.Path.{_≡_, refl, sym, ap, _∙_, subst}
 use mathlib.Core.Bool.{true≢false, false≢true, and-eq-true-iff}
 use borrow.Author.Tests.{eqb-true}
-use Rattle.arbiter.specs.Types.{ℕ, Bool, true, false, _&&_, eqb, Master, Zero, One, Turn, Nobody, Claims, Owns, Port, Side, Bus, Kind, Device, Clock, Event}
+use Rattle.arbiter.specs.Types.{ℕ, Bool, true, false, _&&_, eqb, Master, Zero, One, Ground, Turn, Nobody, Claims, Owns, Port, Side, Bus, Kind, Device, Clock, Event}
 use Rattle.arbiter.specs.Words.{if_then_else_, side}
 use Rattle.arbiter.specs.Parts.{withTurn, withSide, withArb}
 use Rattle.arbiter.specs.State.{atRest}
@@ -14,12 +14,12 @@ use Rattle.arbiter.proofs.Effects.{kept}
 
 -- ---- what is left as it was
 
--- of both sides the four that `kept` names, and the hold
-abbrev pub sides : Device → (Bool × Bool × ℕ × Port) × (Bool × Bool × ℕ × Port) × ℕ
+-- of both sides those that `kept` names, and the hold
+abbrev pub sides : Device → (Bool × Bool × ℕ × Port × Bool) × (Bool × Bool × ℕ × Port × Bool) × ℕ
 sides d = (kept (d .side0), kept (d .side1), d .bus .hold)
 
 -- the same with the whole bus, the reserve count, the turn and the kind
-abbrev pub still : Device → (Bool × Bool × ℕ × Port) × (Bool × Bool × ℕ × Port) × Bus × ℕ × Turn × Kind
+abbrev pub still : Device → (Bool × Bool × ℕ × Port × Bool) × (Bool × Bool × ℕ × Port × Bool) × Bus × ℕ × Turn × Kind
 still d = (kept (d .side0), kept (d .side1), d .bus, d .arb .reserve, d .arb .turn, d .kind)
 
 -- What leaves the second leaves the first,
@@ -31,7 +31,7 @@ pub side-kept : (m : Master) (n d : Device) → sides n ≡ sides d → kept (si
 side-kept Zero n d e = ap (λ x. x .0) e
 side-kept One n d e = ap (λ x. x .1) e
 
--- A side with the same four in m's place changes none of this.
+-- A side with the same in m's place changes none of this.
 alike : (m : Master) (s : Side) (d : Device) → kept s ≡ kept (side m d) → still (withSide m s d) ≡ still d
 alike Zero s d e = ap (λ x. (x, kept (d .side1), d .bus, d .arb .reserve, d .arb .turn, d .kind)) e
 alike One s d e = ap (λ x. (kept (d .side0), x, d .bus, d .arb .reserve, d .arb .turn, d .kind)) e
@@ -41,8 +41,8 @@ alike One s d e = ap (λ x. (kept (d .side0), x, d .bus, d .arb .reserve, d .arb
 pub cut-still : (tick : Bool) (t : Turn) (d : Device) → still (cutFrom tick t d) ≡ still d
 unfolding cutFrom
 cut-still tick Nobody d = refl
-cut-still tick (Claims m) d = refl
-cut-still tick (Owns m) d = cut-cases (λ (n : Device). still n ≡ still d) tick m d (alike m _ d refl) refl
+cut-still tick (Claims m g) d = refl
+cut-still tick (Owns m g) d = cut-cases (λ (n : Device). still n ≡ still d) tick m g d (alike m _ d refl) refl
 
 -- ---- part 7 changes the switch, BUS_INIT, BUS_CONNECT and BUS_INIT_FAIL at most
 
@@ -58,31 +58,31 @@ turned t d = withArb (withTurn t (d .arb)) d
 -- what part 6 makes of the turn: a claimant with its port at rest and no hold owns
 abbrev pub awarded : Turn → Device → Turn
 awarded Nobody d = Nobody
-awarded (Claims m) d = if atRest ((side m d) .port) && eqb (d .bus .hold) 0 then Owns m else Claims m
-awarded (Owns m) d = Owns m
+awarded (Claims m g) d = if atRest ((side m d) .port) && eqb (d .bus .hold) 0 then Owns m g else Claims m g
+awarded (Owns m g) d = Owns m g
 
 -- A grant sets the grant's interrupt, zeroes the idle count and sets the reserve count: the sides and the hold are left.
-granted-sides : (m : Master) (d : Device) → sides (granted m d) ≡ sides d
+granted-sides : (m : Master) (g : Ground) (d : Device) → sides (granted m g d) ≡ sides d
 unfolding granted
-granted-sides Zero d = refl
-granted-sides One d = refl
+granted-sides Zero g d = refl
+granted-sides One g d = refl
 
 grant-sides : (t : Turn) (d : Device) → sides (grantFrom t d) ≡ sides d
 unfolding grantFrom
 grant-sides Nobody d = refl
-grant-sides (Claims m) d = grant-cases (λ (n : Device). sides n ≡ sides d) m d (granted-sides m d) refl
-grant-sides (Owns m) d = refl
+grant-sides (Claims m g) d = grant-cases (λ (n : Device). sides n ≡ sides d) m g d (granted-sides m g d) refl
+grant-sides (Owns m g) d = refl
 
 -- Of the turn t it makes this.
 grant-turn : (t : Turn) (d : Device) → (grantFrom t (turned t d)) .arb .turn ≡ awarded t d
 unfolding grantFrom granted
 grant-turn Nobody d = refl
-grant-turn (Claims m) d = go (atRest ((side m d) .port) && eqb (d .bus .hold) 0)
+grant-turn (Claims m g) d = go (atRest ((side m d) .port) && eqb (d .bus .hold) 0)
   where
-    go : (b : Bool) → (if b then granted m (turned (Claims m) d) else turned (Claims m) d) .arb .turn ≡ (if b then Owns m else Claims m)
+    go : (b : Bool) → (if b then granted m g (turned (Claims m g) d) else turned (Claims m g) d) .arb .turn ≡ (if b then Owns m g else Claims m g)
     go true = refl
     go false = refl
-grant-turn (Owns m) d = refl
+grant-turn (Owns m g) d = refl
 
 -- ---- parts 4 to 7
 
@@ -102,20 +102,20 @@ after-sides e d =
     ∙ still-sides c d (cut-still (isTick e) (d .arb .turn) d)
 
 -- and of an owned bus everything that `still` names.
-claim-owned : (m : Master) (d : Device) → d .arb .turn ≡ Owns m → claim d ≡ d
+claim-owned : (m : Master) {g : Ground} (d : Device) → d .arb .turn ≡ Owns m g → claim d ≡ d
 unfolding claim
 claim-owned m d h = ap (λ (t : Turn). turned (claimAfter t d) d) h ∙ ap (λ (t : Turn). turned t d) (sym h)
 
-grant-owned : (m : Master) (d : Device) → d .arb .turn ≡ Owns m → grant d ≡ d
+grant-owned : (m : Master) {g : Ground} (d : Device) → d .arb .turn ≡ Owns m g → grant d ≡ d
 unfolding grant grantFrom
 grant-owned m d h = ap (λ (t : Turn). grantFrom t d) h
 
-pub after-owned : (e : Event) (m : Master) (d : Device) → d .arb .turn ≡ Owns m → still (after e d) ≡ still d
+pub after-owned : (e : Event) (m : Master) {g : Ground} (d : Device) → d .arb .turn ≡ Owns m g → still (after e d) ≡ still d
 unfolding cut
-after-owned e m d h =
+after-owned e m {g} d h =
     let c : Device = cut (isTick e) d in
     let s : still c ≡ still d = cut-still (isTick e) (d .arb .turn) d in
-    let o : c .arb .turn ≡ Owns m = ap (λ x. x .4) s ∙ h in
+    let o : c .arb .turn ≡ Owns m g = ap (λ x. x .4) s ∙ h in
     ap (λ (x : Device). still (connect (clockOf e) x)) (ap grant (claim-owned m c o) ∙ grant-owned m c o)
     ∙ connect-still (clockOf e) c
     ∙ s
@@ -125,15 +125,15 @@ after-owned e m d h =
 -- some master owns
 abbrev pub owned : Turn → Bool
 owned Nobody = false
-owned (Claims m) = false
-owned (Owns m) = true
+owned (Claims m g) = false
+owned (Owns m g) = true
 
 -- Parts 3 and 4 do nothing to it,
 unlost : (t : Turn) (d : Device) → owned t ≡ false → lossesFrom t d ≡ d
 unfolding lossesFrom
 unlost Nobody d h = refl
-unlost (Claims m) d h = refl
-unlost (Owns m) d h = absurd (true≢false h)
+unlost (Claims m g) d h = refl
+unlost (Owns m g) d h = absurd (true≢false h)
 
 pub losses-unowned : (d : Device) → owned (d .arb .turn) ≡ false → losses d ≡ d
 unfolding losses
@@ -142,8 +142,8 @@ losses-unowned d h = unlost (d .arb .turn) d h
 uncut : (tick : Bool) (t : Turn) (d : Device) → owned t ≡ false → cutFrom tick t d ≡ d
 unfolding cutFrom
 uncut tick Nobody d h = refl
-uncut tick (Claims m) d h = refl
-uncut tick (Owns m) d h = absurd (true≢false h)
+uncut tick (Claims m g) d h = refl
+uncut tick (Owns m g) d h = absurd (true≢false h)
 
 -- the turn after part 5
 abbrev claimed : Device → Turn
@@ -180,43 +180,43 @@ fresh-still m n d e h =
     }
 
 -- and part 6 makes it so:
-granted-fresh : (m : Master) (d : Device) → resting m d && eqb (d .bus .hold) 0 ≡ true → Fresh m (granted m d)
+granted-fresh : (m : Master) (g : Ground) (d : Device) → resting m d && eqb (d .bus .hold) 0 ≡ true → Fresh m (granted m g d)
 unfolding granted
-granted-fresh Zero d h =
+granted-fresh Zero g d h =
     let both = and-eq-true-iff (resting Zero d) (eqb (d .bus .hold) 0) .0 h in
     record { reserve = refl; idle = refl; rest = both .0; hold = eqb-true (d .bus .hold) 0 (both .1) }
-granted-fresh One d h =
+granted-fresh One g d h =
     let both = and-eq-true-iff (resting One d) (eqb (d .bus .hold) 0) .0 h in
     record { reserve = refl; idle = refl; rest = both .0; hold = eqb-true (d .bus .hold) 0 (both .1) }
 
 -- a turn has one owner,
-pub owner-same : (k m : Master) → Owns k ≡ Owns m → k ≡ m
+pub owner-same : (k m : Master) {g j : Ground} → Owns k g ≡ Owns m j → k ≡ m
 owner-same k m h = cc
 
 -- and a claimant owns after part 6 only by a new grant.
-grant-fresh : (m : Master) (t : Turn) (d : Device) → owned t ≡ false → (grantFrom t (turned t d)) .arb .turn ≡ Owns m → Fresh m (grantFrom t (turned t d))
+grant-fresh : (m : Master) {j : Ground} (t : Turn) (d : Device) → owned t ≡ false → (grantFrom t (turned t d)) .arb .turn ≡ Owns m j → Fresh m (grantFrom t (turned t d))
 unfolding grantFrom granted
 grant-fresh m Nobody d u h = absurd (false≢true (ap owned h))
-grant-fresh m (Claims k) d u h = go (atRest ((side k d) .port) && eqb (d .bus .hold) 0) refl h
+grant-fresh m {j} (Claims k g) d u h = go (atRest ((side k d) .port) && eqb (d .bus .hold) 0) refl h
   where
-    g : Bool → Device
-    g b = if b then granted k (turned (Claims k) d) else turned (Claims k) d
+    given : Bool → Device
+    given b = if b then granted k g (turned (Claims k g) d) else turned (Claims k g) d
 
-    go : (b : Bool) → atRest ((side k d) .port) && eqb (d .bus .hold) 0 ≡ b → (g b) .arb .turn ≡ Owns m → Fresh m (g b)
+    go : (b : Bool) → atRest ((side k d) .port) && eqb (d .bus .hold) 0 ≡ b → (given b) .arb .turn ≡ Owns m j → Fresh m (given b)
     go true t o =
-        subst (λ (j : Master). Fresh j (granted k (turned (Claims k) d))) (owner-same k m o)
-        (granted-fresh k (turned (Claims k) d) t)
+        subst (λ (i : Master). Fresh i (granted k g (turned (Claims k g) d))) (owner-same k m o)
+        (granted-fresh k g (turned (Claims k g) d) t)
     go false t o = absurd (false≢true (ap owned o))
-grant-fresh m (Owns k) d u h = absurd (true≢false u)
+grant-fresh m (Owns k g) d u h = absurd (true≢false u)
 
 -- A claim is no grant, and part 5 makes no owner.
 claimed-unowned : (t : Turn) (d : Device) → owned t ≡ false → owned (claimAfter t d) ≡ false
-claimed-unowned Nobody d h = new-cases (λ (t : Turn). owned t ≡ false) d refl (λ k. refl)
-claimed-unowned (Claims m) d h = claim-cases (λ (t : Turn). owned t ≡ false) m d refl (λ k. refl)
-claimed-unowned (Owns m) d h = absurd (true≢false h)
+claimed-unowned Nobody d h = new-cases (λ (t : Turn). owned t ≡ false) d refl (λ k g. refl)
+claimed-unowned (Claims m g) d h = claim-cases (λ (t : Turn). owned t ≡ false) m g d refl (λ k g. refl)
+claimed-unowned (Owns m g) d h = absurd (true≢false h)
 
 -- So who owns after part 7 on a bus that nobody owned before part 4 has a new grant.
-pub after-fresh : (m : Master) (e : Event) (d : Device) → owned (d .arb .turn) ≡ false → (after e d) .arb .turn ≡ Owns m → Fresh m (after e d)
+pub after-fresh : (m : Master) {g : Ground} (e : Event) (d : Device) → owned (d .arb .turn) ≡ false → (after e d) .arb .turn ≡ Owns m g → Fresh m (after e d)
 after-fresh m e d u h =
     let s = after-unowned e d u in
     fresh-still m (after e d) (grantFrom (claimed d) (turned (claimed d) d)) s

@@ -22,7 +22,7 @@ unfolding wasReset freshSide
 fresh-request Zero d hold = refl
 fresh-request One d hold = refl
 
-reset-request : (m : Master) (e : Event) (d : Device) → isReset e ≡ true → requests m (effect e d) ≡ false
+pub reset-request : (m : Master) (e : Event) (d : Device) → isReset e ≡ true → requests m (effect e d) ≡ false
 unfolding effect
 reset-request m (Command k c) d h = absurd (false≢true h)
 reset-request m (Write k v) d h = absurd (false≢true h)
@@ -37,7 +37,7 @@ reset-request m (GeneralCall k b) d h = ap (requests m) (if-true (wasReset (hold
 
 module _ (e : Event) (d : Device) (h : isReset e ≡ true) where
   -- and makes the turn nobody's,
-  reset-turn : (mid e d) .arb .turn ≡ Nobody
+  pub reset-turn : (mid e d) .arb .turn ≡ Nobody
   unfolding levels
   reset-turn = effect-turn e d ∙ ap (λ (b : Bool). if b || ownerLetsGo (d .arb .turn) e d then Nobody else d .arb .turn) h
 

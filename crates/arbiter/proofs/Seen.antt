@@ -4,13 +4,14 @@ use Prim.Native.Nat.{_<_}
 use native.Mathlib.Omega.{arith}
 use mathlib.Core.Path.{_≡_, refl, sym, ap, ap₂, _∙_}
 use mathlib.Core.Bool.{Bool, true, false, not, _&&_, _||_, Bool·beq, false≢true, and-eq-true-iff, and-true, and-false}
-use Rattle.arbiter.specs.Types.{ℕ, _+_, _*_, eqb, ltb, Master, Zero, One, Turn, Nobody, Claims, Owns, Contr, Status, Control, Side, Bus, Switch, Apart, Initialising, Closed, Arbitration, Device, Raw, Stepped}
+use Rattle.arbiter.specs.Types.{ℕ, _+_, _*_, eqb, ltb, Master, Zero, One, Ground, Sole, Priority, LastGranted, Turn, Nobody, Claims, Owns, Contr, Status, Control, Side, Bus, Switch, Apart, Initialising, Closed, Arbitration, Device, Raw, Stepped}
 use Rattle.arbiter.specs.Words.{bit, worth, byteOf, sameMaster, partner, side}
 use Rattle.arbiter.specs.State.{ownsTurn, owns, closedFor, isInitialising, sclHigh, sdaHigh, busHung}
 use Rattle.arbiter.specs.Registers.{contrByte, statusByte, registerByte, readsAt}
-use Rattle.arbiter.specs.Steps.{masterNumber, ownerNumber, switchNumber, ownerByte, taken, refused, step, run}
+use Rattle.arbiter.specs.Steps.{turnGround, masterNumber, ownerNumber, switchNumber, ownerByte, taken, refused, step, run}
 use Rattle.arbiter.specs.AuditWords.{next}
 use Rattle.arbiter.specs.Audit.{ownerBits, switchBits, AnswersShow, AnswersShowOne, RegistersShow, RegistersShowOne}
+use Rattle.arbiter.specs.Grounds.{groundBits, groundShown}
 use Rattle.arbiter.proofs.Bitwise.{same}
 use Rattle.arbiter.proofs.Every.{both, both-at}
 use Rattle.arbiter.proofs.Choice.{split, same-self}
@@ -30,15 +31,15 @@ step-shows d r = step-cases ShowsItself d r (λ e x s. refl) (λ n u. refl)
 -- an owner's number fits two bits
 owner-below : (t : Turn) → ownerNumber t < 4
 owner-below Nobody = omega arith
-owner-below (Claims m) = omega arith
-owner-below (Owns Zero) = omega arith
-owner-below (Owns One) = omega arith
+owner-below (Claims m g) = omega arith
+owner-below (Owns Zero g) = omega arith
+owner-below (Owns One g) = omega arith
 
 -- the byte of a turn and a switch
 abbrev byteFor : Turn → Switch → ℕ
-byteFor t w = ownerNumber t + 4 * switchNumber w + worth 16 (isInitialising w)
+byteFor t w = ownerNumber t + 4 * switchNumber w + worth 16 (isInitialising w) + 32 * turnGround t
 
--- the switch adds fours, and the initialisation a sixteen
+-- the switch adds fours, the initialisation a sixteen, and the ground thirty-twos
 bits-of : (t : Turn) (w : Switch) → (ownerBits (byteFor t w) ≡ ownerNumber t) × (switchBits (byteFor t w) ≡ switchNumber w)
 bits-of t Apart = omega (arith, owner-below t)
 bits-of t (Initialising k n) = omega (arith, owner-below t)
@@ -54,6 +55,26 @@ shown-bits d r =
     let both-bits = bits-of (a .turn) (a .switch) in
     (ap ownerBits (step-shows d r) ∙ both-bits .0, ap switchBits (step-shows d r) ∙ both-bits .1)
 
+-- and its ground
+ground-below : (t : Turn) → turnGround t < 4
+ground-below Nobody = omega arith
+ground-below (Claims m Sole) = omega arith
+ground-below (Claims m Priority) = omega arith
+ground-below (Claims m LastGranted) = omega arith
+ground-below (Owns m Sole) = omega arith
+ground-below (Owns m Priority) = omega arith
+ground-below (Owns m LastGranted) = omega arith
+
+ground-of : (t : Turn) (w : Switch) → groundBits (byteFor t w) ≡ turnGround t
+ground-of t Apart = omega (arith, owner-below t, ground-below t)
+ground-of t (Initialising k n) = omega (arith, owner-below t, ground-below t)
+ground-of t (Closed Zero) = omega (arith, owner-below t, ground-below t)
+ground-of t (Closed One) = omega (arith, owner-below t, ground-below t)
+
+pub ground-shown : (d : Device) (r : Raw) → groundShown r d ≡ turnGround ((next d r) .arb .turn)
+unfolding ownerByte
+ground-shown d r = ap groundBits (step-shows d r) ∙ ground-of ((next d r) .arb .turn) ((next d r) .arb .switch)
+
 -- a master is told by its number, and 0 is nobody's
 no-number : (m : Master) → eqb 0 (masterNumber m) ≡ false
 no-number Zero = refl
@@ -68,8 +89,8 @@ number-of One One = refl
 -- no number but the owner's own is the owner's
 owner-told : (m : Master) (t : Turn) → eqb (ownerNumber t) (masterNumber m) ≡ ownsTurn m t
 owner-told m Nobody = no-number m
-owner-told m (Claims k) = no-number m
-owner-told m (Owns k) = number-of m k
+owner-told m (Claims k g) = no-number m
+owner-told m (Owns k g) = number-of m k
 
 -- and so for the connected one
 connected-told : (m : Master) (w : Switch) → eqb (switchNumber w) (masterNumber m) ≡ closedFor m w
@@ -88,9 +109,9 @@ answers-show k rs r m =
 -- an owner's number is below 3
 owner-low : (t : Turn) → ltb (ownerNumber t) 3 ≡ true
 owner-low Nobody = refl
-owner-low (Claims k) = refl
-owner-low (Owns Zero) = refl
-owner-low (Owns One) = refl
+owner-low (Claims k g) = refl
+owner-low (Owns Zero g) = refl
+owner-low (Owns One g) = refl
 
 -- where the switch serves only an owner, its number is 0 or the owner's
 abbrev oneNumber : ℕ → ℕ → Bool
@@ -100,11 +121,11 @@ one-number : (t : Turn) (w : Switch) → ((m : Master) → serves m w ≡ true �
 one-number t Apart h = refl
 one-number t (Initialising k n) h = refl
 one-number Nobody (Closed k) h = absurd (false≢true (h k (same-self k)))
-one-number (Claims m) (Closed k) h = absurd (false≢true (h k (same-self k)))
-one-number (Owns Zero) (Closed Zero) h = refl
-one-number (Owns Zero) (Closed One) h = absurd (false≢true (h One refl))
-one-number (Owns One) (Closed Zero) h = absurd (false≢true (h Zero refl))
-one-number (Owns One) (Closed One) h = refl
+one-number (Claims m g) (Closed k) h = absurd (false≢true (h k (same-self k)))
+one-number (Owns Zero g) (Closed Zero) h = refl
+one-number (Owns Zero g) (Closed One) h = absurd (false≢true (h One refl))
+one-number (Owns One g) (Closed Zero) h = absurd (false≢true (h Zero refl))
+one-number (Owns One g) (Closed One) h = refl
 
 pub answers-show-one : AnswersShowOne
 answers-show-one k rs r =

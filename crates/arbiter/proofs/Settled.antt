@@ -2,14 +2,14 @@
 -- Assumes nothing.
 use mathlib.Core.Path.{_≡_, refl, sym, ap, ap₂, subst, _∙_}
 use mathlib.Core.Bool.{Bool, true, false, not, _&&_, _||_, false≢true, and-eq-true-iff, and-false, or-false}
-use Rattle.arbiter.specs.Types.{ℕ, List, eqb, Master, Zero, One, Turn, Nobody, Claims, Owns, Side, Bus, Switch, Apart, Initialising, Closed, Clock, NoClock, Kind, Device, Raw, Event}
+use Rattle.arbiter.specs.Types.{ℕ, List, eqb, Master, Zero, One, Ground, Sole, Turn, Nobody, Claims, Owns, Side, Bus, Switch, Apart, Initialising, Closed, Clock, NoClock, Kind, Device, Raw, Event}
 use Rattle.arbiter.specs.Rules.{limitOf, idleLimit}
 use Rattle.arbiter.specs.Words.{if_then_else_, sameMaster, side}
 use Rattle.arbiter.specs.Parts.{withBusConnect, withBusInit, withContr, withDrives, withIdle, withTurn, withSwitch, withInitFail, withSide, withBus, withArb}
 use Rattle.arbiter.specs.State.{ownsTurn, owns, atRest, sclHigh, sdaHigh, isIdle}
 use Rattle.arbiter.specs.Registers.{released}
 use Rattle.arbiter.specs.Effects.{freshSide, powerUp, effect}
-use Rattle.arbiter.specs.Order.{isReset, isTick, clockOf, busyAfter, sclChanged, settledBus, levels, runsOut, lost, lossesFrom, losses, cutFrom, cut, claimBy, winner, newClaim, claimAfter, claim, granted, grantFrom, grant, switched, joined, clocked, keptJoined, connectFrom, connect}
+use Rattle.arbiter.specs.Order.{isReset, isTick, clockOf, busyAfter, sclChanged, settledBus, levels, runsOut, lost, lossesFrom, losses, cutFrom, cut, claimBy, winner, groundOf, newClaim, claimAfter, claim, granted, grantFrom, grant, switched, joined, clocked, keptJoined, connectFrom, connect}
 use Rattle.arbiter.specs.Steps.{parts, run}
 use Rattle.arbiter.specs.AuditWords.{requests}
 use Rattle.arbiter.specs.Audit.{RefusedUnchanged, partsAgain, AllSettled}
@@ -37,14 +37,14 @@ Still b = (sclHigh b ≡ true → b .lowscl ≡ 0) × (sdaHigh b ≡ true → b 
 -- part 3: the owner loses
 abbrev pub loses : Turn → Device → Bool
 loses Nobody d = false
-loses (Claims m) d = false
-loses (Owns m) d = runsOut (idleLimit d) (side m d) (d .arb .reserve) (d .bus)
+loses (Claims m g) d = false
+loses (Owns m g) d = runsOut (idleLimit d) (side m d) (d .arb .reserve) (d .bus)
 
 -- part 6: the claimant is to be granted
 abbrev pub isDue : Turn → Device → Bool
 isDue Nobody d = false
-isDue (Claims m) d = atRest ((side m d) .port) && eqb (d .bus .hold) 0
-isDue (Owns m) d = false
+isDue (Claims m g) d = atRest ((side m d) .port) && eqb (d .bus .hold) 0
+isDue (Owns m g) d = false
 
 -- the bus is still, and its owner does not lose
 abbrev pub Kept : Device → Type 0
@@ -70,23 +70,23 @@ bare d = record { side0 = bareSide (d .side0); side1 = bareSide (d .side1); bus 
 -- whether the owner loses is asked of RT, the idle timer, the reserve count and the bus
 loses-bare : (t : Turn) (d : Device) → loses t (bare d) ≡ loses t d
 loses-bare Nobody d = refl
-loses-bare (Claims m) d = refl
-loses-bare (Owns Zero) d = refl
-loses-bare (Owns One) d = refl
+loses-bare (Claims m g) d = refl
+loses-bare (Owns Zero g) d = refl
+loses-bare (Owns One g) d = refl
 
 -- who claims is asked of LOCK_REQ, the priorities and the last granted
 claim-bare : (t : Turn) (d : Device) → claimAfter t (bare d) ≡ claimAfter t d
 claim-bare Nobody d = refl
-claim-bare (Claims Zero) d = refl
-claim-bare (Claims One) d = refl
-claim-bare (Owns m) d = refl
+claim-bare (Claims Zero g) d = refl
+claim-bare (Claims One g) d = refl
+claim-bare (Owns m g) d = refl
 
 -- whether the claimant is to be granted is asked of its port and the hold
 due-bare : (t : Turn) (d : Device) → isDue t (bare d) ≡ isDue t d
 due-bare Nobody d = refl
-due-bare (Claims Zero) d = refl
-due-bare (Claims One) d = refl
-due-bare (Owns m) d = refl
+due-bare (Claims Zero g) d = refl
+due-bare (Claims One g) d = refl
+due-bare (Owns m g) d = refl
 
 module _ (x y : Device) (p : bare x ≡ bare y) where
   -- so a device that differs in those alone is as still, and its owner as safe
@@ -113,8 +113,8 @@ side-bare One s d h = λ i. record { side0 = bareSide (d .side0); side1 = h i; b
 cut-bare : (on : Bool) (t : Turn) (d : Device) → bare (cutFrom on t d) ≡ bare d
 unfolding cutFrom
 cut-bare on Nobody d = refl
-cut-bare on (Claims m) d = refl
-cut-bare on (Owns m) d = cut-cases (λ (x : Device). bare x ≡ bare d) on m d (side-bare m _ d refl) refl
+cut-bare on (Claims m g) d = refl
+cut-bare on (Owns m g) d = cut-cases (λ (x : Device). bare x ≡ bare d) on m g d (side-bare m _ d refl) refl
 
 -- part 7 touches nothing but those
 connect-bare : (c : Clock) (d : Device) → bare (connect c d) ≡ bare d
@@ -158,8 +158,8 @@ idle-released b h =
 pub losses-bus : (t : Turn) (d : Device) → Still (d .bus) → (lossesFrom t d) .bus ≡ d .bus
 unfolding lossesFrom lost
 losses-bus Nobody d still = refl
-losses-bus (Claims m) d still = refl
-losses-bus (Owns m) d still =
+losses-bus (Claims m g) d still = refl
+losses-bus (Owns m g) d still =
     either (λ (n : Device). n .bus ≡ d .bus) (runsOut (idleLimit d) (side m d) (d .arb .reserve) (d .bus))
     (λ h. idle-released (d .bus) (out-idle (idleLimit d) (limit-some (d .kind)) (side m d) (d .arb .reserve) (d .bus) still h)) (λ h. refl)
 
@@ -167,53 +167,56 @@ losses-bus (Owns m) d still =
 losses-kept : (t : Turn) (d : Device) → d .arb .turn ≡ t → Still (d .bus) → Kept (lossesFrom t d)
 unfolding lossesFrom lost
 losses-kept Nobody d e still = (still, ap (λ (t : Turn). loses t d) e)
-losses-kept (Claims m) d e still = (still, ap (λ (t : Turn). loses t d) e)
-losses-kept (Owns m) d e still =
+losses-kept (Claims m g) d e still = (still, ap (λ (t : Turn). loses t d) e)
+losses-kept (Owns m g) d e still =
     either Kept (runsOut (idleLimit d) (side m d) (d .arb .reserve) (d .bus))
     (λ h. (subst Still (sym (idle-released (d .bus) (out-idle (idleLimit d) (limit-some (d .kind)) (side m d) (d .arb .reserve) (d .bus) still h))) still, refl))
     (λ h. (still, ap (λ (t : Turn). loses t d) e ∙ h))
 
 -- ---- part 5: who claims stays the claimant, and a new claimant has nothing to lose
 
--- the winner, if both request
+-- the winner, if both request, and its ground
 abbrev winnerIn : Device → Master
 winnerIn d = winner (d .side0 .contr .priority) (d .side1 .contr .priority) (d .arb .last)
+
+abbrev groundIn : Device → Ground
+groundIn d = groundOf (d .side0 .contr .priority) (d .side1 .contr .priority)
 
 module _ (d : Device) where
   -- a new claimant requests; and where nobody claims, nobody requests
   new-stays : claimAfter (newClaim d) d ≡ newClaim d
-  new-stays = go (requests Zero d) (requests One d) (winnerIn d) refl refl
+  new-stays = go (requests Zero d) (requests One d) (winnerIn d) (groundIn d) refl refl
     where
-      go : (r0 r1 : Bool) (w : Master) → requests Zero d ≡ r0 → requests One d ≡ r1 → claimAfter (claimBy r0 r1 w) d ≡ claimBy r0 r1 w
-      go false false w e0 e1 = ap₂ (λ (r0 r1 : Bool). claimBy r0 r1 (winnerIn d)) e0 e1
-      go true false w e0 e1 = claimant-stays Zero d e0
-      go false true w e0 e1 = claimant-stays One d e1
-      go true true Zero e0 e1 = claimant-stays Zero d e0
-      go true true One e0 e1 = claimant-stays One d e1
+      go : (r0 r1 : Bool) (w : Master) (g : Ground) → requests Zero d ≡ r0 → requests One d ≡ r1 → claimAfter (claimBy r0 r1 w g) d ≡ claimBy r0 r1 w g
+      go false false w g e0 e1 = ap₂ (λ (r0 r1 : Bool). claimBy r0 r1 (winnerIn d) (groundIn d)) e0 e1
+      go true false w g e0 e1 = claimant-stays Zero Sole d e0
+      go false true w g e0 e1 = claimant-stays One Sole d e1
+      go true true Zero g e0 e1 = claimant-stays Zero g d e0
+      go true true One g e0 e1 = claimant-stays One g d e1
 
   -- part 5 done twice is part 5 done once
   claim-stays : (t : Turn) → claimAfter (claimAfter t d) d ≡ claimAfter t d
   claim-stays Nobody = new-stays
-  claim-stays (Claims m) =
-      either (λ (t : Turn). claimAfter t d ≡ t) (requests m d) (λ h. claimant-stays m d h) (λ h. new-stays)
-  claim-stays (Owns m) = refl
+  claim-stays (Claims m g) =
+      either (λ (t : Turn). claimAfter t d ≡ t) (requests m d) (λ h. claimant-stays m g d h) (λ h. new-stays)
+  claim-stays (Owns m g) = refl
 
   -- an owner stays the owner, and nobody else is made one
   claim-keeps : (t : Turn) → loses t d ≡ false → loses (claimAfter t d) d ≡ false
-  claim-keeps Nobody h = new-cases (λ (t : Turn). loses t d ≡ false) d refl (λ k. refl)
-  claim-keeps (Claims m) h = claim-cases (λ (t : Turn). loses t d ≡ false) m d refl (λ k. refl)
-  claim-keeps (Owns m) h = h
+  claim-keeps Nobody h = new-cases (λ (t : Turn). loses t d ≡ false) d refl (λ k g. refl)
+  claim-keeps (Claims m g) h = claim-cases (λ (t : Turn). loses t d ≡ false) m g d refl (λ k j. refl)
+  claim-keeps (Owns m g) h = h
 
   -- both are asked of the turn that is given, and not of the device's own
   loses-turn : (t u : Turn) → loses t (withArb (withTurn u (d .arb)) d) ≡ loses t d
   loses-turn Nobody u = refl
-  loses-turn (Claims m) u = refl
-  loses-turn (Owns m) u = refl
+  loses-turn (Claims m g) u = refl
+  loses-turn (Owns m g) u = refl
 
   claim-turn : (t u : Turn) → claimAfter t (withArb (withTurn u (d .arb)) d) ≡ claimAfter t d
   claim-turn Nobody u = refl
-  claim-turn (Claims m) u = refl
-  claim-turn (Owns m) u = refl
+  claim-turn (Claims m g) u = refl
+  claim-turn (Owns m g) u = refl
 
   -- so part 5 leaves a claimant that stays, and an owner as safe as before
   claim-ready : Kept d → Kept (claim d) × Claimed (claim d)
@@ -234,19 +237,19 @@ fresh-keeps limit some s b =
     either (λ (x : Bool). x ≡ false) (eqb (s .rt) 0) (λ z. ap (λ (x : Bool). s .contr .idletimer && x) some ∙ and-false (s .contr .idletimer)) (λ z. ap (λ (n : Bool). n && isIdle b) z)
 
 -- so a fresh owner does not lose at once, and an owner is the claimant, with no grant due
-granted-ready : (m : Master) (d : Device) → Still (d .bus) → Ready (granted m d)
+granted-ready : (m : Master) (g : Ground) (d : Device) → Still (d .bus) → Ready (granted m g d)
 unfolding granted
-granted-ready Zero d still = ((fresh-still (d .bus) still, fresh-keeps (idleLimit d) (limit-some (d .kind)) (d .side0) (d .bus)), refl, refl)
-granted-ready One d still = ((fresh-still (d .bus) still, fresh-keeps (idleLimit d) (limit-some (d .kind)) (d .side1) (d .bus)), refl, refl)
+granted-ready Zero g d still = ((fresh-still (d .bus) still, fresh-keeps (idleLimit d) (limit-some (d .kind)) (d .side0) (d .bus)), refl, refl)
+granted-ready One g d still = ((fresh-still (d .bus) still, fresh-keeps (idleLimit d) (limit-some (d .kind)) (d .side1) (d .bus)), refl, refl)
 
 -- whoever is due is granted, so after part 6 nobody is
 grant-ready : (t : Turn) (d : Device) → d .arb .turn ≡ t → Kept d → Claimed d → Ready (grantFrom t d)
 unfolding grantFrom
 grant-ready Nobody d e kept claimed = (kept, claimed, ap (λ (t : Turn). isDue t d) e)
-grant-ready (Owns m) d e kept claimed = (kept, claimed, ap (λ (t : Turn). isDue t d) e)
-grant-ready (Claims m) d e kept claimed =
-    either Ready (isDue (Claims m) d)
-    (λ h. granted-ready m d (kept .0))
+grant-ready (Owns m g) d e kept claimed = (kept, claimed, ap (λ (t : Turn). isDue t d) e)
+grant-ready (Claims m g) d e kept claimed =
+    either Ready (isDue (Claims m g) d)
+    (λ h. granted-ready m g d (kept .0))
     (λ h. (kept, claimed, ap (λ (t : Turn). isDue t d) e ∙ h))
 
 -- ---- a step leaves all of it, whatever the device was before
@@ -324,15 +327,15 @@ levels-again d still =
 losses-again : (t : Turn) (d : Device) → loses t d ≡ false → lossesFrom t d ≡ d
 unfolding lossesFrom
 losses-again Nobody d h = refl
-losses-again (Claims m) d h = refl
-losses-again (Owns m) d h = if-false (lost m d) d h
+losses-again (Claims m g) d h = refl
+losses-again (Owns m g) d h = if-false (lost m d) d h
 
 -- part 4, which needs a tick
 cut-again : (t : Turn) (d : Device) → cutFrom false t d ≡ d
 unfolding cutFrom
 cut-again Nobody d = refl
-cut-again (Claims m) d = refl
-cut-again (Owns m) d = refl
+cut-again (Claims m g) d = refl
+cut-again (Owns m g) d = refl
 
 -- part 5
 claim-again : (d : Device) → Claimed d → claim d ≡ d
@@ -343,8 +346,8 @@ claim-again d h = ap (λ (t : Turn). withArb (withTurn t (d .arb)) d) h
 grant-again : (t : Turn) (d : Device) → isDue t d ≡ false → grantFrom t d ≡ d
 unfolding grantFrom
 grant-again Nobody d h = refl
-grant-again (Claims m) d h = if-false (granted m d) d h
-grant-again (Owns m) d h = refl
+grant-again (Claims m g) d h = if-false (granted m g d) d h
+grant-again (Owns m g) d h = refl
 
 -- the switch is open where nobody owns and asks
 open-again : (d : Device) → Served d → ((j : Master) → owns j d && asksOn j d ≡ false) → switched Apart d ≡ d
@@ -368,8 +371,8 @@ kept-again m (Closed k) d s = if-true d (joined m d) s
 connect-again : (t : Turn) (d : Device) → d .arb .turn ≡ t → Served d → connectFrom NoClock t d ≡ d
 unfolding connectFrom
 connect-again Nobody d e h = open-again d h λ j. ap (λ (t : Turn). ownsTurn j t && asksOn j d) e
-connect-again (Claims m) d e h = open-again d h λ j. ap (λ (t : Turn). ownsTurn j t && asksOn j d) e
-connect-again (Owns m) d e h =
+connect-again (Claims m g) d e h = open-again d h λ j. ap (λ (t : Turn). ownsTurn j t && asksOn j d) e
+connect-again (Owns m g) d e h =
     either (λ (x : Device). x ≡ d) (asksOn m d)
     (λ a. kept-again m (d .arb .switch) d (h m ∙ ap₂ _&&_ (turn-owns m (d .arb .turn) e) a))
     (λ a. open-again d h λ j. ap (λ (t : Turn). ownsTurn j t && asksOn j d) e ∙ unasked j m (λ j. asksOn j d) a)

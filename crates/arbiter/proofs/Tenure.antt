@@ -5,7 +5,7 @@ use mathlib.Core.Path.{_≡_, refl, sym, ap, _∙_, subst}
 use mathlib.Core.Bool.{true≢false, false≢true, and-eq-true-iff, and-false}
 use mathlib.Core.Logic.{⊎-elim}
 use native.Mathlib.Nat.{sub-zero}
-use Rattle.arbiter.specs.Types.{ℕ, _-_, Bool, true, false, not, _&&_, _||_, List, eqb, Master, Nobody, Owns, Control, Side, Kind, Device, Raw, Event}
+use Rattle.arbiter.specs.Types.{ℕ, _-_, Bool, true, false, not, _&&_, _||_, List, eqb, Master, Ground, Nobody, Owns, Control, Side, Kind, Device, Raw, Event}
 use Rattle.arbiter.specs.Rules.{limitOf, idleLimit}
 use Rattle.arbiter.specs.Words.{if_then_else_, worth, side}
 use Rattle.arbiter.specs.Parts.{withContr, withRt}
@@ -23,9 +23,10 @@ use Rattle.arbiter.proofs.Order.{still, still-sides, side-kept, owned, 
 use Rattle.arbiter.proofs.Owner.{mid, expired, unheld, Over, Stays, stays, ends, fate, origin}
 use Rattle.arbiter.proofs.Raws.{refuses, takes, met}
 
--- m owns, no hold runs, and part 3 would find no loss.
+-- m owns, on some ground, no hold runs, and part 3 would find no loss.
 pub record Owner (m : Master) (d : Device) : Type 0 where
-  pub turn : d .arb .turn ≡ Owns m
+  pub ground : Ground
+  pub turn : d .arb .turn ≡ Owns m ground
   pub hold : d .bus .hold ≡ 0
   pub unlost : expired m d ≡ false
 
@@ -44,11 +45,12 @@ expired-still m n d e =
         (withContr (record { priority = c .priority; smbusdis = c .smbusdis; idletimer = timer; swrst = c .swrst; businit = c .businit; busconnect = c .busconnect; lockreq = c .lockreq }) (side m d))
 
 -- A new grant has not run out.
-fresh-owner : (m : Master) (d : Device) → d .arb .turn ≡ Owns m → Fresh m d → Owner m d
-fresh-owner m d t f =
+fresh-owner : (m : Master) {g : Ground} (d : Device) → d .arb .turn ≡ Owns m g → Fresh m d → Owner m d
+fresh-owner m {g} d t f =
     let timer : Bool = (side m d) .contr .idletimer in
     let rt : ℕ = (side m d) .rt in
     record {
+      ground = g;
       turn = t;
       hold = f .hold;
       unlost =
@@ -57,34 +59,35 @@ fresh-owner m d t f =
     }
 
 -- Who keeps its grant is the owner still.
-stays-owner : (m : Master) (e : Event) (d : Device) → isReset e ≡ false → d .bus .hold ≡ 0 → Stays m e d → Owner m (parts e d)
+stays-owner : (m : Master) {g : Ground} (e : Event) (d : Device) → isReset e ≡ false → d .bus .hold ≡ 0 → Stays m g e d → Owner m (parts e d)
 unfolding levels
-stays-owner m e d ok z s =
+stays-owner m {g} e d ok z s =
     record {
+      ground = g;
       turn = ap (λ x. x .4) (s .left) ∙ s .turn;
       hold = ap (λ x. x .2 .hold) (s .left) ∙ unheld e d ok z;
       unlost = expired-still m (parts e d) (mid e d) (s .left) ∙ s .unlost;
     }
 
 -- Part 1 makes nobody the owner.
-turn-back : (m : Master) (e : Event) (d : Device) → (effect e d) .arb .turn ≡ Owns m → (isReset e ≡ false) × (d .arb .turn ≡ Owns m)
-turn-back m e d h = go (isReset e) (ownerLetsGo (d .arb .turn) e d) (sym (effect-turn e d) ∙ h)
+turn-back : (m : Master) {g : Ground} (e : Event) (d : Device) → (effect e d) .arb .turn ≡ Owns m g → (isReset e ≡ false) × (d .arb .turn ≡ Owns m g)
+turn-back m {g} e d h = go (isReset e) (ownerLetsGo (d .arb .turn) e d) (sym (effect-turn e d) ∙ h)
   where
-    go : (r o : Bool) → (if r || o then Nobody else d .arb .turn) ≡ Owns m → (r ≡ false) × (d .arb .turn ≡ Owns m)
+    go : (r o : Bool) → (if r || o then Nobody else d .arb .turn) ≡ Owns m g → (r ≡ false) × (d .arb .turn ≡ Owns m g)
     go true o t = absurd (false≢true (ap owned t))
     go false true t = absurd (false≢true (ap owned t))
     go false false t = (refl, t)
 
 -- whoever owns does so with no hold and no loss to come
 abbrev pub Owned : Device → Type 0
-Owned d = (m : Master) → d .arb .turn ≡ Owns m → Owner m d
+Owned d = (m : Master) (g : Ground) → d .arb .turn ≡ Owns m g → Owner m d
 
 -- Each step leaves it so, and so it is in every run.
 parts-owned : (e : Event) (d : Device) → Owned d → Owned (parts e d)
 unfolding levels
-parts-owned e d i m h =
+parts-owned e d i m g h =
     ⊎-elim (fresh-owner m (parts e d) h)
-    (λ (s : Stays m e d). let b = turn-back m e d (s .turn) in stays-owner m e d (b .0) (i m (b .1) .hold) s)
+    (λ (s : Stays m g e d). let b = turn-back m e d (s .turn) in stays-owner m e d (b .0) (i m g (b .1) .hold) s)
     (origin m e d h)
 
 pub next-owned : (r : Raw) (d : Device) → Owned d → Owned (next d r)
@@ -92,29 +95,29 @@ next-owned r d i = step-keeps Owned parts-owned d r i
 
 pub run-owned : (k : Kind) (rs : List Raw) → Owned (run k rs)
 unfolding run powerUp
-run-owned k rs = run-keeps Owned parts-owned (powerUp k) rs λ m h. absurd (false≢true (ap owned h))
+run-owned k rs = run-keeps Owned parts-owned (powerUp k) rs λ m g h. absurd (false≢true (ap owned h))
 
 -- ---- a new grant
 
 -- Who did not own before an event and does after it has a new grant.
-parts-fresh : (m : Master) (e : Event) (d : Device) → owns m d ≡ false → (parts e d) .arb .turn ≡ Owns m → Fresh m (parts e d)
+parts-fresh : (m : Master) {g : Ground} (e : Event) (d : Device) → owns m d ≡ false → (parts e d) .arb .turn ≡ Owns m g → Fresh m (parts e d)
 unfolding levels
-parts-fresh m e d o h =
+parts-fresh m {g} e d o h =
     ⊎-elim (λ (f : Fresh m (parts e d)). f)
-    (λ (s : Stays m e d). absurd (true≢false (sym (turn-owns m (d .arb .turn) (turn-back m e d (s .turn) .1)) ∙ o))) (origin m e d h)
+    (λ (s : Stays m g e d). absurd (true≢false (sym (turn-owns m (d .arb .turn) (turn-back m e d (s .turn) .1)) ∙ o))) (origin m e d h)
 
 -- So of any event, and its owner has no hold and no loss to come.
 pub taken-fresh : (m : Master) (r : Raw) (d : Device) → grantTaken m r d ≡ true → (Fresh m (next d r)) × (Owner m (next d r))
 taken-fresh m r d h =
     let both = and-eq-true-iff (not (owns m d)) (owns m (next d r)) .0 h in
-    let t : (next d r) .arb .turn ≡ Owns m = owns-turn m ((next d r) .arb .turn) (both .1) in
+    let t = owns-turn m ((next d r) .arb .turn) (both .1) in
     let o : owns m d ≡ false = not-true (owns m d) (both .0) in
     let f : Fresh m (next d r) =
     elim (met r d) [
       | refuses x ↦ absurd (true≢false (sym (both .1) ∙ ap (owns m) (x .after) ∙ o))
-      | takes e x ↦ subst (Fresh m) (sym (x .after)) (parts-fresh m e d o (sym (ap (λ (n : Device). n .arb .turn) (x .after)) ∙ t))
+      | takes e x ↦ subst (Fresh m) (sym (x .after)) (parts-fresh m e d o (sym (ap (λ (n : Device). n .arb .turn) (x .after)) ∙ t .1))
     ]
-    in (f, fresh-owner m (next d r) t f)
+    in (f, fresh-owner m (next d r) (t .1) f)
 
 pub granted-at-rest : GrantedAtRest
 granted-at-rest m d r h = let fresh = taken-fresh m r d h .0 in (fresh .rest, fresh .hold)

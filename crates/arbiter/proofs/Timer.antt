@@ -36,8 +36,8 @@ lost-timer One One d = refl
 losses-timer : (m : Master) (t : Turn) (d : Device) → idleTimerOn m (lossesFrom t d) ≡ idleTimerOn m d
 unfolding lossesFrom
 losses-timer m Nobody d = refl
-losses-timer m (Claims k) d = refl
-losses-timer m (Owns k) d = either (λ (n : Device). idleTimerOn m n ≡ idleTimerOn m d) (expired k d) (λ h. lost-timer m k d) (λ h. refl)
+losses-timer m (Claims k g) d = refl
+losses-timer m (Owns k g) d = either (λ (n : Device). idleTimerOn m n ≡ idleTimerOn m d) (expired k d) (λ h. lost-timer m k d) (λ h. refl)
 
 -- What the timer is when part 3 looks it is after the step.
 timer-left : (m : Master) (r : Raw) (d : Device) → idleTimerOn m (next d r) ≡ idleTimerOn m (levelled r d)
@@ -100,5 +100,6 @@ pub idle-timer-exact : IdleTimerExact
 idle-timer-exact k m rs r own z ok on =
     let d : Device = run k rs in
     let l : Device = levelled r d in
-    exact m r d (run-owned k rs m (owns-turn m (d .arb .turn) own)) z ok on
+    let t = owns-turn m (d .arb .turn) own in
+    exact m r d (run-owned k rs m (t .0) (t .1)) z ok on
     ∙ ap (λ (j : Kind). not (idleTimerOn m l && eqb (l .bus .idle) (limitOf j))) (runs-of-kind k rs)

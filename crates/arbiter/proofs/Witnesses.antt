@@ -13,7 +13,7 @@ use Rattle.arbiter.specs.Effects.{commanded, written, paired, wasRead, l
 use Rattle.arbiter.specs.Order.{levels, lost, lossesFrom, losses, cutFrom, cut, winner, claim, granted, grantFrom, grant, joined, clocked, keptJoined, connectFrom, connect}
 use Rattle.arbiter.specs.Steps.{parts, ownerByte, linesByte, byteRead, refused, taken, stepEvent, stepDecoded, step, runFrom, run}
 use Rattle.arbiter.specs.AuditWords.{next, reserveOf, idleTimerOn, isStopOf, acceptedAs, resting, reset, withdrawalOf, isAccepted, levelled, ticksIn, never, throughout}
-use Rattle.arbiter.specs.State.{owns, isIdle}
+use Rattle.arbiter.specs.State.{owns, isIdle, claims}
 use Rattle.arbiter.specs.Audit.{OneConnected, ApartUnowned, ResetEnds, ReserveLasts, ReserveEnds, ReserveExact, PartnerNext, PartnerInTime, PartnerInTimeThroughout, HeldUntilLetGo, IdleTimerExact, IdleTimerEnds, RefusedUnchanged}
 use Rattle.arbiter.specs.Witnesses.{oneConnected, apartUnowned, resetEnds, reserveLasts, reserveEnds, reserveExact, exactIdle, exactBusy, nextAtRest, nextAtStop, partnerInTime, partnerInTimeThroughout, heldUntilLetGo, idleTimerExact, idleTimerEnds, refusedUnchanged, allMet, witnessesOf, WitnessesMeet}
 
@@ -110,7 +110,7 @@ decoded-stop p UnknownKind d h = absurd (false≢true h)
 decoded-stop p BadField d h = absurd (false≢true h)
 
 pub next-at-stop-met : PartnerNext → (k : Kind) (m : Master) (rs : List Raw) (r : Raw) (later : List Raw) (t : Raw) → Holds (nextAtStop k m rs r later t)
-    → let w : Device = runFrom (next (run k rs) r) later in (w .arb .turn ≡ Claims (partner m)) × (owns (partner m) (next w t) ≡ true)
+    → let w : Device = runFrom (next (run k rs) r) later in (claims (partner m) w ≡ true) × (owns (partner m) (next w t) ≡ true)
 next-at-stop-met told k m rs r later t (busy, (resets, (gone, (stops, (stop, (ended, (reset-not, (asks, _)))))))) =
     let p : Master = partner m in
     let d : Device = next (run k rs) r in

@@ -2,6 +2,7 @@
 -- Assumes nothing.
 use Rattle.arbiter.specs.Audit.{RunsOn, KeepsKind, RunsOfKind, OneConnected, ApartUnowned, AnswersShow, AnswersShowOne, RegistersShow, RegistersShowOne, ResetEnds, ReserveLasts, ReserveEnds, ReserveExact, PartnerNext, PartnerInTime, PartnerInTimeThroughout, HeldUntilLetGo, IdleTimerExact, IdleTimerEnds, GrantedAtRest, EndsDisconnected, RefusedUnchanged, AllSettled}
 use Rattle.arbiter.specs.Bitwise.{AssertedBitByBit, ClearedBitByBit}
+use Rattle.arbiter.specs.Grounds.{GroundWithClaim, GroundOfChoice, GroundStays, ContestIsPair}
 use Rattle.arbiter.specs.Hung.{HungExact, ClockNotHung}
 use Rattle.arbiter.specs.HungRows.{HungRowsHold, SlowClockNeverHung}
 use Rattle.arbiter.specs.OldTraces.{ConvertedAccepted, OldRefused}
@@ -39,6 +40,11 @@ pub record Answers : Type 0 where
   pub endsDisconnected : EndsDisconnected
   pub refusedUnchanged : RefusedUnchanged
   pub allSettled : AllSettled
+  -- On what ground was a claim won?
+  pub groundWithClaim : GroundWithClaim
+  pub groundOfChoice : GroundOfChoice
+  pub groundStays : GroundStays
+  pub contestIsPair : ContestIsPair
   -- What does BUS_HUNG mean?
   pub hungExact : HungExact
   pub clockNotHung : ClockNotHung

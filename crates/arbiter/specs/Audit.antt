@@ -4,10 +4,10 @@
 -- Assumes nothing.
 use Prim.Native.Nat.{_<_, _≤_}
 use mathlib.Core.Path.{_≡_}
-use Rattle.arbiter.specs.Types.{ℕ, _+_, _/_, _%_, true, false, not, _&&_, _||_, List, [], _∷_, _++_, eqb, ltb, Master, Claims, Contr, Status, Apart, NoClock, Kind, Device, Raw, Stop, Reads}
+use Rattle.arbiter.specs.Types.{ℕ, _+_, _/_, _%_, true, false, not, _&&_, _||_, List, [], _∷_, _++_, eqb, ltb, Master, Contr, Status, Apart, NoClock, Kind, Device, Raw, Stop, Reads}
 use Rattle.arbiter.specs.Rules.{limitOf}
 use Rattle.arbiter.specs.Words.{bit, partner, side}
-use Rattle.arbiter.specs.State.{owns, connected, isInitialising, isIdle}
+use Rattle.arbiter.specs.State.{owns, claims, connected, isInitialising, isIdle}
 use Rattle.arbiter.specs.Registers.{readsAt}
 use Rattle.arbiter.specs.Events.{decode}
 use Rattle.arbiter.specs.Order.{levels, losses, cut, claim, grant, connect}
@@ -112,7 +112,7 @@ abbrev pub IsNext : Master → Device → Type 0
 IsNext p d =
     (resting p d ≡ true → owns p d ≡ true)
     × (resting p d ≡ false → (later : List Raw) → never reset d later ≡ true → never (withdrawalOf p) d later ≡ true → never (stopOf p) d later ≡ true
-    → ((runFrom d later) .arb .turn ≡ Claims p) × ((r : Raw) → decode r ≡ Reads (Stop p) → owns p (next (runFrom d later) r) ≡ true))
+    → (claims p (runFrom d later) ≡ true) × ((r : Raw) → decode r ≡ Reads (Stop p) → owns p (next (runFrom d later) r) ≡ true))
 
 -- r, no reset, ends m's grant, and the partner's request stands after it: the partner is next.
 abbrev pub PartnerNext : Type 0

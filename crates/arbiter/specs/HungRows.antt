@@ -74,8 +74,8 @@ changedRows =
     ∷ (statusAfter (heldClock ++ times 500 tick) is free 0)
     ∷ (statusAfter (heldClock ++ times 501 tick) is hung 0)
     -- the drive toggles SCL
-    ∷ (statusAfter (drivenClock ++ times 500 tick) is free 1)
-    ∷ (statusAfter (drivenClock ++ times 501 tick) is hung 1)
+    ∷ (statusAfter (drivenClock ++ times 500 tick) is free 0x21)
+    ∷ (statusAfter (drivenClock ++ times 501 tick) is hung 0x21)
     ∷ []
 
 -- INT_STATUS bit 6 goes with it, and so does the output: INT0 with its mask bit 6 at 0

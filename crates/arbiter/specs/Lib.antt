@@ -18,6 +18,7 @@ pub mod Listing
 pub mod Writing
 pub mod Marks
 pub mod Witnesses
+pub mod Grounds
 pub mod Hung
 pub mod HungRows
 pub mod Answers

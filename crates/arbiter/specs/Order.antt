@@ -1,6 +1,6 @@
 -- Document 01, "Order inside a step", parts 2 to 7. Part 1, the event's own effect, is in Effects.
 -- Assumes nothing.
-use Rattle.arbiter.specs.Types.{ℕ, _+_, Bool, true, false, not, _&&_, _||_, List, [], _∷_, eqb, ltb, getD, Master, Zero, One, Turn, Nobody, Claims, Owns, Last, Never, Was, Side, Bus, Switch, Apart, Initialising, Closed, Arbitration, Device, Clock, NoClock, ClockLow, ClockHigh, Event, Command, Write, Read, Stop, Pair, Lines, Tick, Pulse, Reset, GeneralCall}
+use Rattle.arbiter.specs.Types.{ℕ, _+_, Bool, true, false, not, _&&_, _||_, List, [], _∷_, eqb, ltb, getD, Master, Zero, One, Ground, Sole, Priority, LastGranted, Turn, Nobody, Claims, Owns, Last, Never, Was, Side, Bus, Switch, Apart, Initialising, Closed, Arbitration, Device, Clock, NoClock, ClockLow, ClockHigh, Event, Command, Write, Read, Stop, Pair, Lines, Tick, Pulse, Reset, GeneralCall}
 use Rattle.arbiter.specs.Words.{if_then_else_, worth, partner, sameMaster, side, device}
 use Rattle.arbiter.specs.Parts.{withLockReq, withBusConnect, withBusInit, withContr, withInts, withIdle, withTurn, withSwitch, withInitFail, withSide, withBus, withArb}
 use Rattle.arbiter.specs.State.{atRest, sclHigh, sdaHigh, isIdle}
@@ -102,8 +102,8 @@ lost m d = device m (disconnected (loser (side m d))) (side (partner m) d) (rele
 
 unfoldable pub lossesFrom : Turn → Device → Device
 lossesFrom Nobody d = d
-lossesFrom (Claims m) d = d
-lossesFrom (Owns m) d = if runsOut (idleLimit d) (side m d) (d .arb .reserve) (d .bus) then lost m d else d
+lossesFrom (Claims m g) d = d
+lossesFrom (Owns m g) d = if runsOut (idleLimit d) (side m d) (d .arb .reserve) (d .bus) then lost m d else d
 
 unfoldable pub losses : Device → Device
 losses d = lossesFrom (d .arb .turn) d
@@ -115,8 +115,8 @@ cutTicks = 35
 
 unfoldable pub cutFrom : Bool → Turn → Device → Device
 cutFrom tick Nobody d = d
-cutFrom tick (Claims m) d = d
-cutFrom tick (Owns m) d =
+cutFrom tick (Claims m g) d = d
+cutFrom tick (Owns m g) d =
     if tick && eqb (d .bus .lowscl) cutTicks && (side m d) .contr .smbusdis then withSide m (disconnected (side m d)) d else d
 
 unfoldable pub cut : Bool → Device → Device
@@ -145,22 +145,32 @@ column (Was One) = 2
 unfoldable pub winner : Bool → Bool → Last → Master
 winner priority0 priority1 last = master (getD (getD winners (row priority0 priority1) []) (column last) 0)
 
+-- #107: "The winner choice shall also give its ground: 1 sole requester, 2 priority, 3 last granted. With equal priorities and nobody
+-- granted before, it is 3." Of two requesters with these priorities:
+abbrev pub groundOf : Bool → Bool → Ground
+groundOf true true = LastGranted
+groundOf true false = Priority
+groundOf false true = Priority
+groundOf false false = LastGranted
+
 -- "With no claimant, the one requester claims; if both request, the winner table decides"
-abbrev pub claimBy : Bool → Bool → Master → Turn
-claimBy false false w = Nobody
-claimBy true false w = Claims Zero
-claimBy false true w = Claims One
-claimBy true true w = Claims w
+abbrev pub claimBy : Bool → Bool → Master → Ground → Turn
+claimBy false false w g = Nobody
+claimBy true false w g = Claims Zero Sole
+claimBy false true w g = Claims One Sole
+claimBy true true w g = Claims w g
 
 abbrev pub newClaim : Device → Turn
 newClaim d =
-    claimBy (d .side0 .contr .lockreq) (d .side1 .contr .lockreq) (winner (d .side0 .contr .priority) (d .side1 .contr .priority) (d .arb .last))
+    let p0 : Bool = d .side0 .contr .priority in
+    let p1 : Bool = d .side1 .contr .priority in
+    claimBy (d .side0 .contr .lockreq) (d .side1 .contr .lockreq) (winner p0 p1 (d .arb .last)) (groundOf p0 p1)
 
--- "A claimant whose LOCK_REQ is 0 drops out; a granted master stays the claimant."
+-- "A claimant whose LOCK_REQ is 0 drops out; a granted master stays the claimant." Its ground stays with it.
 abbrev pub claimAfter : Turn → Device → Turn
 claimAfter Nobody d = newClaim d
-claimAfter (Claims m) d = if (side m d) .contr .lockreq then Claims m else newClaim d
-claimAfter (Owns m) d = Owns m
+claimAfter (Claims m g) d = if (side m d) .contr .lockreq then Claims m g else newClaim d
+claimAfter (Owns m g) d = Owns m g
 
 unfoldable pub claim : Device → Device
 claim d = withArb (withTurn (claimAfter (d .arb .turn) d) (d .arb)) d
@@ -168,17 +178,17 @@ claim d = withArb (withTurn (claimAfter (d .arb .turn) d) (d .arb)) d
 -- ---- 6. "Grant: a claimant not yet granted, with its port at rest and no hold is granted. Reserve count = RT, idle count = 0, last
 -- granted = it, its bit 2 set."
 
-abbrev pub grantedArb : Master → ℕ → Arbitration → Arbitration
-grantedArb m rt a = record { last = Was m; initfail = a .initfail; switch = a .switch; reserve = rt; turn = Owns m }
+abbrev pub grantedArb : Master → Ground → ℕ → Arbitration → Arbitration
+grantedArb m g rt a = record { last = Was m; initfail = a .initfail; switch = a .switch; reserve = rt; turn = Owns m g }
 
-unfoldable pub granted : Master → Device → Device
-granted m d =
-    device m (withInts (raised grantedInt true ((side m d) .ints)) (side m d)) (side (partner m) d) (withIdle 0 (d .bus)) (grantedArb m ((side m d) .rt) (d .arb)) d
+unfoldable pub granted : Master → Ground → Device → Device
+granted m g d =
+    device m (withInts (raised grantedInt true ((side m d) .ints)) (side m d)) (side (partner m) d) (withIdle 0 (d .bus)) (grantedArb m g ((side m d) .rt) (d .arb)) d
 
 unfoldable pub grantFrom : Turn → Device → Device
 grantFrom Nobody d = d
-grantFrom (Claims m) d = if atRest ((side m d) .port) && eqb (d .bus .hold) 0 then granted m d else d
-grantFrom (Owns m) d = d
+grantFrom (Claims m g) d = if atRest ((side m d) .port) && eqb (d .bus .hold) 0 then granted m g d else d
+grantFrom (Owns m g) d = d
 
 unfoldable pub grant : Device → Device
 grant d = grantFrom (d .arb .turn) d
@@ -218,8 +228,8 @@ keptJoined c m (Closed k) d = if sameMaster m k then d else joined m d
 -- "Losing either grant or BUS_CONNECT abandons it and leaves BUS_INIT .. Otherwise the switch is closed exactly if both are true."
 unfoldable pub connectFrom : Clock → Turn → Device → Device
 connectFrom c Nobody d = switched Apart d
-connectFrom c (Claims m) d = switched Apart d
-connectFrom c (Owns m) d = if (side m d) .contr .busconnect then keptJoined c m (d .arb .switch) d else switched Apart d
+connectFrom c (Claims m g) d = switched Apart d
+connectFrom c (Owns m g) d = if (side m d) .contr .busconnect then keptJoined c m (d .arb .switch) d else switched Apart d
 
 unfoldable pub connect : Clock → Device → Device
 connect c d = connectFrom c (d .arb .turn) d

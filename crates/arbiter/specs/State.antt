@@ -7,12 +7,21 @@ use Rattle.arbiter.specs.Words.{sameMaster}
 
 abbrev pub ownsTurn : Master → Turn → Bool
 ownsTurn m Nobody = false
-ownsTurn m (Claims k) = false
-ownsTurn m (Owns k) = sameMaster m k
+ownsTurn m (Claims k g) = false
+ownsTurn m (Owns k g) = sameMaster m k
 
 -- m is granted: it owns the bus
 abbrev pub owns : Master → Device → Bool
 owns m d = ownsTurn m (d .arb .turn)
+
+abbrev pub claimsTurn : Master → Turn → Bool
+claimsTurn m Nobody = false
+claimsTurn m (Claims k g) = sameMaster m k
+claimsTurn m (Owns k g) = false
+
+-- m is the claimant and waits for the grant
+abbrev pub claims : Master → Device → Bool
+claims m d = claimsTurn m (d .arb .turn)
 
 abbrev pub closedFor : Master → Switch → Bool
 closedFor m Apart = false

@@ -1,6 +1,6 @@
 -- Document 01, "Order inside a step" as a whole, "Answers", and a run of events from power-up.
 -- Assumes nothing.
-use Rattle.arbiter.specs.Types.{ℕ, _+_, _*_, List, [], _∷_, Master, Zero, One, Turn, Nobody, Claims, Owns, Switch, Apart, Initialising, Closed, Kind, Device, Raw, Event, Command, Write, Read, Stop, Pair, Lines, Tick, Pulse, Reset, GeneralCall, Decoded, Reads, UnknownKind, BadField, OutOfSequence, Answer, Stepped}
+use Rattle.arbiter.specs.Types.{ℕ, _+_, _*_, List, [], _∷_, Master, Zero, One, Ground, Sole, Priority, LastGranted, Turn, Nobody, Claims, Owns, Switch, Apart, Initialising, Closed, Kind, Device, Raw, Event, Command, Write, Read, Stop, Pair, Lines, Tick, Pulse, Reset, GeneralCall, Decoded, Reads, UnknownKind, BadField, OutOfSequence, Answer, Stepped}
 use Rattle.arbiter.specs.Words.{if_then_else_, worth, side}
 use Rattle.arbiter.specs.State.{isInitialising, sclHigh, sdaHigh}
 use Rattle.arbiter.specs.Registers.{readsAt, output}
@@ -14,7 +14,8 @@ unfoldable pub parts : Event → Device → Device
 parts e d = connect (clockOf e) (grant (claim (cut (isTick e) (losses (levels (isReset e) (d .bus) (effect e d))))))
 
 -- ---- the answer: "outcome; byte read or 00; bits 0-1 owner (0 none, 1 master 0, 2 master 1), bits 2-3 switch likewise, bit 4 initialising;
--- then bit 0 INT0 asserted, 1 INT1 asserted, 2 SCL high, 3 SDA high. All after the step."
+-- then bit 0 INT0 asserted, 1 INT1 asserted, 2 SCL high, 3 SDA high. All after the step." By #107
+-- "the ground of the present claim, kept while the grant lasts, stands in bits 5 and 6 of the third answer byte".
 
 abbrev pub masterNumber : Master → ℕ
 masterNumber Zero = 1
@@ -22,8 +23,19 @@ masterNumber One = 2
 
 abbrev pub ownerNumber : Turn → ℕ
 ownerNumber Nobody = 0
-ownerNumber (Claims m) = 0
-ownerNumber (Owns m) = masterNumber m
+ownerNumber (Claims m g) = 0
+ownerNumber (Owns m g) = masterNumber m
+
+-- #107: "1 sole requester, 2 priority, 3 last granted"; "0 with no claimant"
+abbrev pub groundNumber : Ground → ℕ
+groundNumber Sole = 1
+groundNumber Priority = 2
+groundNumber LastGranted = 3
+
+abbrev pub turnGround : Turn → ℕ
+turnGround Nobody = 0
+turnGround (Claims m g) = groundNumber g
+turnGround (Owns m g) = groundNumber g
 
 abbrev pub switchNumber : Switch → ℕ
 switchNumber Apart = 0
@@ -31,7 +43,8 @@ switchNumber (Initialising m n) = 0
 switchNumber (Closed m) = masterNumber m
 
 unfoldable pub ownerByte : Device → ℕ
-ownerByte d = ownerNumber (d .arb .turn) + 4 * switchNumber (d .arb .switch) + worth 16 (isInitialising (d .arb .switch))
+ownerByte d =
+    ownerNumber (d .arb .turn) + 4 * switchNumber (d .arb .switch) + worth 16 (isInitialising (d .arb .switch)) + 32 * turnGround (d .arb .turn)
 
 unfoldable pub linesByte : Device → ℕ
 linesByte d = worth 1 (output Zero d) + worth 2 (output One d) + worth 4 (sclHigh (d .bus)) + worth 8 (sdaHigh (d .bus))

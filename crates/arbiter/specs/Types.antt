@@ -8,6 +8,8 @@ pub use lib.Bits.{bitAnd, bitOr}
 pub use lib.ListN.{length, drop, getD}
 pub use Rattle.arbiter.specs.declared.Master.{Master}
 pub use Rattle.arbiter.specs.declared.Master.the-variants.{Zero, One}
+pub use Rattle.arbiter.specs.declared.Ground.{Ground}
+pub use Rattle.arbiter.specs.declared.Ground.the-variants.{Sole, Priority, LastGranted}
 pub use Rattle.arbiter.specs.declared.Turn.{Turn}
 pub use Rattle.arbiter.specs.declared.Turn.the-variants.{Nobody, Claims, Owns}
 pub use Rattle.arbiter.specs.declared.Last.{Last}

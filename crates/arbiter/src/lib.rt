@@ -26,11 +26,18 @@ pub enum Master {
     One,
 }
 
-// Whose turn it is: nobody asks, m is the claimant and waits, m is granted and owns the bus.
+// On what ground a claim was won: its master asked alone, or had priority, or was not the last granted.
+pub enum Ground {
+    Sole,
+    Priority,
+    LastGranted,
+}
+
+// Whose turn it is: nobody asks, m is the claimant and waits, m is granted and owns the bus. A claim has its ground, and the grant keeps it.
 pub enum Turn {
     Nobody,
-    Claims(Master),
-    Owns(Master),
+    Claims(Master, Ground),
+    Owns(Master, Ground),
 }
 
 // The last granted master.

@@ -32,10 +32,17 @@ pub fn answer_in_words(answer: [u8; 4]) -> String {
         number => format!("refused {number}"),
     };
     let initialising = if bus & 0x10 != 0 { ", initialising" } else { "" };
+    let ground = match bus >> 5 {
+        0 => "no claim",
+        1 => "ground sole requester",
+        2 => "ground priority",
+        3 => "ground last granted",
+        _ => "bit 7 set",
+    };
     let asserted = |bit: u8| if pins & bit != 0 { "asserted" } else { "quiet" };
     format!(
-        "{} = {outcome}, byte {byte:02X}h, owner {}, switch {}{initialising}, INT0 {}, INT1 {}, \
-         SCL {}, SDA {}",
+        "{} = {outcome}, byte {byte:02X}h, owner {}, switch {}{initialising}, {ground}, INT0 {}, \
+         INT1 {}, SCL {}, SDA {}",
         hex(&answer),
         who(bus & 3),
         who((bus >> 2) & 3),

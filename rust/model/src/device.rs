@@ -1,6 +1,7 @@
 //! What the device remembers, and what follows from that.
 //! Document 01, "Registers, one set per master" and "Answers and the trace".
 
+use crate::claim::Claim;
 use crate::part::Kind;
 
 /// Bits of CONTR. Bit 1, LOCK_GRANT, is computed and never stored.
@@ -92,7 +93,8 @@ pub struct Device {
     /// Ticks since SDA went low or SCL last changed, whichever came later (#102).
     pub sda_low_count: i64,
     pub idle_count: i64,
-    pub claimant: Option<usize>,
+    /// The claimant and the ground of its claim, "kept while the grant lasts" (#107).
+    pub claim: Option<Claim>,
     pub grant: Option<Grant>,
     pub last_granted: Option<usize>,
     /// While initialising: how many PULSE of 0 this initialisation has had.
@@ -141,7 +143,7 @@ impl Device {
             scl_low_count: 0,
             sda_low_count: 0,
             idle_count: 0,
-            claimant: None,
+            claim: None,
             grant: None,
             last_granted: None,
             initialising: None,
@@ -233,8 +235,11 @@ impl Device {
             Some(_) => 2,
         };
         let levels = self.levels();
-        let bus =
-            who(self.owner()) | (who(self.switch()) << 2) | bit(self.initialising.is_some(), 0x10);
+        // The ground "stands in bits 5 and 6 of the third answer byte" (#107).
+        let bus = who(self.owner())
+            | (who(self.switch()) << 2)
+            | bit(self.initialising.is_some(), 0x10)
+            | (self.ground() << 5);
         let pins = bit(self.interrupt_asserted(0), 0x01)
             | bit(self.interrupt_asserted(1), 0x02)
             | bit(levels.scl, 0x04)

@@ -104,6 +104,7 @@ impl Happenings {
         let name = EVENT_NAMES.get(bytes[0] as usize).copied().unwrap_or("");
         self.note(outcome == 4, &format!("refused 4, {name}"));
         self.note(outcome == 1, &format!("not acknowledged, {name}"));
+        self.ground_shown(outcome, after);
         let Ok(event) = read_event(bytes) else {
             return;
         };
@@ -112,6 +113,7 @@ impl Happenings {
             self.grants(&seen);
             self.ends(&seen);
             self.claims(&seen);
+            self.grounds(&seen);
             self.lines(&seen);
             self.hanging(&seen, &mut memory.low);
             self.second_part(&seen, &mut memory.rolled);
@@ -171,13 +173,13 @@ impl Happenings {
 
     fn claims(&mut self, seen: &Seen) {
         let (before, after) = (seen.before, seen.after);
-        if let (Some(m), None) = (before.claimant, before.owner()) {
+        if let (Some(m), None) = (before.claimant(), before.owner()) {
             self.note(seen.lets_go(m), "claim withdrawn before its grant");
             let connect = after.masters[m].has(BUS_CONNECT);
             self.note(seen.lets_go(m) && connect, "claim withdrawn, BUS_CONNECT kept");
         }
         let both = after.masters.iter().all(|m| m.has(LOCK_REQ));
-        if before.claimant.is_none() && both {
+        if before.claim.is_none() && both {
             let row = [0, 1].map(|m| u8::from(after.masters[m].has(PRIORITY)));
             let last = match before.last_granted {
                 None => "none".to_string(),

@@ -11,6 +11,7 @@
 //! - `event`: what four bytes mean, refusals 2 and 3 ("Events").
 //! - `part`: the two kinds of part (document 02, #105).
 //! - `device`: what the device remembers, and what follows from it.
+//! - `claim`: who claims the bus, and on what ground (part 5 of a step; document 02, #107).
 //! - `bytes`: what a byte written or read does ("Registers").
 //! - `step`: one event, in the order of "Order inside a step".
 //! - `trace`: whole traces and the listing ("Answers and the trace").
@@ -19,7 +20,7 @@
 //! - `capture`: a logic-analyser capture turned into events (document 02, #104).
 //! - `sheet`: the order sheet (document 02, #106).
 //! - `rng`, `phrases`, `waits`, `traces`, `damage`: random cases for the tests.
-//! - `happenings`, `hanging`, `second_part`, `kinds`: what happens in them.
+//! - `happenings`, `hanging`, `second_part`, `grounds`, `kinds`: what happens in them.
 //! - `pen`, `captures`, `capture_damage`, `sightings`: random captures, and what is seen in them.
 //! - `sheets`: random order sheets, and what is seen in them.
 //! - `stored`: the traces that the repository keeps as one set.
@@ -28,10 +29,12 @@ pub mod bytes;
 pub mod capture;
 pub mod capture_damage;
 pub mod captures;
+pub mod claim;
 pub mod converter;
 pub mod damage;
 pub mod device;
 pub mod event;
+pub mod grounds;
 pub mod hanging;
 pub mod happenings;
 pub mod kinds;

@@ -1,4 +1,4 @@
-//! One event. Document 01, "Order inside a step": seven parts, in that order.
+//! One event. Document 01, "Order inside a step": seven parts, in that order. Part 5 is in `claim`.
 
 use crate::device::*;
 use crate::event::{read_event, Event, SOFT_RESET};
@@ -155,36 +155,9 @@ impl Device {
         }
     }
 
-    /// Part 5. Dropping out and the next claim are in the same part (reading 8).
-    fn choose_claimant(&mut self) {
-        let requests = |m: usize| self.masters[m].has(LOCK_REQ);
-        // A granted master has LOCK_REQ set here, so it stays the claimant.
-        let standing = self.claimant.filter(|&m| requests(m));
-        self.claimant = match (standing, requests(0), requests(1)) {
-            (Some(m), _, _) => Some(m),
-            (None, false, false) => None,
-            (None, true, false) => Some(0),
-            (None, false, true) => Some(1),
-            (None, true, true) => Some(self.winner()),
-        };
-    }
-
-    /// The winner table: the rows are the priorities of master 0 and master 1.
-    fn winner(&self) -> usize {
-        let priorities = (self.masters[0].has(PRIORITY), self.masters[1].has(PRIORITY));
-        match (priorities, self.last_granted) {
-            ((false, false), None) => 0,
-            ((false, false), Some(last)) => 1 - last,
-            ((false, true), _) => 1,
-            ((true, false), _) => 0,
-            ((true, true), None) => 1,
-            ((true, true), Some(last)) => 1 - last,
-        }
-    }
-
     /// Part 6. A busy bus does not hold back a grant (reading 6).
     fn make_grant(&mut self) {
-        let Some(m) = self.claimant else {
+        let Some(m) = self.claimant() else {
             return;
         };
         let at_rest = self.masters[m].port == Port::AtRest;

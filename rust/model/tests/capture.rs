@@ -238,5 +238,5 @@ fn m1_from_a_capture() {
     let mut step =
         |at: usize| device.step([bytes[at], bytes[at + 1], bytes[at + 2], bytes[at + 3]]);
     let answers = [0, 4, 8, 12].map(|at| u32::from_be_bytes(step(at)));
-    assert_eq!(answers, [0x0000000C, 0x0000000C, 0x0000050C, 0x0007050C]);
+    assert_eq!(answers, [0x0000000C, 0x0000200C, 0x0000250C, 0x0007250C]);
 }

@@ -28,7 +28,7 @@ fn winner_table() {
         for (last, winner) in [None, Some(0), Some(1)].into_iter().zip(winners) {
             let mut device = after(last);
             run(&mut device, &[command(0, 1), command(1, 1), pair(v0, v1)]);
-            assert_eq!(device.claimant, Some(winner), "{v0:02X} {v1:02X} {last:?}");
+            assert_eq!(device.claimant(), Some(winner), "{v0:02X} {v1:02X} {last:?}");
             let answer = run(&mut device, &[stop(0), stop(1)]);
             assert_eq!(owner(answer), Some(winner as u8));
         }
@@ -40,7 +40,7 @@ fn winner_table() {
 fn first_request_wins() {
     let mut device = Device::power_up();
     run(&mut device, &[command(0, 1), command(1, 1), write(0, 0x01), write(1, 0x81), stop(1)]);
-    assert_eq!((device.claimant, device.owner()), (Some(0), None));
+    assert_eq!((device.claimant(), device.owner()), (Some(0), None));
     assert_eq!(owner(run(&mut device, &[stop(0)])), Some(0));
 }
 

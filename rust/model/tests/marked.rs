@@ -11,7 +11,7 @@ fn m1_listing() {
         0, 0, 1, 0, 1, 0, 5, 0, 3, 0, 0, 0, 2, 0, 0, 0, // events
         1, 0, // kind: "M1's input gains 01 00" (#105)
     ];
-    assert_eq!(listing(&trace), "70 0004\n0000000C\n0000000C\n0000050C\n0007050C\n");
+    assert_eq!(listing(&trace), "70 0004\n0000000C\n0000200C\n0000250C\n0007250C\n");
     assert_eq!(listing(&[0x05]), "R10\n");
     assert_eq!(listing(&[]), "R5\n");
 }
@@ -60,7 +60,7 @@ fn m6_pair_of_requests() {
     for (value, winner) in [(0x01, 0), (0x81, 1)] {
         let mut device = Device::power_up();
         run(&mut device, &[command(0, 1), command(1, 1), pair(value, value)]);
-        assert_eq!(device.claimant, Some(winner));
+        assert_eq!(device.claimant(), Some(winner));
         // The winner is granted at its own STOP, in whichever order they come.
         let loser = 1 - winner as u8;
         assert_eq!(owner(run(&mut device, &[stop(loser)])), None);

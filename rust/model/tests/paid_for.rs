@@ -20,7 +20,7 @@ fn rt_zero_has_not_run_out() {
 fn grant_is_made_at_the_stop() {
     let mut device = Device::power_up();
     assert_eq!(owner(run(&mut device, &[command(0, 1), write(0, 0x05)])), None);
-    assert_eq!(device.claimant, Some(0));
+    assert_eq!(device.claimant(), Some(0));
     assert_eq!(owner(ticks(&mut device, 3)), None);
     assert_eq!(owner(run(&mut device, &[stop(0)])), Some(0));
     // The reserve is counted from the grant, not from the byte.
@@ -55,7 +55,7 @@ fn waiting_partner_is_next() {
     let mut device = owned_by(0, 1, 0x01);
     run(&mut device, &[command(1, 1), write(1, 0x01)]);
     assert_eq!(owner(ticks(&mut device, 1)), None);
-    assert_eq!(device.claimant, Some(1));
+    assert_eq!(device.claimant(), Some(1));
     assert_eq!(owner(set(&mut device, 0, 1, 0x81)), None);
     assert_eq!(owner(run(&mut device, &[stop(1)])), Some(1));
 

@@ -129,11 +129,11 @@ fn refused_events_change_nothing() {
     ];
     for (event, number) in refused {
         let before = device.clone();
-        assert_eq!(device.step(event), [number, 0x00, 0x12, 0x0E], "{event:?}");
+        assert_eq!(device.step(event), [number, 0x00, 0x32, 0x0E], "{event:?}");
         assert_eq!(device, before);
     }
     run(&mut device, &[pulse(1)]);
-    assert_eq!(device.step(pulse(1)), [4, 0x00, 0x0A, 0x0E]);
+    assert_eq!(device.step(pulse(1)), [4, 0x00, 0x2A, 0x0E]);
 }
 
 /// The bit of the last acknowledged COMMAND counts: auto-increment on and off.

@@ -112,7 +112,7 @@ fn the_partner_is_next() {
             return;
         }
         if after.masters[partner].has(LOCK_REQ) {
-            assert_eq!(after.claimant, Some(partner));
+            assert_eq!(after.claimant(), Some(partner));
             let at_rest = after.masters[partner].port == Port::AtRest;
             assert_eq!(owner(answer) == Some(partner as u8), at_rest);
         }
@@ -129,7 +129,7 @@ fn states_are_settled() {
         assert_eq!(&again, device);
         // The owner asks and is the claimant; nobody owns during a hold.
         if let Some(m) = device.owner() {
-            assert!(device.claimant == Some(m) && device.masters[m].has(LOCK_REQ));
+            assert!(device.claimant() == Some(m) && device.masters[m].has(LOCK_REQ));
             assert_eq!(device.hold, 0);
         } else {
             assert!(device.drives.scl && device.drives.sda);

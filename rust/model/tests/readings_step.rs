@@ -24,7 +24,7 @@ fn withdrawn_claim_keeps_bus_connect() {
     let mut device = Device::power_up();
     run(&mut device, &[command(0, 1), write(0, 0x05), write(0, 0x04), stop(0)]);
     assert_eq!(get(&mut device, 0, 1), 0x04);
-    assert_eq!(device.claimant, None);
+    assert_eq!(device.claimant(), None);
 }
 
 /// Point 3. The idle timer is switched on when the count already stands at 101.

@@ -69,7 +69,7 @@ fn box_14_filled_gives_the_partner_its_turn() {
 fn hung_bus_is_mended_by_the_second_initialisation() {
     assert_eq!(bytes_read("hung-bus"), [0x4C, 0x4E, 0xC8]);
     let last = run("hung-bus").last().unwrap().1;
-    assert_eq!(last[2], 0b0101, "master 0 owns and is connected");
+    assert_eq!(last[2], 0x25, "master 0 owns and is connected, ground 1");
 }
 
 #[test]

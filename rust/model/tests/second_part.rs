@@ -124,7 +124,7 @@ fn pair_rolls() {
         assert_eq!(outcome, u8::from(second));
         assert_eq!(device.masters.clone().map(|m| m.pointer), if second { [1; 2] } else { [7; 2] });
         device.step(pair(0x01, 0x01));
-        assert_eq!(device.claimant, if second { Some(0) } else { None });
+        assert_eq!(device.claimant(), if second { Some(0) } else { None });
     }
 }
 

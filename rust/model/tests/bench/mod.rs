@@ -60,6 +60,11 @@ pub fn initialising(answer: [u8; 4]) -> bool {
     answer[2] & 0x10 != 0
 }
 
+/// Answer byte 2, bits 5 and 6.
+pub fn ground(answer: [u8; 4]) -> u8 {
+    answer[2] >> 5
+}
+
 /// Answer byte 3, bits 2 and 3: SCL and SDA.
 pub fn scl_sda(answer: [u8; 4]) -> (u8, u8) {
     ((answer[3] >> 2) & 1, (answer[3] >> 3) & 1)
