@@ -8,11 +8,13 @@ use lib.Bits.{bitOr}
 use Rattle.arbiter.specs.Rules.{idleLimit}
 use Rattle.arbiter.specs.Words.{if_then_else_}
 use Rattle.arbiter.specs.Parts.{withContr, withInts, withIdle, withTurn}
-use Rattle.arbiter.specs.State.{atRest, ownsTurn}
+use Rattle.arbiter.specs.State.{atRest, ownsTurn, claimsTurn}
 use Rattle.arbiter.specs.Registers.{grantedInt, lostInt, raised, disconnected, released}
 use Rattle.arbiter.specs.Order.{runsOut, loser, lost, lossesFrom, cutTicks, cutFrom, grantedArb, granted, grantFrom}
 use Rattle.arbiter.specs.declared.Master.{Master}
 use Rattle.arbiter.specs.declared.Master.the-variants.{Zero, One}
+use Rattle.arbiter.specs.declared.Ground.{Ground}
+use Rattle.arbiter.specs.declared.Ground.the-variants.{Sole}
 use Rattle.arbiter.specs.declared.Turn.{Turn}
 use Rattle.arbiter.specs.declared.Turn.the-variants.{Nobody, Claims, Owns}
 use Rattle.arbiter.specs.declared.Last.the-variants.{Was}
@@ -21,7 +23,7 @@ use Rattle.arbiter.specs.declared.Arbitration.{Arbitration}
 use Rattle.arbiter.specs.declared.Device.{Device}
 use Rattle.fields.specs.Whole.{arbWith, deviceWith}
 use Rattle.registers.proofs.Laws.{unraised}
-use Rattle.arbitration.specs.Cleared.{claimsTurn, contrUnless}
+use Rattle.arbitration.specs.Cleared.{groundIn, contrUnless}
 
 -- ---- one side
 
@@ -44,13 +46,13 @@ lossesWith lost0 lost1 d =
 losses-from : (t : Turn) (d : Device) → lossesWith (ownsTurn Zero t && runsOut (idleLimit d) (d .side0) (d .arb .reserve) (d .bus)) (ownsTurn One t && runsOut (idleLimit d) (d .side1) (d .arb .reserve) (d .bus)) d ≡ lossesFrom t d
 unfolding lossesFrom lost
 losses-from Nobody d = refl
-losses-from (Claims m) d = refl
-losses-from (Owns Zero) d = go (runsOut (idleLimit d) (d .side0) (d .arb .reserve) (d .bus))
+losses-from (Claims m g) d = refl
+losses-from (Owns Zero g) d = go (runsOut (idleLimit d) (d .side0) (d .arb .reserve) (d .bus))
   where
     go : (out : Bool) → lossesWith out false d ≡ (if out then lost Zero d else d)
     go true = refl
     go false = refl
-losses-from (Owns One) d = go (runsOut (idleLimit d) (d .side1) (d .arb .reserve) (d .bus))
+losses-from (Owns One g) d = go (runsOut (idleLimit d) (d .side1) (d .arb .reserve) (d .bus))
   where
     go : (out : Bool) → lossesWith false out d ≡ (if out then lost One d else d)
     go true = refl
@@ -68,13 +70,13 @@ cutWith cut0 cut1 d =
 cut-from : (tick : Bool) (t : Turn) (d : Device) → cutWith (ownsTurn Zero t && (tick && eqb (d .bus .lowscl) cutTicks && d .side0 .contr .smbusdis)) (ownsTurn One t && (tick && eqb (d .bus .lowscl) cutTicks && d .side1 .contr .smbusdis)) d ≡ cutFrom tick t d
 unfolding cutFrom
 cut-from tick Nobody d = refl
-cut-from tick (Claims m) d = refl
-cut-from tick (Owns Zero) d = go (tick && eqb (d .bus .lowscl) cutTicks && d .side0 .contr .smbusdis)
+cut-from tick (Claims m g) d = refl
+cut-from tick (Owns Zero g) d = go (tick && eqb (d .bus .lowscl) cutTicks && d .side0 .contr .smbusdis)
   where
     go : (on : Bool) → cutWith on false d ≡ (if on then deviceWith (disconnected (d .side0)) (d .side1) (d .bus) (d .arb) d else d)
     go true = refl
     go false = refl
-cut-from tick (Owns One) d = go (tick && eqb (d .bus .lowscl) cutTicks && d .side1 .contr .smbusdis)
+cut-from tick (Owns One g) d = go (tick && eqb (d .bus .lowscl) cutTicks && d .side1 .contr .smbusdis)
   where
     go : (on : Bool) → cutWith false on d ≡ (if on then deviceWith (d .side0) (disconnected (d .side1)) (d .bus) (d .arb) d else d)
     go true = refl
@@ -85,36 +87,36 @@ cut-law tick d = cut-from tick (d .arb .turn) d
 
 -- ---- the grant
 
-pub granted-arb : (on : Bool) (m : Master) (rt : ℕ) (a : Arbitration) → arbWith (if on then Was m else a .last) (a .initfail) (a .switch) (if on then rt else a .reserve) (if on then Owns m else a .turn) ≡ (if on then grantedArb m rt a else a)
-granted-arb true m rt a = refl
-granted-arb false m rt a = refl
+pub granted-arb : (on : Bool) (m : Master) (g : Ground) (rt : ℕ) (a : Arbitration) → arbWith (if on then Was m else a .last) (a .initfail) (a .switch) (if on then rt else a .reserve) (if on then Owns m g else a .turn) ≡ (if on then grantedArb m g rt a else a)
+granted-arb true m g rt a = refl
+granted-arb false m g rt a = refl
 
-abbrev grantWith : Bool → Bool → Device → Device
-grantWith to0 to1 d =
+abbrev grantWith : Ground → Bool → Bool → Device → Device
+grantWith g to0 to1 d =
     deviceWith (withInts (raised grantedInt to0 (d .side0 .ints)) (d .side0)) (withInts (raised grantedInt to1 (d .side1 .ints)) (d .side1))
     (withIdle (if not (to0 || to1) then d .bus .idle else 0) (d .bus))
-    (if to0 || to1 then grantedArb (if to1 then One else Zero) (if to1 then d .side1 .rt else d .side0 .rt) (d .arb) else d .arb) d
+    (if to0 || to1 then grantedArb (if to1 then One else Zero) g (if to1 then d .side1 .rt else d .side0 .rt) (d .arb) else d .arb) d
 
 -- granted to nobody
-ungranted : (d : Device) → grantWith false false d ≡ d
-ungranted d =
+ungranted : (g : Ground) (d : Device) → grantWith g false false d ≡ d
+ungranted g d =
     ap (λ (s : Side). deviceWith s (withInts (bitOr (d .side1 .ints) 0) (d .side1)) (d .bus) (d .arb) d) (unraised (d .side0))
     ∙ ap (λ (s : Side). deviceWith (d .side0) s (d .bus) (d .arb) d) (unraised (d .side1))
 
-grant-from : (t : Turn) (d : Device) → grantWith (claimsTurn Zero t && (atRest (d .side0 .port) && eqb (d .bus .hold) 0)) (claimsTurn One t && (atRest (d .side1 .port) && eqb (d .bus .hold) 0)) d ≡ grantFrom t d
+grant-from : (t : Turn) (d : Device) → grantWith (groundIn t) (claimsTurn Zero t && (atRest (d .side0 .port) && eqb (d .bus .hold) 0)) (claimsTurn One t && (atRest (d .side1 .port) && eqb (d .bus .hold) 0)) d ≡ grantFrom t d
 unfolding grantFrom granted
-grant-from Nobody d = ungranted d
-grant-from (Owns m) d = ungranted d
-grant-from (Claims Zero) d = go (atRest (d .side0 .port) && eqb (d .bus .hold) 0)
+grant-from Nobody d = ungranted Sole d
+grant-from (Owns m g) d = ungranted g d
+grant-from (Claims Zero g) d = go (atRest (d .side0 .port) && eqb (d .bus .hold) 0)
   where
-    go : (on : Bool) → grantWith on false d ≡ (if on then granted Zero d else d)
-    go true = ap (λ (s : Side). deviceWith (withInts (raised grantedInt true (d .side0 .ints)) (d .side0)) s (withIdle 0 (d .bus)) (grantedArb Zero (d .side0 .rt) (d .arb)) d) (unraised (d .side1))
-    go false = ungranted d
-grant-from (Claims One) d = go (atRest (d .side1 .port) && eqb (d .bus .hold) 0)
+    go : (on : Bool) → grantWith g on false d ≡ (if on then granted Zero g d else d)
+    go true = ap (λ (s : Side). deviceWith (withInts (raised grantedInt true (d .side0 .ints)) (d .side0)) s (withIdle 0 (d .bus)) (grantedArb Zero g (d .side0 .rt) (d .arb)) d) (unraised (d .side1))
+    go false = ungranted g d
+grant-from (Claims One g) d = go (atRest (d .side1 .port) && eqb (d .bus .hold) 0)
   where
-    go : (on : Bool) → grantWith false on d ≡ (if on then granted One d else d)
-    go true = ap (λ (s : Side). deviceWith s (withInts (raised grantedInt true (d .side1 .ints)) (d .side1)) (withIdle 0 (d .bus)) (grantedArb One (d .side1 .rt) (d .arb)) d) (unraised (d .side0))
-    go false = ungranted d
+    go : (on : Bool) → grantWith g false on d ≡ (if on then granted One g d else d)
+    go true = ap (λ (s : Side). deviceWith s (withInts (raised grantedInt true (d .side1 .ints)) (d .side1)) (withIdle 0 (d .bus)) (grantedArb One g (d .side1 .rt) (d .arb)) d) (unraised (d .side0))
+    go false = ungranted g d
 
-pub grant-law : (d : Device) → grantWith (claimsTurn Zero (d .arb .turn) && (atRest (d .side0 .port) && eqb (d .bus .hold) 0)) (claimsTurn One (d .arb .turn) && (atRest (d .side1 .port) && eqb (d .bus .hold) 0)) d ≡ grantFrom (d .arb .turn) d
+pub grant-law : (d : Device) → grantWith (groundIn (d .arb .turn)) (claimsTurn Zero (d .arb .turn) && (atRest (d .side0 .port) && eqb (d .bus .hold) 0)) (claimsTurn One (d .arb .turn) && (atRest (d .side1 .port) && eqb (d .bus .hold) 0)) d ≡ grantFrom (d .arb .turn) d
 grant-law d = grant-from (d .arb .turn) d

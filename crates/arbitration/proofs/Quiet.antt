@@ -6,8 +6,9 @@ use Rattle.arbiter.specs.Rules.{idleLimit}
 use Rattle.arbiter.specs.Words.{side}
 use Rattle.arbiter.specs.Parts.{withTurn, withArb, withSide}
 use Rattle.arbiter.specs.Registers.{disconnected}
-use Rattle.arbiter.specs.Order.{runsOut, lost, lossesFrom, losses, cutFrom, cut, winner, claimBy, newClaim, claimAfter, claim, granted, grantFrom, grant}
+use Rattle.arbiter.specs.Order.{runsOut, lost, lossesFrom, losses, cutFrom, cut, winner, groundOf, claimBy, newClaim, claimAfter, claim, granted, grantFrom, grant}
 use Rattle.arbiter.specs.declared.Master.{Master}
+use Rattle.arbiter.specs.declared.Ground.{Ground}
 use Rattle.arbiter.specs.declared.Turn.{Turn}
 use Rattle.arbiter.specs.declared.Turn.the-variants.{Nobody, Claims, Owns}
 use Rattle.arbiter.specs.declared.Device.{Device}
@@ -19,8 +20,8 @@ use Rattle.arbitration.specs.Quiet.{noLoss, isCut, noCut, noClaim, isRea
 losses-quiet : (t : Turn) (d : Device) → noLoss t d ≡ true → lossesFrom t d ≡ d
 unfolding lossesFrom
 losses-quiet Nobody d q = refl
-losses-quiet (Claims m) d q = refl
-losses-quiet (Owns m) d q = if-false (lost m d) d (not-true (runsOut (idleLimit d) (side m d) (d .arb .reserve) (d .bus)) q)
+losses-quiet (Claims m g) d q = refl
+losses-quiet (Owns m g) d q = if-false (lost m d) d (not-true (runsOut (idleLimit d) (side m d) (d .arb .reserve) (d .bus)) q)
 
 pub no-loss : (d : Device) → noLoss (d .arb .turn) d ≡ true → losses d ≡ d
 unfolding losses
@@ -31,8 +32,8 @@ no-loss d q = losses-quiet (d .arb .turn) d q
 cut-quiet : (tick : Bool) (t : Turn) (d : Device) → noCut tick t d ≡ true → cutFrom tick t d ≡ d
 unfolding cutFrom
 cut-quiet tick Nobody d q = refl
-cut-quiet tick (Claims m) d q = refl
-cut-quiet tick (Owns m) d q = if-false (withSide m (disconnected (side m d)) d) d (not-true (isCut tick (side m d) (d .bus)) q)
+cut-quiet tick (Claims m g) d q = refl
+cut-quiet tick (Owns m g) d q = if-false (withSide m (disconnected (side m d)) d) d (not-true (isCut tick (side m d) (d .bus)) q)
 
 pub no-cut : (tick : Bool) (d : Device) → noCut tick (d .arb .turn) d ≡ true → cut tick d ≡ d
 unfolding cut
@@ -40,16 +41,18 @@ no-cut tick d q = cut-quiet tick (d .arb .turn) d q
 
 -- ---- 5. claim
 
-nobody-asks : (r0 r1 : Bool) (w : Master) → not r0 && not r1 ≡ true → claimBy r0 r1 w ≡ Nobody
-nobody-asks false false w q = refl
-nobody-asks false true w q = absurd (false≢true q)
-nobody-asks true r1 w q = absurd (false≢true q)
+nobody-asks : (r0 r1 : Bool) (w : Master) (g : Ground) → not r0 && not r1 ≡ true → claimBy r0 r1 w g ≡ Nobody
+nobody-asks false false w g q = refl
+nobody-asks false true w g q = absurd (false≢true q)
+nobody-asks true r1 w g q = absurd (false≢true q)
 
 claim-quiet : (t : Turn) (d : Device) → noClaim t d ≡ true → claimAfter t d ≡ t
 claim-quiet Nobody d q =
-    nobody-asks (d .side0 .contr .lockreq) (d .side1 .contr .lockreq) (winner (d .side0 .contr .priority) (d .side1 .contr .priority) (d .arb .last)) q
-claim-quiet (Claims m) d q = if-true (Claims m) (newClaim d) q
-claim-quiet (Owns m) d q = refl
+    let p0 : Bool = d .side0 .contr .priority in
+    let p1 : Bool = d .side1 .contr .priority in
+    nobody-asks (d .side0 .contr .lockreq) (d .side1 .contr .lockreq) (winner p0 p1 (d .arb .last)) (groundOf p0 p1) q
+claim-quiet (Claims m g) d q = if-true (Claims m g) (newClaim d) q
+claim-quiet (Owns m g) d q = refl
 
 pub no-claim : (d : Device) → noClaim (d .arb .turn) d ≡ true → claim d ≡ d
 unfolding claim
@@ -60,8 +63,8 @@ no-claim d q = ap (λ (t : Turn). withArb (withTurn t (d .arb)) d) (claim-quiet 
 grant-quiet : (t : Turn) (d : Device) → noGrant t d ≡ true → grantFrom t d ≡ d
 unfolding grantFrom
 grant-quiet Nobody d q = refl
-grant-quiet (Claims m) d q = if-false (granted m d) d (not-true (isReady (side m d) (d .bus)) q)
-grant-quiet (Owns m) d q = refl
+grant-quiet (Claims m g) d q = if-false (granted m g d) d (not-true (isReady (side m d) (d .bus)) q)
+grant-quiet (Owns m g) d q = refl
 
 pub no-grant : (d : Device) → noGrant (d .arb .turn) d ≡ true → grant d ≡ d
 unfolding grant

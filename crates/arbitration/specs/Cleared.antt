@@ -1,16 +1,17 @@
--- Small words of the code: m is the claimant and waits; CONTR with bits cleared if a test says so.
+-- Small words of the code: the ground of the present claim; CONTR with bits cleared if a test says so.
 -- Assumes nothing.
-use mathlib.Core.Bool.{Bool, false, not, _&&_}
-use Rattle.arbiter.specs.Words.{sameMaster}
-use Rattle.arbiter.specs.declared.Master.{Master}
+use mathlib.Core.Bool.{Bool, not, _&&_}
+use Rattle.arbiter.specs.declared.Ground.{Ground}
+use Rattle.arbiter.specs.declared.Ground.the-variants.{Sole}
 use Rattle.arbiter.specs.declared.Turn.{Turn}
 use Rattle.arbiter.specs.declared.Turn.the-variants.{Nobody, Claims, Owns}
 use Rattle.arbiter.specs.declared.Control.{Control}
 
-abbrev pub claimsTurn : Master → Turn → Bool
-claimsTurn m Nobody = false
-claimsTurn m (Claims k) = sameMaster m k
-claimsTurn m (Owns k) = false
+-- where there is no claim, nothing depends on it
+abbrev pub groundIn : Turn → Ground
+groundIn Nobody = Sole
+groundIn (Claims m g) = g
+groundIn (Owns m g) = g
 
 -- BUS_CONNECT cleared by the first test, LOCK_REQ by the second
 abbrev pub contrUnless : Bool → Bool → Control → Control

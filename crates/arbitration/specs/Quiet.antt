@@ -15,8 +15,8 @@ use Rattle.arbiter.specs.declared.Device.{Device}
 -- part 3: the owner's grant does not run out
 abbrev pub noLoss : Turn → Device → Bool
 noLoss Nobody d = true
-noLoss (Claims m) d = true
-noLoss (Owns m) d = not (runsOut (idleLimit d) (side m d) (d .arb .reserve) (d .bus))
+noLoss (Claims m g) d = true
+noLoss (Owns m g) d = not (runsOut (idleLimit d) (side m d) (d .arb .reserve) (d .bus))
 
 -- part 4: the owner is not cut off
 abbrev pub isCut : Bool → Side → Bus → Bool
@@ -24,14 +24,14 @@ isCut tick s b = tick && eqb (b .lowscl) cutTicks && s .contr .smbusdis
 
 abbrev pub noCut : Bool → Turn → Device → Bool
 noCut tick Nobody d = true
-noCut tick (Claims m) d = true
-noCut tick (Owns m) d = not (isCut tick (side m d) (d .bus))
+noCut tick (Claims m g) d = true
+noCut tick (Owns m g) d = not (isCut tick (side m d) (d .bus))
 
 -- part 5: nobody requests; or the claimant still does
 abbrev pub noClaim : Turn → Device → Bool
 noClaim Nobody d = not (d .side0 .contr .lockreq) && not (d .side1 .contr .lockreq)
-noClaim (Claims m) d = (side m d) .contr .lockreq
-noClaim (Owns m) d = true
+noClaim (Claims m g) d = (side m d) .contr .lockreq
+noClaim (Owns m g) d = true
 
 -- part 6: the claimant is not granted, for its port is not at rest or SCL is held
 abbrev pub isReady : Side → Bus → Bool
@@ -39,5 +39,5 @@ isReady s b = atRest (s .port) && eqb (b .hold) 0
 
 abbrev pub noGrant : Turn → Device → Bool
 noGrant Nobody d = true
-noGrant (Claims m) d = not (isReady (side m d) (d .bus))
-noGrant (Owns m) d = true
+noGrant (Claims m g) d = not (isReady (side m d) (d .bus))
+noGrant (Owns m g) d = true

@@ -3,14 +3,16 @@ ghost use Prim.Native.Nat.{_≤_};
 ghost use mathlib.Core.Path.{_≡_};
 ghost use Rattle.arbiter.specs.Words.{if_then_else_, side};
 ghost use Rattle.arbiter.specs.Parts.{withInts};
+ghost use Rattle.arbiter.specs.State.{claimsTurn};
 ghost use Rattle.arbiter.specs.Registers.{grantedInt, raised};
-ghost use Rattle.arbiter.specs.Order.{column, winner, claimBy, newClaim, claimAfter, claim, grantedArb, grant};
-ghost use Rattle.arbitration.specs.Cleared.{claimsTurn};
+ghost use Rattle.arbiter.specs.Order.{column, winner, groundOf, claimBy, newClaim, claimAfter, claim, grantedArb, grant};
+ghost use Rattle.arbitration.specs.Cleared.{groundIn};
 ghost use Rattle.arbitration.specs.Quiet.{noClaim, isReady, noGrant};
 use arbiter::Arbitration;
 use arbiter::Bus;
 use arbiter::Control;
 use arbiter::Device;
+use arbiter::Ground;
 use arbiter::Last;
 use arbiter::Master;
 use arbiter::Side;
@@ -58,18 +60,32 @@ fn winner_of(p0: bool, p1: bool, last: Last) -> Master
     if w == 0 { Master::Zero } else { Master::One }
 }
 
+// The ground on which the winner of two requesters with these priorities wins.
+fn ground_of(p0: bool, p1: bool) -> Ground
+    ensures { λ r. ⌜ r ≡ groundOf p0 p1 ⌝ }
+{
+    if p0 {
+        if p1 { Ground::LastGranted } else { Ground::Priority }
+    } else {
+        if p1 { Ground::Priority } else { Ground::LastGranted }
+    }
+}
+
 fn claim_by(c0: Control, c1: Control, last: Last) -> Turn
-    ensures { λ r. ⌜ r ≡ claimBy (c0 .lockreq) (c1 .lockreq) (winner (c0 .priority) (c1 .priority) last) ⌝ }
+    ensures { λ r. ⌜ r ≡ claimBy (c0 .lockreq) (c1 .lockreq) (winner (c0 .priority) (c1 .priority) last) (groundOf (c0 .priority) (c1 .priority)) ⌝ }
 {
     if c0.lockreq {
         if c1.lockreq {
-            Turn::Claims(winner_of(c0.priority, c1.priority, last))
+            Turn::Claims(
+                winner_of(c0.priority, c1.priority, last),
+                ground_of(c0.priority, c1.priority),
+            )
         } else {
-            Turn::Claims(Master::Zero)
+            Turn::Claims(Master::Zero, Ground::Sole)
         }
     } else {
         if c1.lockreq {
-            Turn::Claims(Master::One)
+            Turn::Claims(Master::One, Ground::Sole)
         } else {
             Turn::Nobody
         }
@@ -97,12 +113,12 @@ fn claim_after(t: Turn, d: Device) -> Turn
 {
     match t {
         Turn::Nobody => new_claim(d),
-        Turn::Claims(m) => if requests(m, d) {
-            Turn::Claims(m)
+        Turn::Claims(m, g) => if requests(m, d) {
+            Turn::Claims(m, g)
         } else {
             new_claim(d)
         },
-        Turn::Owns(m) => Turn::Owns(m),
+        Turn::Owns(m, g) => Turn::Owns(m, g),
     }
 }
 
@@ -124,8 +140,8 @@ pub fn no_claim(t: Turn, d: Device) -> bool
 {
     match t {
         Turn::Nobody => !d.side0.contr.lockreq & !d.side1.contr.lockreq,
-        Turn::Claims(m) => requests(m, d),
-        Turn::Owns(_) => true,
+        Turn::Claims(m, _) => requests(m, d),
+        Turn::Owns(_, _) => true,
     }
 }
 
@@ -136,8 +152,8 @@ fn claims_turn(m: Master, t: Turn) -> bool
 {
     match t {
         Turn::Nobody => false,
-        Turn::Claims(k) => same_master(m, k),
-        Turn::Owns(_) => false,
+        Turn::Claims(k, _) => same_master(m, k),
+        Turn::Owns(_, _) => false,
     }
 }
 
@@ -153,15 +169,26 @@ fn pick_master(test: bool, x: Master, y: Master) -> Master
     if test { x } else { y }
 }
 
-fn granted_if(on: bool, m: Master, rt: u8, a: Arbitration) -> Arbitration
-    ensures { λ r. ⌜ r ≡ (if on then grantedArb m rt a else a) ⌝ }
+// The ground of the present claim. Where there is none, nothing depends on it.
+fn ground_in(t: Turn) -> Ground
+    ensures { λ r. ⌜ r ≡ groundIn t ⌝ }
+{
+    match t {
+        Turn::Nobody => Ground::Sole,
+        Turn::Claims(_, g) => g,
+        Turn::Owns(_, g) => g,
+    }
+}
+
+fn granted_if(on: bool, m: Master, g: Ground, rt: u8, a: Arbitration) -> Arbitration
+    ensures { λ r. ⌜ r ≡ (if on then grantedArb m g rt a else a) ⌝ }
 {
     arb_with(
         pick_last(on, Last::Was(m), last_of(a)),
         a.initfail,
         switch_of(a),
         pick_u8(on, rt, a.reserve),
-        pick_turn(on, Turn::Owns(m), turn_of(a)),
+        pick_turn(on, Turn::Owns(m, g), turn_of(a)),
     )
 }
 
@@ -194,12 +221,13 @@ pub fn grant_of(d: Device) -> Device
     let to0 = claims_turn(Master::Zero, turn_of(d.arb)) & is_ready(d.side0, d.bus);
     let to1 = claims_turn(Master::One, turn_of(d.arb)) & is_ready(d.side1, d.bus);
     let m = pick_master(to1, Master::One, Master::Zero);
+    let g = ground_in(turn_of(d.arb));
     let rt = pick_u8(to1, d.side1.rt, d.side0.rt);
     device_with(
         told_if(to0, d.side0),
         told_if(to1, d.side1),
         idle_kept(!(to0 | to1), d.bus),
-        granted_if(to0 | to1, m, rt, d.arb),
+        granted_if(to0 | to1, m, g, rt, d.arb),
         d,
     )
 }
@@ -210,10 +238,10 @@ pub fn no_grant(t: Turn, d: Device) -> bool
 {
     match t {
         Turn::Nobody => true,
-        Turn::Claims(m) => match m {
+        Turn::Claims(m, _) => match m {
             Master::Zero => !is_ready(d.side0, d.bus),
             Master::One => !is_ready(d.side1, d.bus),
         },
-        Turn::Owns(_) => true,
+        Turn::Owns(_, _) => true,
     }
 }

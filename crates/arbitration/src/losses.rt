@@ -94,8 +94,8 @@ pub fn no_loss(t: Turn, d: Device) -> bool
     let limit = idle_limit(d);
     match t {
         Turn::Nobody => true,
-        Turn::Claims(_) => true,
-        Turn::Owns(m) => match m {
+        Turn::Claims(_, _) => true,
+        Turn::Owns(m, _) => match m {
             Master::Zero => !runs_out(limit, d.side0, d.arb.reserve, d.bus),
             Master::One => !runs_out(limit, d.side1, d.arb.reserve, d.bus),
         },
@@ -161,8 +161,8 @@ pub fn no_cut(tick: bool, t: Turn, d: Device) -> bool
 {
     match t {
         Turn::Nobody => true,
-        Turn::Claims(_) => true,
-        Turn::Owns(m) => match m {
+        Turn::Claims(_, _) => true,
+        Turn::Owns(m, _) => match m {
             Master::Zero => !is_cut(tick, d.side0, d.bus),
             Master::One => !is_cut(tick, d.side1, d.bus),
         },

@@ -94,9 +94,9 @@ connectWith owns0 owns1 l d =
 connect-from : (c : Clock) (t : Turn) (d : Device) → connectWith (ownsTurn Zero t) (ownsTurn One t) (linkOf c t (d .side0 .contr) (d .side1 .contr) (d .arb .switch)) d ≡ connectFrom c t d
 unfolding linkOf connectFrom
 connect-from c Nobody d = refl
-connect-from c (Claims m) d = refl
-connect-from c (Owns Zero) d = put-owner c Zero d
-connect-from c (Owns One) d = put-owner c One d
+connect-from c (Claims m g) d = refl
+connect-from c (Owns Zero g) d = put-owner c Zero d
+connect-from c (Owns One g) d = put-owner c One d
 
 pub connect-law : (c : Clock) (d : Device) → connectWith (ownsTurn Zero (d .arb .turn)) (ownsTurn One (d .arb .turn)) (linkOf c (d .arb .turn) (d .side0 .contr) (d .side1 .contr) (d .arb .switch)) d ≡ connectFrom c (d .arb .turn) d
 connect-law c d = connect-from c (d .arb .turn) d

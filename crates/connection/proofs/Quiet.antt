@@ -36,8 +36,8 @@ linked-same m false (Closed k) d e q = absurd (false≢true q)
 connect-quiet : (t : Turn) (d : Device) → switchStays t d ≡ true → connectFrom NoClock t d ≡ d
 unfolding connectFrom
 connect-quiet Nobody d q = switched-same Apart d (apart (d .arb .switch) q)
-connect-quiet (Claims m) d q = switched-same Apart d (apart (d .arb .switch) q)
-connect-quiet (Owns m) d q = linked-same m ((side m d) .contr .busconnect) (d .arb .switch) d refl q
+connect-quiet (Claims m g) d q = switched-same Apart d (apart (d .arb .switch) q)
+connect-quiet (Owns m g) d q = linked-same m ((side m d) .contr .busconnect) (d .arb .switch) d refl q
 
 pub switch-stays : (d : Device) → switchStays (d .arb .turn) d ≡ true → connect NoClock d ≡ d
 unfolding connect

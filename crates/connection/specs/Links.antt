@@ -34,9 +34,9 @@ linking c m businit (Closed k) = if sameMaster m k then still (Closed k) else jo
 
 unfoldable pub linkOf : Clock → Turn → Control → Control → Switch → Link
 linkOf c Nobody c0 c1 w = still Apart
-linkOf c (Claims m) c0 c1 w = still Apart
-linkOf c (Owns Zero) c0 c1 w = if c0 .busconnect then linking c Zero (c0 .businit) w else still Apart
-linkOf c (Owns One) c0 c1 w = if c1 .busconnect then linking c One (c1 .businit) w else still Apart
+linkOf c (Claims m g) c0 c1 w = still Apart
+linkOf c (Owns Zero g) c0 c1 w = if c0 .busconnect then linking c Zero (c0 .businit) w else still Apart
+linkOf c (Owns One g) c0 c1 w = if c1 .busconnect then linking c One (c1 .businit) w else still Apart
 
 -- BUS_INIT cleared by the first test, BUS_CONNECT by the second
 abbrev pub contrEnded : Bool → Bool → Control → Control

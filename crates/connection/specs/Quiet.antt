@@ -22,5 +22,5 @@ linked m busconnect (Closed k) = busconnect && sameMaster m k
 
 abbrev pub switchStays : Turn → Device → Bool
 switchStays Nobody d = isApart (d .arb .switch)
-switchStays (Claims m) d = isApart (d .arb .switch)
-switchStays (Owns m) d = linked m ((side m d) .contr .busconnect) (d .arb .switch)
+switchStays (Claims m g) d = isApart (d .arb .switch)
+switchStays (Owns m g) d = linked m ((side m d) .contr .busconnect) (d .arb .switch)

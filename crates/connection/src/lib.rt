@@ -119,8 +119,8 @@ fn link_of(c: Clock, t: Turn, c0: Control, c1: Control, w: Switch) -> Link
 {
     match t {
         Turn::Nobody => still_at(Switch::Apart),
-        Turn::Claims(_) => still_at(Switch::Apart),
-        Turn::Owns(m) => match m {
+        Turn::Claims(_, _) => still_at(Switch::Apart),
+        Turn::Owns(m, _) => match m {
             Master::Zero => if c0.busconnect {
                 linking_by(c, m, c0.businit, w)
             } else {
@@ -228,8 +228,8 @@ pub fn switch_stays(t: Turn, d: Device) -> bool
 {
     match t {
         Turn::Nobody => is_apart(switch_of(d.arb)),
-        Turn::Claims(_) => is_apart(switch_of(d.arb)),
-        Turn::Owns(m) => match m {
+        Turn::Claims(_, _) => is_apart(switch_of(d.arb)),
+        Turn::Owns(m, _) => match m {
             Master::Zero => is_linked(m, d.side0.contr.busconnect, switch_of(d.arb)),
             Master::One => is_linked(m, d.side1.contr.busconnect, switch_of(d.arb)),
         },

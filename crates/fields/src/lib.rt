@@ -193,7 +193,7 @@ pub fn owns_turn(m: Master, t: Turn) -> bool
 {
     match t {
         Turn::Nobody => false,
-        Turn::Claims(_) => false,
-        Turn::Owns(k) => same_master(m, k),
+        Turn::Claims(_, _) => false,
+        Turn::Owns(k, _) => same_master(m, k),
     }
 }

@@ -7,7 +7,7 @@ ghost use Rattle.arbiter.specs.State.{isInitialising};
 ghost use Rattle.arbiter.specs.Events.{decode};
 ghost use Rattle.arbiter.specs.Order.{levels};
 ghost use Rattle.arbiter.specs.Effects.{powerUp};
-ghost use Rattle.arbiter.specs.Steps.{masterNumber, ownerNumber, switchNumber, ownerByte, linesByte, answer, step};
+ghost use Rattle.arbiter.specs.Steps.{masterNumber, ownerNumber, groundNumber, turnGround, switchNumber, ownerByte, linesByte, answer, step};
 ghost use Rattle.step.specs.Carried.{partsThreeToSeven, isSilent, isQuiet, finished, moved, steppedWith};
 use arbiter::Answer;
 use arbiter::Bus;
@@ -15,6 +15,7 @@ use arbiter::Clock;
 use arbiter::Decoded;
 use arbiter::Device;
 use arbiter::Event;
+use arbiter::Ground;
 use arbiter::Kind;
 use arbiter::Master;
 use arbiter::Outcome;
@@ -98,16 +99,33 @@ fn parts_3_to_7(tick: bool, c: Clock, d: Device) -> Device
 
 // ---- the answer
 
-fn owner_number(t: Turn) -> u8
-    ensures { λ r. ⌜ (r ≡ ownerNumber t) × (r ≤ 2) ⌝ }
+fn bits_0_and_1(m: Master) -> u8
+    ensures { λ r. ⌜ (r ≡ masterNumber m) × (r ≤ 2) ⌝ }
+{
+    match m {
+        Master::Zero => 1,
+        Master::One => 2,
+    }
+}
+
+fn bits_5_and_6(g: Ground) -> u8
+    ensures { λ r. ⌜ (r ≡ 32 * groundNumber g) × (r ≤ 96) ⌝ }
+{
+    match g {
+        Ground::Sole => 32,
+        Ground::Priority => 64,
+        Ground::LastGranted => 96,
+    }
+}
+
+// The owner at bits 0 and 1, and the ground of the present claim at bits 5 and 6.
+fn turn_bits(t: Turn) -> u8
+    ensures { λ r. ⌜ (r ≡ ownerNumber t + 32 * turnGround t) × (r ≤ 98) ⌝ }
 {
     match t {
         Turn::Nobody => 0,
-        Turn::Claims(_) => 0,
-        Turn::Owns(m) => match m {
-            Master::Zero => 1,
-            Master::One => 2,
-        },
+        Turn::Claims(_, g) => bits_5_and_6(g),
+        Turn::Owns(m, g) => bits_0_and_1(m) + bits_5_and_6(g),
     }
 }
 
@@ -134,7 +152,7 @@ fn switch_bits(w: Switch) -> u8
 fn owner_byte(d: Device) -> u8
     ensures { λ r. ⌜ r ≡ ownerByte d ⌝ }
 {
-    owner_number(turn_of(d.arb)) + switch_bits(switch_of(d.arb))
+    turn_bits(turn_of(d.arb)) + switch_bits(switch_of(d.arb))
 }
 
 fn lines_byte(d: Device) -> u8

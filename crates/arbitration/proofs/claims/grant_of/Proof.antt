@@ -27,6 +27,12 @@ is-ready-requires-2 c κs = search needs
 pick-master-requires : tie.Need-pick-master-requires
 pick-master-requires c κs = search needs
 
+turn-of-requires-3 : tie.Need-turn-of-requires-3
+turn-of-requires-3 c κs = search needs
+
+ground-in-requires : tie.Need-ground-in-requires
+ground-in-requires c κs = search needs
+
 pick-u8-requires : tie.Need-pick-u8-requires
 pick-u8-requires c κs = search needs
 
@@ -55,13 +61,15 @@ returns c =
       c .before .before .before .told-if2 .ensures,
       c .before .before .before .before .told-if .ensures,
       c .before .before .before .before .before .pick-u8 .ensures,
-      c .before .before .before .before .before .before .pick-master .ensures,
-      c .before .before .before .before .before .before .before .is-ready2 .ensures,
-      c .before .before .before .before .before .before .before .before .claims-turn2 .ensures,
-      c .before .before .before .before .before .before .before .before .before .turn-of2 .ensures,
-      c .before .before .before .before .before .before .before .before .before .before .is-ready .ensures,
-      c .before .before .before .before .before .before .before .before .before .before .before .claims-turn .ensures,
-      c .before .before .before .before .before .before .before .before .before .before .before .before .turn-of .ensures,
+      c .before .before .before .before .before .before .ground-in .ensures,
+      c .before .before .before .before .before .before .before .turn-of3 .ensures,
+      c .before .before .before .before .before .before .before .before .pick-master .ensures,
+      c .before .before .before .before .before .before .before .before .before .is-ready2 .ensures,
+      c .before .before .before .before .before .before .before .before .before .before .claims-turn2 .ensures,
+      c .before .before .before .before .before .before .before .before .before .before .before .turn-of2 .ensures,
+      c .before .before .before .before .before .before .before .before .before .before .before .before .is-ready .ensures,
+      c .before .before .before .before .before .before .before .before .before .before .before .before .before .claims-turn .ensures,
+      c .before .before .before .before .before .before .before .before .before .before .before .before .before .before .turn-of .ensures,
     )
     (grant-law _)
 
@@ -76,6 +84,8 @@ grant-of-spec =
     claims-turn-requires-2
     is-ready-requires-2
     pick-master-requires
+    turn-of-requires-3
+    ground-in-requires
     pick-u8-requires
     told-if-requires
     told-if-requires-2
