@@ -7,7 +7,7 @@ use mathlib.Core.Logic.{_⊎_, inl, inr}
 use native.Mathlib.Omega.{arith}
 use denote.Enum.Declared.{tagOf}
 use Rattle.arbiter.proofs.Decoded.{the-type}
-use Prim.Native.Nat.{ℕ}
+use Prim.Native.Nat.{ℕ, _+_}
 use Rattle.arbiter.specs.Words.{if_then_else_, side}
 use Rattle.arbiter.specs.Parts.{withBus}
 use Rattle.arbiter.specs.State.{sclHigh}
@@ -110,3 +110,9 @@ stepped-from (Reads e) d = go (inSequence e d)
 pub step-law : (d : Device) (r : Raw) → steppedWith (moved (decode r) d .device) (answer (moved (decode r) d .outcome) (moved (decode r) d .read) (moved (decode r) d .device)) ≡ step d r
 unfolding step
 step-law d r = stepped-from (decode r) d
+
+-- ---- the answer's third byte
+
+-- The code takes owner and ground from the turn and the rest from the switch; the definition goes from the low bits up.
+pub owner-sum : (owner switch init ground : ℕ) → (owner + ground) + (switch + init) ≡ owner + switch + init + ground
+owner-sum owner switch init ground = omega arith

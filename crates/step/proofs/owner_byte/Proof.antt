@@ -2,16 +2,15 @@
 -- Assumes nothing.
 use Rattle.arbiter.specs.Steps.{ownerByte}
 use borrow.Author.Needs.{needs}
-use mathlib.Core.Path.{sym}
-use native.Mathlib.Nat.{add-assoc}
+use Rattle.step.proofs.Laws.{owner-sum}
 use Rattle.step.proofs.owner_byte.Statement.{statement}
 use Rattle.step.proofs.owner_byte.Tie as tie
 
 turn-of-requires : tie.Need-turn-of-requires
 turn-of-requires c κs = search needs
 
-owner-number-requires : tie.Need-owner-number-requires
-owner-number-requires c κs = search needs
+turn-bits-requires : tie.Need-turn-bits-requires
+turn-bits-requires c κs = search needs
 
 switch-of-requires : tie.Need-switch-of-requires
 switch-of-requires c κs = search needs
@@ -28,17 +27,17 @@ returns c =
     simp (
       c .switch-bits .ensures .0,
       c .before .switch-of .ensures,
-      c .before .before .owner-number .ensures .0,
+      c .before .before .turn-bits .ensures .0,
       c .before .before .before .turn-of .ensures,
     )
-    (sym (add-assoc _ _ _))
+    (owner-sum _ _ _ _)
 
 pub owner-byte-spec : {M : Type 1} → statement M
 owner-byte-spec =
     tie.close
     (tie.spec
     turn-of-requires
-    owner-number-requires
+    turn-bits-requires
     switch-of-requires
     switch-bits-requires
     add-result
