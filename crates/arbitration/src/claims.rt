@@ -65,9 +65,17 @@ fn ground_of(p0: bool, p1: bool) -> Ground
     ensures { λ r. ⌜ r ≡ groundOf p0 p1 ⌝ }
 {
     if p0 {
-        if p1 { Ground::LastGranted } else { Ground::Priority }
+        if p1 {
+            Ground::LastGranted
+        } else {
+            Ground::Priority
+        }
     } else {
-        if p1 { Ground::Priority } else { Ground::LastGranted }
+        if p1 {
+            Ground::Priority
+        } else {
+            Ground::LastGranted
+        }
     }
 }
 
