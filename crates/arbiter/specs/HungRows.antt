@@ -55,8 +55,8 @@ longRows =
     -- a refused event restarts nothing, nor does a PULSE, which is refused here
     ∷ (statusAfter (sdaLow 500 ++ lines 2 0 1 ∷ pulse 1 ∷ tick ∷ []) is hung 0)
     -- nor does a PULSE of an initialisation, which is accepted
-    ∷ (statusAfter (initialising ++ sdaLow 250 ++ pulse 0 ∷ times 250 tick) is free 0x11)
-    ∷ (statusAfter (initialising ++ sdaLow 250 ++ pulse 0 ∷ times 251 tick) is hung 0x11)
+    ∷ (statusAfter (initialising ++ sdaLow 250 ++ pulse 0 ∷ times 250 tick) is free 0x31)
+    ∷ (statusAfter (initialising ++ sdaLow 250 ++ pulse 0 ∷ times 251 tick) is hung 0x31)
     -- no latch: a change of SCL takes the flag back
     ∷ (statusAfter (sdaLow 501 ++ lines 0 0 1 ∷ lines 1 0 1 ∷ []) is free 0)
     ∷ []

@@ -17,6 +17,7 @@ use Rattle.arbiter.specs.Order.{busyAfter, levels, runsOut, lost, lossesFrom, l
 use Rattle.arbiter.specs.Steps.{parts, taken, stepEvent, stepDecoded, step, runFrom, answersFrom}
 use Rattle.arbiter.specs.Marks.{command, write, stop}
 use Rattle.arbiter.specs.declared.Master.the-variants.{Zero, One}
+use Rattle.arbiter.specs.declared.Ground.the-variants.{Sole}
 use Rattle.arbiter.specs.declared.Turn.{Turn}
 use Rattle.arbiter.specs.declared.Turn.the-variants.{Owns}
 use Rattle.arbiter.specs.declared.Clock.the-variants.{NoClock}
@@ -84,7 +85,7 @@ first d r p i =
     (standing Zero x, x .arb .turn, x .arb .reserve, x .bus .idle, x .side0 .contr .busconnect, outcomes (wasReset 0 d) es)
 
 abbrev firstOf : ℕ → Bool → Bool → First
-firstOf r p i = (asOrdered (setting r p i), Owns Zero, r, 0, false, replicate 6 0)
+firstOf r p i = (asOrdered (setting r p i), Owns Zero Sole, r, 0, false, replicate 6 0)
 
 first-computed : (d : Device) (r : ℕ) → table (first d r) ≡ table (firstOf r)
 unfolding ownWritten mailWritten drivesWritten turnWritten decode inSequence acknowledged outcome commanded written freshSide wasReset effect
@@ -109,10 +110,10 @@ owned t d = withArb (withTurn t (d .arb)) d
 
 -- so parts 3 to 7 leave everything, and the switch stays open.
 parts-owned : (d : Device) → d .arb .reserve ≡ d .side0 .rt → d .bus .idle ≡ 0 → d .side0 .contr .busconnect ≡ false
-    → let x : Device = owned (Owns Zero) d in connect NoClock (grant (claim (cut false (losses x)))) ≡ switched Apart x
+    → let x : Device = owned (Owns Zero Sole) d in connect NoClock (grant (claim (cut false (losses x)))) ≡ switched Apart x
 unfolding losses lossesFrom cut cutFrom claim grant grantFrom connect connectFrom
 parts-owned d whole none off =
-    let x : Device = owned (Owns Zero) d in
+    let x : Device = owned (Owns Zero Sole) d in
     ap (λ (l : Device). connect NoClock (grant (claim (cut false l)))) (if-false (lost Zero x) x (unexpired (d .kind) (d .side0) (d .arb .reserve) (d .bus) whole none))
     ∙ if-false (keptJoined NoClock Zero (d .arb .switch) x) (switched Apart x) off
 
@@ -128,7 +129,7 @@ levels-none before d none = either (λ (n : ℕ). n ≡ 0) (not (busyAfter false
 
 -- the six devices after its six events, from one that master 0 owns
 abbrev x0 : Device → Device
-x0 d = owned (Owns Zero) d
+x0 d = owned (Owns Zero Sole) d
 
 abbrev x1 : Device → Device
 x1 d = left (Command One 0x03) (x0 d)
@@ -172,17 +173,17 @@ abbrev last : Device → ℕ → Bool → Bool → Seen
 last d r p i = seen (x6 (setting r p i) d) []
 
 abbrev lastOf : Device → ℕ → Bool → Bool → Seen
-lastOf d r p i = (standing Zero d, asOrdered (setting r p i), Owns Zero, [])
+lastOf d r p i = (standing Zero d, asOrdered (setting r p i), Owns Zero Sole, [])
 
 last-computed : (d : Device) (r : ℕ) → table (last d r) ≡ table (lastOf d r)
 unfolding ownWritten mailWritten drivesWritten turnWritten commanded written effect levels runFrom answersFrom controlByte
 last-computed d r = refl
 
 -- From a device that master 0 owns with its whole reserve and no idle tick, not connected, they leave master 0 as it was.
-second : (d : Device) (s : Setting) → d .arb .turn ≡ Owns Zero → d .arb .reserve ≡ d .side0 .rt → d .bus .idle ≡ 0 → d .side0 .contr .busconnect ≡ false
-    → seen d (settingEvents 1 s) ≡ (standing Zero d, asOrdered s, Owns Zero, replicate 6 0)
+second : (d : Device) (s : Setting) → d .arb .turn ≡ Owns Zero Sole → d .arb .reserve ≡ d .side0 .rt → d .bus .idle ≡ 0 → d .side0 .contr .busconnect ≡ false
+    → seen d (settingEvents 1 s) ≡ (standing Zero d, asOrdered s, Owns Zero Sole, replicate 6 0)
 second d s turn whole none off =
-    subst (λ (t : Turn). seen (owned t d) (settingEvents 1 s) ≡ (standing Zero d, asOrdered s, Owns Zero, replicate 6 0)) (sym turn)
+    subst (λ (t : Turn). seen (owned t d) (settingEvents 1 s) ≡ (standing Zero d, asOrdered s, Owns Zero Sole, replicate 6 0)) (sym turn)
     (second-led d s whole none off
     ∙ ap (λ (x : Seen). done (done (done (done (done (done x))))))
     (at-each (last d (s .reserve)) (lastOf d (s .reserve)) (last-computed d (s .reserve)) (s .priority) (s .idle)))
@@ -201,9 +202,9 @@ stands-after-reset d o =
     let f : first d (s0 .reserve) (s0 .priority) (s0 .idle) ≡ firstOf (s0 .reserve) (s0 .priority) (s0 .idle) =
     at-each (first d (s0 .reserve)) (firstOf (s0 .reserve)) (first-computed d (s0 .reserve)) (s0 .priority) (s0 .idle) in
     let rt : x .side0 .rt ≡ s0 .reserve = ap (λ (t : First). t .0 .reserve) f in
-    let after : seen x (settingEvents 1 s1) ≡ (asOrdered s0, asOrdered s1, Owns Zero, replicate 6 0) =
+    let after : seen x (settingEvents 1 s1) ≡ (asOrdered s0, asOrdered s1, Owns Zero Sole, replicate 6 0) =
     second x s1 (ap (λ (t : First). t .1) f) (ap (λ (t : First). t .2) f ∙ sym rt) (ap (λ (t : First). t .3) f) (ap (λ (t : First). t .4) f)
-    ∙ ap (λ (t : First). (t .0, asOrdered s1, Owns Zero, replicate 6 0)) f in
+    ∙ ap (λ (t : First). (t .0, asOrdered s1, Owns Zero Sole, replicate 6 0)) f in
     ap₂ both (ap (λ (t : First). t .5) f) after
 
 -- Power-up is such a reset.

@@ -18,6 +18,7 @@ use Rattle.arbiter.specs.Traces.{rawsIn}
 use Rattle.arbiter.specs.Witnesses.{allMet}
 use Rattle.arbiter.specs.declared.Master.{Master}
 use Rattle.arbiter.specs.declared.Master.the-variants.{Zero, One}
+use Rattle.arbiter.specs.declared.Ground.the-variants.{Sole}
 use Rattle.arbiter.specs.declared.Turn.{Turn}
 use Rattle.arbiter.specs.declared.Turn.the-variants.{Owns}
 use Rattle.arbiter.specs.declared.Kind.{Kind}
@@ -66,13 +67,13 @@ outset start o =
       outcomes = map (λ (a : Answer). a .outcome) answers;
     }
 
--- each master as ordered; master 0 owns, since it asks and stops first; every event is done
+-- each master as ordered; master 0 owns, since it asks and stops first, as the sole requester; every event is done
 abbrev pub outsetOf : Order → Outset
 outsetOf o =
     record {
       master0 = asOrdered (o .master0);
       master1 = asOrdered (o .master1);
-      turn = Owns Zero;
+      turn = Owns Zero Sole;
       outcomes = replicate orderCount (outcomeNumber Done);
     }
 
