@@ -1,6 +1,6 @@
-/* Lists a trace, says in words what part it is for and who owns the bus at its end, writes the trace again, takes its part away as in an
- * old trace and has it converted, and shows straps both ways. With a capture it says what that has for the device at 71h, and with two order
- * sheets what they order.
+/* Lists a trace, says in words what part it is for, who owns the bus at its end and why its claim was won, writes the trace again, takes its
+ * part away as in an old trace and has it converted, and shows straps both ways. With a capture it says what that has for the device at 71h,
+ * and with two order sheets what they order.
  * Usage: example TRACE-FILE [CAPTURE-FILE [BOARD-SHEET HOUSE-SHEET]] */
 #include <stdio.h>
 #include <string.h>
@@ -18,6 +18,7 @@ static uint8_t written[GUNWALEISH_MOST_TRACE];
 static uint8_t text[GUNWALEISH_MOST_TEXT];
 
 static const char *const owners[4] = {"nobody", "master 0", "master 1", "?"};
+static const char *const grounds[4] = {"no claim", "sole requester", "priority", "last granted"};
 static const char *const parts[2] = {"PCA9641", "TPT29641"};
 static const char *const sections[3] = {"Downstream reserve, ms", "Priority", "Idle timer"};
 
@@ -59,7 +60,9 @@ static void show_trace(size_t length) {
     printf("%s at address %02Xh, %zu events\n", parts[kind & 1], gunwaleish_address(report), events);
     if (events > 0) {
         const uint8_t *last = answers + 4 * (events - 1);
-        printf("at the end the bus is owned by %s\n", owners[gunwaleish_owner(last[GUNWALEISH_ANSWER_BUS])]);
+        uint8_t bus = last[GUNWALEISH_ANSWER_BUS];
+        printf("at the end the bus is owned by %s; ground of the claim: %s\n", owners[gunwaleish_owner(bus)],
+               grounds[gunwaleish_ground(bus)]);
     }
     show_written(length, events, kind);
     show_converted(length);

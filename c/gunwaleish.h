@@ -91,11 +91,22 @@ enum gunwaleish_sheets {
 #define GUNWALEISH_ANSWER_BUS 2
 #define GUNWALEISH_ANSWER_PINS 3
 
-/* The bits of the third answer byte. Owner and switch are 0 for none, 1 for master 0 and 2 for master 1; the switch is two bits up. */
+/* The bits of the third answer byte. Owner and switch are 0 for none, 1 for master 0 and 2 for master 1; the switch is two bits up. The
+ * ground of the present claim, a number of gunwaleish_grounds, is five bits up. Bit 7 is 0. */
 #define GUNWALEISH_BUS_OWNER 0x03
 #define GUNWALEISH_BUS_SWITCH 0x0c
 #define GUNWALEISH_BUS_SWITCH_SHIFT 2
 #define GUNWALEISH_BUS_INITIALISING 0x10
+#define GUNWALEISH_BUS_GROUND 0x60
+#define GUNWALEISH_BUS_GROUND_SHIFT 5
+
+/* On what ground the present claim was won. It is fixed when the claim is made, shown from then on, and kept while the grant lasts. */
+enum gunwaleish_grounds {
+    GUNWALEISH_NO_CLAIM = 0,               /* nobody claims or owns the bus */
+    GUNWALEISH_SOLE_REQUESTER = 1,         /* the partner did not ask */
+    GUNWALEISH_PRIORITY = 2,               /* both asked, and the priorities differed */
+    GUNWALEISH_LAST_GRANTED = 3            /* both asked with equal priorities: the partner was granted last, or nobody before */
+};
 
 /* The bits of the fourth answer byte. */
 #define GUNWALEISH_PINS_INT0_ASSERTED 0x01
@@ -203,13 +214,17 @@ static inline uint8_t gunwaleish_pin(uint64_t packed, unsigned ad) {
     return (uint8_t)(ad > 3 ? GUNWALEISH_NO_PIN : packed >> (8 * (4 - ad)) & 0xff);
 }
 
-/* The parts of an answer's third byte: 0 none, 1 master 0, 2 master 1. */
+/* The parts of an answer's third byte: owner and switch, each 0 none, 1 master 0, 2 master 1; and the ground of the present claim. */
 static inline unsigned gunwaleish_owner(uint8_t bus) {
     return (unsigned)(bus & GUNWALEISH_BUS_OWNER);
 }
 
 static inline unsigned gunwaleish_switch(uint8_t bus) {
     return (unsigned)(bus & GUNWALEISH_BUS_SWITCH) >> GUNWALEISH_BUS_SWITCH_SHIFT;
+}
+
+static inline unsigned gunwaleish_ground(uint8_t bus) {
+    return (unsigned)(bus & GUNWALEISH_BUS_GROUND) >> GUNWALEISH_BUS_GROUND_SHIFT;
 }
 
 #ifdef __cplusplus

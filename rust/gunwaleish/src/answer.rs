@@ -1,4 +1,4 @@
-//! An answer's four bytes by their names. Document 01, "Answers and the trace".
+//! An answer's four bytes by their names. Document 01, "Answers and the trace", and document 02, #107.
 
 use std::fmt;
 
@@ -65,6 +65,45 @@ impl fmt::Display for Outcome {
     }
 }
 
+/// On what ground the present claim was won. It is fixed when the claim is made.
+#[derive(Clone, Copy, Debug, PartialEq, Eq, Hash)]
+pub enum Ground {
+    /// 1: the partner did not ask.
+    Sole,
+    /// 2: both asked, and the priorities differed.
+    Priority,
+    /// 3: both asked with equal priorities, and the partner was granted last, or nobody before.
+    LastGranted,
+}
+
+impl Ground {
+    pub const ALL: [Ground; 3] = [Ground::Sole, Ground::Priority, Ground::LastGranted];
+
+    /// Document 02's number.
+    pub fn number(self) -> u8 {
+        match self {
+            Ground::Sole => 1,
+            Ground::Priority => 2,
+            Ground::LastGranted => 3,
+        }
+    }
+
+    /// The ground of this number.
+    pub fn of(number: u8) -> Option<Ground> {
+        Ground::ALL.into_iter().find(|ground| ground.number() == number)
+    }
+}
+
+impl fmt::Display for Ground {
+    fn fmt(&self, f: &mut fmt::Formatter) -> fmt::Result {
+        f.write_str(match self {
+            Ground::Sole => "sole requester",
+            Ground::Priority => "priority",
+            Ground::LastGranted => "last granted",
+        })
+    }
+}
+
 /// What the device answers to one event. All but the outcome and the byte read show the device
 /// after the step.
 #[derive(Clone, Copy, Debug, PartialEq, Eq, Hash)]
@@ -79,6 +118,9 @@ pub struct Answer {
     pub connected: Option<Master>,
     /// An initialisation of the bus is running.
     pub initialising: bool,
+    /// The ground of the present claim, from the claim on and as long as the grant lasts. `None` if
+    /// nobody claims or owns the bus.
+    pub ground: Option<Ground>,
     /// Interrupt output 0 is asserted.
     pub int0: bool,
     /// Interrupt output 1 is asserted.
@@ -97,6 +139,7 @@ impl From<[u8; 4]> for Answer {
             owner: master(bus),
             connected: master(bus >> 2),
             initialising: bus & 0x10 != 0,
+            ground: Ground::of(bus >> 5 & 3),
             int0: pins & 0x01 != 0,
             int1: pins & 0x02 != 0,
             scl: pins & 0x04 != 0,

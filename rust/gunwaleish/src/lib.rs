@@ -5,11 +5,11 @@
 //!
 //! A trace is one byte string: the count 4 and the pins AD3 to AD0; a two-byte low-first count of
 //! events and four bytes an event; the count 1 and the kind of part, 0 for a PCA9641 or 1 for a
-//! TPT29641. Each event is answered by four bytes: the outcome, the byte read, owner and switch,
-//! outputs and lines.
+//! TPT29641. Each event is answered by four bytes: the outcome, the byte read, owner and switch
+//! with the ground of the claim, outputs and lines.
 //!
 //! ```
-//! use gunwaleish::{run, write_trace, Event, Master, Part, Pins};
+//! use gunwaleish::{run, write_trace, Event, Ground, Master, Part, Pins};
 //!
 //! // Strapped to 70h, master 0 asks for the bus and is granted it at its STOP.
 //! let master = Master::Zero;
@@ -22,7 +22,7 @@
 //! assert_eq!(trace[trace.len() - 2..], [1, 0]);
 //! let run = run(&trace)?;
 //! assert_eq!((run.part, run.events.as_slice()), (Part::Pca9641, &events[..]));
-//! assert_eq!(run.answers[1].owner, None);
+//! assert_eq!((run.answers[1].owner, run.answers[1].ground), (None, Some(Ground::Sole)));
 //! assert_eq!(run.answers[2].owner, Some(Master::Zero));
 //! # Ok::<(), gunwaleish::Refusal>(())
 //! ```
@@ -45,7 +45,7 @@ mod run;
 mod sheet;
 mod writing;
 
-pub use answer::{Answer, Outcome};
+pub use answer::{Answer, Ground, Outcome};
 pub use capture::{import_capture, import_capture_into, MOST_CAPTURED, MOST_SAMPLES};
 pub use event::{Event, Master};
 pub use part::Part;

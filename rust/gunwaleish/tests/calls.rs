@@ -2,20 +2,20 @@
 
 use gunwaleish::{
     address_of, convert_trace, convert_trace_into, import_capture, import_capture_into, listing,
-    listing_into, pins_of, run, run_trace, write_trace, write_trace_into, Answer, Event, Master,
-    Outcome, Part, Pins, Refusal, Report, MOST_EVENTS, MOST_SAMPLES, MOST_TRACE,
+    listing_into, pins_of, run, run_trace, write_trace, write_trace_into, Answer, Event, Ground,
+    Master, Outcome, Part, Pins, Refusal, Report, MOST_EVENTS, MOST_SAMPLES, MOST_TRACE,
 };
 
 /// M1: master 0 asks for the bus, is granted it at its STOP, and reads CONTR. The part is a PCA9641.
 const M1: [u8; 25] = [4, 0, 0, 0, 0, 4, 0, 0, 0, 1, 0, 1, 0, 5, 0, 3, 0, 0, 0, 2, 0, 0, 0, 1, 0];
-const M1_TEXT: &str = "70 0004\n0000000C\n0000000C\n0000050C\n0007050C\n";
+const M1_TEXT: &str = "70 0004\n0000000C\n0000200C\n0000250C\n0007250C\n";
 
 #[test]
 fn a_trace_runs() {
     let mut answers = [0xEE; 18];
     let report = Report { address: 0x70, events: 4, part: Part::Pca9641 };
     assert_eq!(run_trace(&M1, &mut answers), Ok(report));
-    let expected = [0, 0, 0, 12, 0, 0, 0, 12, 0, 0, 5, 12, 0, 7, 5, 12, 0xEE, 0xEE];
+    let expected = [0, 0, 0, 12, 0, 0, 32, 12, 0, 0, 37, 12, 0, 7, 37, 12, 0xEE, 0xEE];
     assert_eq!(answers, expected);
 }
 
@@ -235,9 +235,18 @@ fn an_answer_by_its_names() {
     assert_eq!((answer.owner, answer.connected), (Some(Master::Zero), Some(Master::One)));
     assert_eq!((answer.initialising, answer.int0, answer.int1), (true, false, true));
     assert_eq!((answer.scl, answer.sda), (true, false));
+    assert_eq!(answer.ground, None);
     let idle = Answer::from([0, 0, 0, 0b1001]);
     assert_eq!((idle.owner, idle.connected, idle.initialising), (None, None, false));
     assert_eq!((idle.int0, idle.int1, idle.scl, idle.sda), (true, false, false, true));
+    for (bus, ground, words) in [
+        (0x20, Ground::Sole, "sole requester"),
+        (0x5E, Ground::Priority, "priority"),
+        (0x61, Ground::LastGranted, "last granted"),
+    ] {
+        assert_eq!(Answer::from([0, 0, bus, 0]).ground, Some(ground));
+        assert_eq!((ground.number(), ground.to_string().as_str()), (bus >> 5, words));
+    }
     for number in 0..=5 {
         let outcome = Outcome::of(number);
         assert_eq!((outcome.number(), outcome.is_refused()), (number, number > 1));

@@ -77,12 +77,16 @@ fn mail_goes_both_ways() {
     assert_eq!(bytes_read("mail"), [0x20, 0x34, 0x12, 0x10, 0xCD, 0xAB]);
 }
 
-/// Both ask, both let go, both ask. STATUS bit 0 of each loser in turn, then LOCK_GRANT of the second winner.
+/// Both ask, both let go, both ask, and so once more. STATUS bit 0 of the first two losers in turn,
+/// then LOCK_GRANT of the second winner. Equal priorities twice, then master 1's own.
 #[test]
-fn pair_has_each_win_once() {
+fn pair_has_each_win() {
     let pairs = run("pair").into_iter().filter(|(event, _)| event[0] == 4);
-    let both_ask: Vec<bool> = pairs.map(|(event, _)| event[1] & event[2] & 1 == 1).collect();
-    assert_eq!(both_ask, [true, false, true]);
+    let (both_ask, grounds): (Vec<bool>, Vec<u8>) =
+        pairs.map(|(event, answer)| (event[1] & event[2] & 1 == 1, answer[2] >> 5)).unzip();
+    assert_eq!(both_ask, [true, false, true, false, true]);
+    assert_eq!(grounds, [3, 0, 3, 0, 2]);
+    assert_eq!(run("pair").last().unwrap().1[2], 0x42, "master 1 owns, ground 2");
     assert_eq!(bytes_read("pair"), [0xC9, 0xC9, 0x83]);
 }
 

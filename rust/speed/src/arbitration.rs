@@ -32,7 +32,7 @@ impl Device {
 
     /// The reserve runs out on an idle bus; without one only the idle timer ends a grant.
     pub fn lose(&mut self) {
-        let Turn::Owns(m) = self.turn else {
+        let Turn::Owns(m, _) = self.turn else {
             return;
         };
         let side = self.sides[m as usize];
@@ -51,7 +51,7 @@ impl Device {
 
     /// SCL low for 35 ticks cuts the owner's connection, not its grant.
     pub fn cut(&mut self) {
-        let Turn::Owns(m) = self.turn else {
+        let Turn::Owns(m, _) = self.turn else {
             return;
         };
         let side = self.side(m);
@@ -64,32 +64,33 @@ impl Device {
     pub fn claim(&mut self) {
         let requests = |m: Master| self.sides[m as usize].contr & LOCK_REQ != 0;
         match self.turn {
-            Turn::Owns(_) => return,
-            Turn::Claims(m) if requests(m) => return,
+            Turn::Owns(..) => return,
+            Turn::Claims(m, _) if requests(m) => return,
             _ => {}
         }
         self.turn = match (requests(Master::Zero), requests(Master::One)) {
             (false, false) => Turn::Nobody,
-            (true, false) => Turn::Claims(Master::Zero),
-            (false, true) => Turn::Claims(Master::One),
-            (true, true) => Turn::Claims(self.winner()),
+            (true, false) => Turn::Claims(Master::Zero, Ground::Sole),
+            (false, true) => Turn::Claims(Master::One, Ground::Sole),
+            (true, true) => self.contest(),
         };
     }
 
-    fn winner(&self) -> Master {
+    fn contest(&self) -> Turn {
         let first = self.sides[0].contr & PRIORITY != 0;
         let second = self.sides[1].contr & PRIORITY != 0;
-        match (first, second, self.last_granted) {
-            (true, false, _) => Master::Zero,
-            (false, true, _) => Master::One,
-            (_, _, Some(last)) => last.partner(),
-            (false, false, None) => Master::Zero,
-            (true, true, None) => Master::One,
-        }
+        let (winner, ground) = match (first, second, self.last_granted) {
+            (true, false, _) => (Master::Zero, Ground::Priority),
+            (false, true, _) => (Master::One, Ground::Priority),
+            (_, _, Some(last)) => (last.partner(), Ground::LastGranted),
+            (false, false, None) => (Master::Zero, Ground::LastGranted),
+            (true, true, None) => (Master::One, Ground::LastGranted),
+        };
+        Turn::Claims(winner, ground)
     }
 
     pub fn grant(&mut self) {
-        let Turn::Claims(m) = self.turn else {
+        let Turn::Claims(m, ground) = self.turn else {
             return;
         };
         let side = &mut self.sides[m as usize];
@@ -98,7 +99,7 @@ impl Device {
         }
         side.int_status |= 0x04;
         self.reserve_left = side.rt;
-        self.turn = Turn::Owns(m);
+        self.turn = Turn::Owns(m, ground);
         self.idle = 0;
         self.last_granted = Some(m);
     }
@@ -106,7 +107,7 @@ impl Device {
     /// The switch follows grant and BUS_CONNECT, by way of an initialisation if BUS_INIT is set.
     pub fn connect(&mut self) {
         let owner = match self.turn {
-            Turn::Owns(m) => Some(m),
+            Turn::Owns(m, _) => Some(m),
             _ => None,
         };
         let joined = owner.filter(|&m| self.sides[m as usize].contr & BUS_CONNECT != 0);

@@ -63,9 +63,10 @@ impl Device {
     }
 
     fn answer(&self, outcome: u8, byte_read: u8) -> [u8; 4] {
-        let owner = match self.turn {
-            Turn::Owns(m) => m as u8 + 1,
-            _ => 0,
+        let turn = match self.turn {
+            Turn::Nobody => 0,
+            Turn::Claims(_, ground) => (ground as u8) << 5,
+            Turn::Owns(m, ground) => (m as u8 + 1) | (ground as u8) << 5,
         };
         let switch = match self.switch {
             Switch::Open => 0,
@@ -75,7 +76,7 @@ impl Device {
         let hung = (self.is_hung() as u8) << 6;
         let asserted = |side: &Side| ((side.int_status | hung) & !side.int_msk != 0) as u8;
         let outputs = asserted(&self.sides[0]) | asserted(&self.sides[1]) << 1;
-        [outcome, byte_read, owner | switch, outputs | self.levels()]
+        [outcome, byte_read, turn | switch, outputs | self.levels()]
     }
 
     fn command(&mut self, m: Master, code: u8) -> u8 {
@@ -128,7 +129,7 @@ impl Device {
             return 4;
         }
         self.side(m).port = Port::AtRest;
-        if self.turn == Turn::Claims(m) {
+        if matches!(self.turn, Turn::Claims(claimant, _) if claimant == m) {
             self.grant();
             self.connect();
         }
@@ -168,7 +169,7 @@ impl Device {
             self.cut();
         }
         // Who owns keeps the turn, so there is nothing to claim or to connect.
-        if !matches!(self.turn, Turn::Owns(_)) {
+        if !matches!(self.turn, Turn::Owns(..)) {
             self.claim();
             self.grant();
             self.connect();

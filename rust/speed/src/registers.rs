@@ -66,11 +66,19 @@ pub enum Port {
     OpenForWriting,
 }
 
+/// Why a claim was won, by the numbers that the answer has.
+#[derive(Clone, Copy, PartialEq, Eq)]
+pub enum Ground {
+    Sole = 1,
+    Priority = 2,
+    LastGranted = 3,
+}
+
 #[derive(Clone, Copy, PartialEq, Eq)]
 pub enum Turn {
     Nobody,
-    Claims(Master),
-    Owns(Master),
+    Claims(Master, Ground),
+    Owns(Master, Ground),
 }
 
 /// Whose switch it is. Initialising counts the PULSE of 0 so far.
@@ -152,7 +160,7 @@ impl Device {
     }
 
     pub fn owns(&self, m: Master) -> bool {
-        self.turn == Turn::Owns(m)
+        matches!(self.turn, Turn::Owns(owner, _) if owner == m)
     }
 
     pub fn levels(&self) -> u8 {

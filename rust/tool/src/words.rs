@@ -1,6 +1,6 @@
 //! Events, answers and changes in words.
 
-use gunwaleish::{Event, Master, Outcome, Part};
+use gunwaleish::{Event, Ground, Master, Outcome, Part};
 
 use crate::story::{idle_limit, write_pointer_rolls};
 use crate::story::{Change, GrantEnd, InitialisationEnd, Step};
@@ -159,6 +159,7 @@ pub fn change(change: &Change) -> String {
         }
         Change::BeginsToWait(m) => format!("controller {m} asks for the bus and waits"),
         Change::GivesUp(m) => format!("controller {m} asks no more"),
+        Change::Claims(m, ground) => format!("controller {m} claims the bus: {}", won(ground)),
         Change::InitialisationStarts => "an initialisation starts".to_string(),
         Change::InitialisationEnds(InitialisationEnd::Succeeds) => {
             "the initialisation succeeds".to_string()
@@ -179,6 +180,15 @@ pub fn change(change: &Change) -> String {
         Change::SdaRises => "SDA rises".to_string(),
         Change::Hung => "the bus is hung".to_string(),
         Change::HungNoMore => "the bus is no longer hung".to_string(),
+    }
+}
+
+/// Why a claim was won.
+fn won(ground: Ground) -> &'static str {
+    match ground {
+        Ground::Sole => "it alone asks",
+        Ground::Priority => "both ask, and it has priority",
+        Ground::LastGranted => "both ask with equal priorities, and it was not the last granted",
     }
 }
 

@@ -91,7 +91,10 @@ fn box_14_is_told_in_words() {
     assert!(
         filled.contains("longest wait 49 ticks from event 13, then granted at event 64, tick 50")
     );
-    assert!(filled.contains("controller 0 loses the bus; controller 1 is granted the bus"));
+    assert!(filled.contains(
+        "controller 0 loses the bus; controller 1 claims the bus: it alone asks; controller 1 is \
+         granted the bus"
+    ));
     assert!(!filled.contains("never granted"));
 }
 

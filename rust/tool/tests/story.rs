@@ -2,7 +2,7 @@
 
 use std::sync::OnceLock;
 
-use gunwaleish::{Event, Master, Part, MOST_EVENTS};
+use gunwaleish::{Event, Ground, Master, Part, MOST_EVENTS};
 use gunwaleish_tool::story::{
     follow, idle_limit, write_pointer_rolls, Change, GrantEnd, Step, Story,
 };
@@ -89,6 +89,30 @@ fn waits_registers_and_hung_are_the_models() {
     assert!(waits > 1000 && hung > 10, "{waits} waits, {hung} hung");
 }
 
+/// Who claims and on what ground, and that a claim is told in the event that makes it.
+#[test]
+fn claims_and_their_grounds_are_the_models() {
+    let mut seen = [0; 3];
+    for story in stories() {
+        along(story, |step, before, after| {
+            let scene = &step.scene;
+            assert_eq!(scene.claimant.map(|m| m as usize), after.claimant(), "{}", step.number);
+            assert_eq!(scene.ground.map_or(0, Ground::number), after.ground(), "{}", step.number);
+            let told = step.changes.iter().find_map(|change| match change {
+                Change::Claims(master, ground) => Some((*master as usize, *ground)),
+                _ => None,
+            });
+            let made = after.claim.filter(|_| before.claimant() != after.claimant());
+            let made = made.map(|claim| (claim.master, claim.ground.number()));
+            assert_eq!(told.map(|(m, ground)| (m, ground.number())), made, "{}", step.number);
+            if let Some((_, ground)) = told {
+                seen[ground as usize] += 1;
+            }
+        });
+    }
+    assert!(seen.iter().all(|&times| times > 5), "{seen:?}");
+}
+
 /// How a grant ended, as the model's own state tells it.
 #[test]
 fn ends_of_grants_are_the_models() {
@@ -152,7 +176,7 @@ fn the_reason_of_a_wait_is_the_models() {
                         continue;
                     }
                     None if port != Port::AtRest => ("its own port", 0),
-                    None if device.claimant == Some(1 - m) && device.hold == 0 => ("claims", 1),
+                    None if device.claimant() == Some(1 - m) && device.hold == 0 => ("claims", 1),
                     None => ("soft reset", 2),
                 };
                 assert!(why.contains(case.0), "event {}: {why}", step.number);

@@ -16,7 +16,8 @@ pub const COMMAND: Command = Command {
     help: "The first lines name the part and what its idle timer and its write pointer do. A line has\n\
            the event's number, the ticks passed, what came, what was answered, then who owns the\n\
            bus, who is connected, who waits, which interrupt outputs are asserted and the levels of\n\
-           SCL and SDA, all after the event; then the names of the byte's bits, and what changed.\n\
+           SCL and SDA, all after the event; then the names of the byte's bits, and what changed, a\n\
+           claim with its ground.\n\
            What a controller does begins with its number. Ticks in which nothing changes share a\n\
            line.",
     options: &[],

@@ -15,7 +15,8 @@ pub const COMMAND: Command = Command {
     summary: "the run as waveforms (VCD), for GTKWave",
     usage: TRACES,
     help: "A TICK stands at each full millisecond. The events between two ticks are spread evenly, so\n\
-           that each can be seen. owner and switch are 0 none, 1 controller 0, 2 controller 1.",
+           that each can be seen. owner and switch are 0 none, 1 controller 0, 2 controller 1. ground,\n\
+           why the claim was won, is 0 no claim, 1 sole requester, 2 priority, 3 last granted.",
     options: &[],
     example: "target/rust/release/gunwaleish wave traces/box14-rt50.trace -o target/box14-rt50.vcd",
     run: |arguments| each_trace(arguments, "vcd", wave),
@@ -97,6 +98,7 @@ fn bus() -> Vec<Shown> {
         bit("SDA", true, |s| s.scene.sda),
         number("owner", 2, |s| code(s.scene.owner)),
         number("switch", 2, |s| code(s.scene.connected)),
+        number("ground", 2, |s| s.scene.ground.map_or(0, |ground| ground.number().into())),
         bit("initialising", false, |s| s.scene.initialising),
         bit("hung", false, |s| s.scene.hung),
     ]

@@ -1,6 +1,6 @@
 //! What changed in one event.
 
-use gunwaleish::{Event, Master};
+use gunwaleish::{Event, Ground, Master};
 
 use super::{Scene, Step};
 
@@ -27,6 +27,11 @@ pub enum InitialisationEnd {
 #[derive(Clone, Copy, Debug, PartialEq, Eq)]
 pub enum Change {
     GrantEnded(Master, GrantEnd),
+    BeginsToWait(Master),
+    /// It waits no more and was not granted.
+    GivesUp(Master),
+    /// A claim is made, and on what ground.
+    Claims(Master, Ground),
     /// With the RT that holds for this grant, and the idle ticks at which the idle timer ends it, if
     /// that is on.
     Granted {
@@ -34,9 +39,6 @@ pub enum Change {
         rt: u8,
         idle_limit: Option<usize>,
     },
-    BeginsToWait(Master),
-    /// It waits no more and was not granted.
-    GivesUp(Master),
     InitialisationStarts,
     InitialisationEnds(InitialisationEnd),
     Disconnected(Master),
@@ -55,7 +57,7 @@ pub enum Change {
 pub fn between(before: &Scene, step: &Step) -> Vec<Change> {
     let after = &step.scene;
     let mut changes = vec![];
-    grants(before, step, &mut changes);
+    changes.extend(grant_ended(before, step));
     for master in Master::BOTH {
         let m = master as usize;
         match (before.waits[m], after.waits[m]) {
@@ -64,6 +66,8 @@ pub fn between(before: &Scene, step: &Step) -> Vec<Change> {
             _ => {}
         }
     }
+    changes.extend(claimed(before, after));
+    changes.extend(granted(before, step));
     // When the bus passes on in one step, one initialisation may end and the next one start.
     let passes_on = before.owner != after.owner;
     if before.initialising && (passes_on || !after.initialising) {
@@ -92,19 +96,21 @@ pub fn between(before: &Scene, step: &Step) -> Vec<Change> {
     changes
 }
 
-fn grants(before: &Scene, step: &Step, changes: &mut Vec<Change>) {
-    let after = &step.scene;
-    if before.owner == after.owner {
-        return;
-    }
-    if let Some(master) = before.owner {
-        changes.push(Change::GrantEnded(master, how_it_ended(step, master)));
-    }
-    if let Some(master) = after.owner {
-        let written = &step.after[master as usize];
-        let (rt, idle_limit) = (written.rt, written.idle_limit());
-        changes.push(Change::Granted { master, rt, idle_limit });
-    }
+fn grant_ended(before: &Scene, step: &Step) -> Option<Change> {
+    let master = before.owner.filter(|_| step.scene.owner != before.owner)?;
+    Some(Change::GrantEnded(master, how_it_ended(step, master)))
+}
+
+fn claimed(before: &Scene, after: &Scene) -> Option<Change> {
+    let master = after.claimant.filter(|_| before.claimant != after.claimant)?;
+    after.ground.map(|ground| Change::Claims(master, ground))
+}
+
+fn granted(before: &Scene, step: &Step) -> Option<Change> {
+    let master = step.scene.owner.filter(|_| step.scene.owner != before.owner)?;
+    let written = &step.after[master as usize];
+    let (rt, idle_limit) = (written.rt, written.idle_limit());
+    Some(Change::Granted { master, rt, idle_limit })
 }
 
 /// An owner lets go by a byte with LOCK_REQ 0 at register 1 (CONTR).

@@ -1,10 +1,12 @@
 //! A run, followed event by event: what can be seen of the device, and what changed.
 //!
-//! Owner, switch, outputs and lines stand in the library's answers. Two things do not: who waits,
-//! which `written` derives from what was written and answered, and whether the bus is hung, which
-//! `hung` asks the library.
+//! Owner, switch, the ground of a claim, outputs and lines stand in the library's answers. Three
+//! things do not: who waits, which `written` derives from what was written and answered; who claims
+//! before its grant, which `claim` derives from that; and whether the bus is hung, which `hung` asks
+//! the library.
 
 mod changes;
+mod claim;
 mod hung;
 mod part;
 mod written;
@@ -13,12 +15,15 @@ pub use changes::{Change, GrantEnd, InitialisationEnd};
 pub use part::{idle_limit, write_pointer_rolls};
 pub use written::Written;
 
-use gunwaleish::{Answer, Event, Master, Part, Pins, Refusal};
+use gunwaleish::{Answer, Event, Ground, Master, Part, Pins, Refusal};
 
 /// What can be seen of the device at one moment. A pair has master 0's first.
 #[derive(Clone, Copy, Debug, PartialEq, Eq)]
 pub struct Scene {
     pub owner: Option<Master>,
+    /// Who claims the bus, or owns it, and on what ground.
+    pub claimant: Option<Master>,
+    pub ground: Option<Ground>,
     pub connected: Option<Master>,
     pub initialising: bool,
     pub asserted: [bool; 2],
@@ -32,6 +37,8 @@ pub struct Scene {
 /// A device after power-up.
 const POWER_UP: Scene = Scene {
     owner: None,
+    claimant: None,
+    ground: None,
     connected: None,
     initialising: false,
     asserted: [false; 2],
@@ -96,13 +103,15 @@ pub fn follow(trace: &[u8]) -> Result<Story, Refusal> {
     let hung = hung::flags(&run);
     let mut written = [Written::new(run.part); 2];
     let mut scene = POWER_UP;
+    let mut last = None;
     let mut tick = 0;
     let mut steps = Vec::with_capacity(run.events.len());
     for (place, (&event, &answer)) in run.events.iter().zip(&run.answers).enumerate() {
         tick += usize::from(event == Event::Tick);
         let before = written;
         written::take(&mut written, event, answer, scene.owner);
-        let now = scene_after(answer, &written, hung[place]);
+        let claimant = claim::claimant(answer, &written, scene.claimant, last);
+        let now = scene_after(answer, &written, claimant, hung[place]);
         let mut step = Step {
             number: place + 1,
             tick,
@@ -114,16 +123,24 @@ pub fn follow(trace: &[u8]) -> Result<Story, Refusal> {
             changes: vec![],
         };
         step.changes = changes::between(&scene, &step);
+        last = if step.is_reset() { None } else { now.owner.or(last) };
         steps.push(step);
         scene = now;
     }
     Ok(Story { address: run.address, pins: run.pins, part: run.part, steps })
 }
 
-fn scene_after(answer: Answer, written: &[Written; 2], hung: bool) -> Scene {
+fn scene_after(
+    answer: Answer,
+    written: &[Written; 2],
+    claimant: Option<Master>,
+    hung: bool,
+) -> Scene {
     let waits = |m: Master| written[m as usize].requests && answer.owner != Some(m);
     Scene {
         owner: answer.owner,
+        claimant,
+        ground: answer.ground,
         connected: answer.connected,
         initialising: answer.initialising,
         asserted: [answer.int0, answer.int1],

@@ -1,4 +1,4 @@
-//! What a master has written so far, as far as it says who waits and why.
+//! What a master has written so far, as far as it says who waits and why, and whose claim it is.
 //!
 //! The answers do not show a standing request. It follows from what was written and answered.
 //! LOCK_REQ is set or cleared by a byte that is taken at register 1. It is cleared by a reset, and
@@ -13,6 +13,7 @@ use super::part::{idle_limit, write_pointer_rolls};
 const CONTR: u8 = 1;
 const RT: u8 = 3;
 const LOCK_REQ: u8 = 0x01;
+const PRIORITY: u8 = 0x80;
 const IDLE_TIMER_DIS: u8 = 0x20;
 
 /// One master's part.
@@ -26,6 +27,8 @@ pub struct Written {
     pub port_open: bool,
     /// LOCK_REQ.
     pub requests: bool,
+    /// PRIORITY.
+    pub priority: bool,
     /// IDLE_TIMER_DIS, whose 1 switches the idle timer on.
     pub idle_timer: bool,
     pub rt: u8,
@@ -71,6 +74,7 @@ impl Written {
             auto_increment: false,
             port_open: false,
             requests: false,
+            priority: false,
             idle_timer: false,
             rt: 0,
         }
@@ -93,6 +97,7 @@ impl Written {
         match self.pointer {
             CONTR => {
                 self.requests = value & LOCK_REQ != 0;
+                self.priority = value & PRIORITY != 0;
                 self.idle_timer = value & IDLE_TIMER_DIS != 0;
             }
             RT if !granted => self.rt = value,
