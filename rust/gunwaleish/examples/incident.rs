@@ -7,7 +7,7 @@ use std::path::PathBuf;
 use std::process::ExitCode;
 use std::{env, fs};
 
-use gunwaleish::{run, Event, Master};
+use gunwaleish::{run, Answer, Event, Master};
 
 fn main() -> ExitCode {
     let mut traces: Vec<PathBuf> = env::args_os().skip(1).map(PathBuf::from).collect();
@@ -28,7 +28,7 @@ fn main() -> ExitCode {
     ExitCode::SUCCESS
 }
 
-/// Says in words when the bus changed hands.
+/// Says in words when the bus changed hands, and on what ground the claim was won.
 fn tell(trace: &[u8]) {
     let run = match run(trace) {
         Ok(run) => run,
@@ -39,7 +39,7 @@ fn tell(trace: &[u8]) {
     let mut ticks = 0;
     for (place, (event, answer)) in run.events.iter().zip(&run.answers).enumerate() {
         ticks += usize::from(*event == Event::Tick);
-        if let Some(words) = in_words(owner, answer.owner) {
+        if let Some(words) = in_words(owner, answer) {
             println!("  event {:>3}, {ticks:>3} ticks passed: {words}", place + 1);
         }
         owner = answer.owner;
@@ -47,13 +47,14 @@ fn tell(trace: &[u8]) {
     println!("  at the end, {ticks} ticks passed: {}", holder(owner));
 }
 
-fn in_words(before: Option<Master>, now: Option<Master>) -> Option<String> {
-    match (before, now) {
-        _ if before == now => None,
-        (None, Some(new)) => Some(format!("master {new} is granted the bus")),
+fn in_words(before: Option<Master>, answer: &Answer) -> Option<String> {
+    let won = answer.ground.map_or(String::new(), |ground| format!(" (its claim won: {ground})"));
+    match (before, answer.owner) {
+        (old, new) if old == new => None,
+        (None, Some(new)) => Some(format!("master {new} is granted the bus{won}")),
         (Some(old), None) => Some(format!("master {old} no longer owns the bus, nobody does")),
         (Some(old), Some(new)) => {
-            Some(format!("master {old} loses the bus and master {new} is granted it"))
+            Some(format!("master {old} loses the bus and master {new} is granted it{won}"))
         }
         (None, None) => None,
     }
