@@ -151,7 +151,7 @@ pub serves-owner : (d : Device) → Served d → (m : Master) → serves m (d .a
 serves-owner d h m s = and-eq-true-iff (owns m d) (asksOn m d) .0 (sym (h m) ∙ s) .0
 
 -- a closed switch serves
-closed-served : (m : Master) (w : Switch) → closedFor m w ≡ true → serves m w ≡ true
+pub closed-served : (m : Master) (w : Switch) → closedFor m w ≡ true → serves m w ≡ true
 closed-served m Apart h = h
 closed-served m (Initialising k n) h = absurd (false≢true h)
 closed-served m (Closed k) h = h

@@ -46,7 +46,7 @@ byte-off m g MailLow v s t o h = absurd (true≢false (sym o ∙ h))
 byte-off m g MailHigh v s t o h = absurd (true≢false (sym o ∙ h))
 
 -- the byte of one who does not own leaves the turn
-turn-left : (r : Register) (v : ℕ) (t : Turn) → turnWritten false r v t ≡ t
+pub turn-left : (r : Register) (v : ℕ) (t : Turn) → turnWritten false r v t ≡ t
 unfolding turnWritten
 turn-left Id v t = refl
 turn-left Contr v t = refl
@@ -58,10 +58,10 @@ turn-left MailLow v t = refl
 turn-left MailHigh v t = refl
 
 -- neither the pointer's rise nor the partner's mail changes CONTR
-risen-contr : (rolls : Bool) (s : Side) → (writeRisen rolls s) .contr ≡ s .contr
+pub risen-contr : (rolls : Bool) (s : Side) → (writeRisen rolls s) .contr ≡ s .contr
 risen-contr rolls s = either (λ (x : Side). x .contr ≡ s .contr) (s .auto) (λ h. refl) (λ h. refl)
 
-mail-contr : (r : Register) (v : ℕ) (s : Side) → (mailWritten r v s) .contr ≡ s .contr
+pub mail-contr : (r : Register) (v : ℕ) (s : Side) → (mailWritten r v s) .contr ≡ s .contr
 unfolding mailWritten
 mail-contr Id v s = refl
 mail-contr Contr v s = refl
@@ -73,7 +73,7 @@ mail-contr MailLow v s = either (λ (x : Side). x .contr ≡ s .contr) (s .mail 
 mail-contr MailHigh v s = either (λ (x : Side). x .contr ≡ s .contr) (s .mail .full) (λ h. refl) (λ h. refl)
 
 -- what holds of m and of its partner holds of either master
-any-master : (P : Master → Type 0) (m : Master) → P m → P (partner m) → (k : Master) → P k
+pub any-master : (P : Master → Type 0) (m : Master) → P m → P (partner m) → (k : Master) → P k
 any-master P Zero mine other Zero = mine
 any-master P Zero mine other One = other
 any-master P One mine other Zero = other
@@ -150,7 +150,7 @@ effect-off m (GeneralCall k b) d o =
 -- ---- parts 3 to 7
 
 -- a side put in place that asks no more than the one before
-put-off : (m k : Master) (s : Side) (d : Device) → (asksOn k d ≡ false → s .contr .busconnect ≡ false) → asksOn m d ≡ false → asksOn m (withSide k s d) ≡ false
+pub put-off : (m k : Master) (s : Side) (d : Device) → (asksOn k d ≡ false → s .contr .busconnect ≡ false) → asksOn m d ≡ false → asksOn m (withSide k s d) ≡ false
 put-off Zero Zero s d f h = f h
 put-off Zero One s d f h = h
 put-off One Zero s d f h = h
@@ -180,7 +180,7 @@ cut-off m on (Claims k g) d f = f
 cut-off m on (Owns k g) d f = cut-cases (Off m) on k g d (λ h. put-off m k _ d (λ x. refl) (f h)) f
 
 -- a claim makes no owner and unmakes none
-claim-owner : (m : Master) (t : Turn) (d : Device) → ownsTurn m (claimAfter t d) ≡ ownsTurn m t
+pub claim-owner : (m : Master) (t : Turn) (d : Device) → ownsTurn m (claimAfter t d) ≡ ownsTurn m t
 claim-owner m Nobody d = new-cases (λ (t : Turn). ownsTurn m t ≡ false) d refl (λ k g. refl)
 claim-owner m (Claims k g) d = claim-cases (λ (t : Turn). ownsTurn m t ≡ false) k g d refl (λ j i. refl)
 claim-owner m (Owns k g) d = refl

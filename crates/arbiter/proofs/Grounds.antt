@@ -25,7 +25,7 @@ use Rattle.arbiter.proofs.Seen.{ground-shown}
 -- ---- of a turn
 
 -- the claim is m's, by the turn
-abbrev hasTurn : Master → Turn → Bool
+abbrev pub hasTurn : Master → Turn → Bool
 hasTurn m t = claimsTurn m t || ownsTurn m t
 
 -- The turn after part 6 has the same claim, on the same ground.
@@ -314,7 +314,7 @@ neither-has One (Owns Zero g) h p = absurd (true≢false p)
 neither-has One (Owns One g) h p = absurd (true≢false h)
 
 -- A claim stays its master's as long as that requests.
-still-there : (p : Master) (e : Event) (d : Device) → hasTurn p (d .arb .turn) ≡ true → requests p (parts e d) ≡ true → hasTurn p ((parts e d) .arb .turn) ≡ true
+pub still-there : (p : Master) (e : Event) (d : Device) → hasTurn p (d .arb .turn) ≡ true → requests p (parts e d) ≡ true → hasTurn p ((parts e d) .arb .turn) ≡ true
 unfolding parts
 still-there p e d before q = claimed-by (hasTurn p) (awarded-has p) e x ∙ go (left e d)
   where
@@ -345,7 +345,7 @@ none-asks true false w g h = absurd (false≢true (ap is-nobody h))
 none-asks false true w g h = absurd (false≢true (ap is-nobody h))
 none-asks true true w g h = absurd (false≢true (ap is-nobody h))
 
-nobody-asks : (d : Device) → Ready d → d .arb .turn ≡ Nobody → (requests Zero d ≡ false) × (requests One d ≡ false)
+pub nobody-asks : (d : Device) → Ready d → d .arb .turn ≡ Nobody → (requests Zero d ≡ false) × (requests One d ≡ false)
 nobody-asks d (kept, claimed, waits) n = none-asks _ _ _ _ (sym (ap (λ (t : Turn). claimAfter t d) n) ∙ claimed ∙ n)
 
 -- Then what requests after the step requested after part 1.

@@ -33,7 +33,7 @@ counted d idle low true = if-true _ _ (ap₂ (λ (a b : Bool). a && b) idle (lt-
 counted d idle low false = sym (add-zero (d .bus .idle))
 
 -- When part 3 looks, the ticks of a bus that was idle are counted if it still is idle; else the count is 0.
-idle-found : (r : Raw) (d : Device) → reset r d ≡ false → isIdle (d .bus) ≡ true → d .bus .idle < idleLimit d
+pub idle-found : (r : Raw) (d : Device) → reset r d ≡ false → isIdle (d .bus) ≡ true → d .bus .idle < idleLimit d
     → (levelled r d) .bus .idle ≡ (if isIdle ((levelled r d) .bus) then d .bus .idle + worth 1 (tick r d) else 0)
 unfolding levels
 idle-found r d ok idle low =

@@ -102,11 +102,11 @@ after-sides e d =
     ∙ still-sides c d (cut-still (isTick e) (d .arb .turn) d)
 
 -- and of an owned bus everything that `still` names.
-claim-owned : (m : Master) {g : Ground} (d : Device) → d .arb .turn ≡ Owns m g → claim d ≡ d
+pub claim-owned : (m : Master) {g : Ground} (d : Device) → d .arb .turn ≡ Owns m g → claim d ≡ d
 unfolding claim
 claim-owned m d h = ap (λ (t : Turn). turned (claimAfter t d) d) h ∙ ap (λ (t : Turn). turned t d) (sym h)
 
-grant-owned : (m : Master) {g : Ground} (d : Device) → d .arb .turn ≡ Owns m g → grant d ≡ d
+pub grant-owned : (m : Master) {g : Ground} (d : Device) → d .arb .turn ≡ Owns m g → grant d ≡ d
 unfolding grant grantFrom
 grant-owned m d h = ap (λ (t : Turn). grantFrom t d) h
 

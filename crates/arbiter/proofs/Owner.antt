@@ -59,7 +59,7 @@ lost-request One d = refl
 abbrev pub heir : Bool → Master → Ground → Turn
 heir rest p g = if rest then Owns p g else Claims p g
 
-awarded-heir : (p : Master) (g : Ground) (d : Device) → d .bus .hold ≡ 0 → awarded (Claims p g) d ≡ heir (resting p d) p g
+pub awarded-heir : (p : Master) (g : Ground) (d : Device) → d .bus .hold ≡ 0 → awarded (Claims p g) d ≡ heir (resting p d) p g
 awarded-heir p g d h = ap (λ (b : Bool). heir b p g) (ap (λ (b : Bool). resting p d && b) (eq-eqb (d .bus .hold) 0 h) ∙ and-true (resting p d))
 
 -- p is next, on the ground g: its request stands, no hold runs, and it owns if its port is at rest and else is the claimant.
@@ -109,10 +109,10 @@ awarded-sole true p d h = awarded-heir p Sole d h
 awarded-sole false p d h = refl
 
 -- p's request and port are after part 7 as they were before part 4.
-asks : (p : Master) (e : Event) (d : Device) → requests p (after e d) ≡ requests p d
+pub asks : (p : Master) (e : Event) (d : Device) → requests p (after e d) ≡ requests p d
 asks p e d = ap (λ k. k .0) (side-kept p (after e d) d (after-sides e d))
 
-rests : (p : Master) (e : Event) (d : Device) → resting p (after e d) ≡ resting p d
+pub rests : (p : Master) (e : Event) (d : Device) → resting p (after e d) ≡ resting p d
 rests p e d = ap (λ k. atRest (k .3)) (side-kept p (after e d) d (after-sides e d))
 
 module _ (e : Event) (d : Device) (hold : d .bus .hold ≡ 0) where
@@ -186,11 +186,11 @@ fate m {g} e d ok t z =
 
 module _ (p : Master) {g : Ground} (e : Event) (d : Device) (ok : isReset e ≡ false) (t : d .arb .turn ≡ Claims p g) where
   -- The claim stands when part 3 looks, which does nothing to it.
-  claim-kept : (mid e d) .arb .turn ≡ Claims p g
+  pub claim-kept : (mid e d) .arb .turn ≡ Claims p g
   unfolding levels
   claim-kept = turn-kept e d (Claims p g) ok t
 
-  claim-passed : parts e d ≡ after e (mid e d)
+  pub claim-passed : parts e d ≡ after e (mid e d)
   unfolding parts
   claim-passed = ap (after e) (losses-unowned (mid e d) (ap owned claim-kept))
 

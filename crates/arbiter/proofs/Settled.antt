@@ -139,7 +139,7 @@ counted-idle limit some b still h =
     split (isIdle b) (λ e. e) (λ e. absurd (false≢true (sym some ∙ sym (ap (λ (n : ℕ). eqb n limit) (still .2 e)) ∙ h)))
 
 -- a reserve that runs out asks for an idle bus, and the idle timer for its count
-out-idle : (limit : ℕ) → eqb 0 limit ≡ false → (s : Side) (n : ℕ) (b : Bus) → Still b → runsOut limit s n b ≡ true → isIdle b ≡ true
+pub out-idle : (limit : ℕ) → eqb 0 limit ≡ false → (s : Side) (n : ℕ) (b : Bus) → Still b → runsOut limit s n b ≡ true → isIdle b ≡ true
 out-idle limit some s n b still =
     either (λ (x : Bool). x ≡ true → isIdle b ≡ true) (eqb (s .rt) 0)
     (λ z h. counted-idle limit some b still (and-eq-true-iff (s .contr .idletimer) (eqb (b .idle) limit) .0 h .1))

@@ -85,7 +85,7 @@ follows-next m r d o g ok q =
     ]
 
 -- Who is next is so in the auditor's words.
-is-next : (p : Master) {g : Ground} (d : Device) → Next p g d → IsNext p d
+pub is-next : (p : Master) {g : Ground} (d : Device) → Next p g d → IsNext p d
 is-next p d x = (λ rest. turn-owns p (d .arb .turn) (next-owns p d x rest), λ rest later. until-stop p later d (next-waits p d x rest))
 
 pub partner-next : PartnerNext

@@ -1,0 +1,12 @@
+pub mod Blocking
+pub mod Freed
+pub mod Overtaking
+pub mod IdleAnywhere
+pub mod Connection
+pub mod Transfer
+pub mod Released
+pub mod MoreWitnesses
+pub mod Places
+pub mod WorstWait
+pub mod WaitWitnesses
+pub mod Answers

@@ -1,0 +1,40 @@
+-- All statements of this crate in one record, one field a statement. proofs/Answers.antt fills it with one term, so that a lost proof fails
+-- the check.
+-- Assumes nothing.
+use Rattle.audit.specs.Blocking.{ClaimantBlocks, ClaimantYields, LostIdle, StalledHolderKeeps, IdleTimerFromAnywhere, IdleTimerToPartner, OvertakenOnce}
+use Rattle.audit.specs.Freed.{ResetFrees, ResetRestores, ResetRemedies, ResetUnheld, ResetHolds}
+use Rattle.audit.specs.Connection.{ConnectionExact, StaysConnected, TransferLasts, UnownedReleased, ConnectedReleased}
+use Rattle.audit.specs.WorstWait.{WorstWait, WorstWaitUnheld, WorstWaitLate}
+use Rattle.audit.specs.MoreWitnesses.{MoreWitnessesMeet}
+use Rattle.audit.specs.WaitWitnesses.{WaitWitnessesMeet}
+
+pub record Answers : Type 0 where
+  -- Can a claimant that never sends its STOP, or a holder whose bus stays busy, be got round?
+  pub claimantBlocks : ClaimantBlocks
+  pub claimantYields : ClaimantYields
+  pub lostIdle : LostIdle
+  pub stalledHolderKeeps : StalledHolderKeeps
+  -- What does a reset free?
+  pub resetFrees : ResetFrees
+  pub resetRestores : ResetRestores
+  pub resetRemedies : ResetRemedies
+  pub resetUnheld : ResetUnheld
+  pub resetHolds : ResetHolds
+  -- What ends a connection?
+  pub connectionExact : ConnectionExact
+  pub staysConnected : StaysConnected
+  pub transferLasts : TransferLasts
+  -- When are the drives released?
+  pub unownedReleased : UnownedReleased
+  pub connectedReleased : ConnectedReleased
+  -- Does the idle timer end a grant from anywhere?
+  pub idleTimerFromAnywhere : IdleTimerFromAnywhere
+  pub idleTimerToPartner : IdleTimerToPartner
+  -- How often can a waiting one be overtaken, and how long can it wait?
+  pub overtakenOnce : OvertakenOnce
+  pub worstWait : WorstWait
+  pub worstWaitUnheld : WorstWaitUnheld
+  pub worstWaitLate : WorstWaitLate
+  -- Are there runs that meet the premises, and that reach the figures?
+  pub moreWitnessesMeet : MoreWitnessesMeet
+  pub waitWitnessesMeet : WaitWitnessesMeet
