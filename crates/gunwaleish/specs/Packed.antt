@@ -4,6 +4,7 @@
 use Prim.Native.Nat.{ℕ, _+_, _*_}
 use Rattle.arbiter.specs.Straps.{strappedNumber, strappedAddress, strappingNumber}
 use Rattle.arbiter.specs.Traces.{kindNumber}
+use Rattle.arbiter.specs.declared.Answer.{Answer}
 use Rattle.arbiter.specs.declared.Report.{Report}
 use Rattle.arbiter.specs.declared.Written.{Written}
 use Rattle.arbiter.specs.declared.Strapped.{Strapped}
@@ -14,6 +15,7 @@ use Rattle.sheets.specs.Sheets.{placeNumber}
 use Rattle.sheets.specs.declared.Ordered.{Ordered}
 use Rattle.sheets.specs.declared.Place.{Place}
 use Rattle.sheets.specs.declared.Place.the-variants.{Board, House, Refused}
+use Rattle.layout.specs.declared.Shown.{Shown}
 
 -- a report: the number, the address, from 65,536 on the count of events, and from 4,294,967,296 on the kind of part
 abbrev pub packedReport : Report → ℕ
@@ -40,6 +42,14 @@ packedBox p = placeNumber p + packedWhere p
 -- the events of two order sheets: the number, and from 256 on the count of events
 abbrev pub packedOrder : Ordered → ℕ
 packedOrder o = o .number + 256 * o .count
+
+-- the answer to an event on an image: its four bytes, the outcome lowest
+abbrev pub packedAnswer : Answer → ℕ
+packedAnswer a = a .outcome + 256 * a .read + 65536 * a .owner + 16777216 * a .lines
+
+-- a register read of an image: the number, and from 256 on the byte (00h where it was refused)
+abbrev pub packedShown : Shown → ℕ
+packedShown s = s .number + 256 * s .byte
 
 -- an address: the number, and the address (00h where there is none)
 abbrev pub packedAddress : Strapped → ℕ

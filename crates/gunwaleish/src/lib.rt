@@ -1,4 +1,5 @@
-// The library for Rust and C: traces, captures, order sheets and straps over numbers and byte slices. A slice passes as a pointer and then a length.
+// The library for Rust and C: traces, captures, order sheets, images and straps over numbers and byte slices. A slice passes as a pointer and
+// then a length.
 ghost use Prim.Native.Nat.{_<_};
 ghost use mathlib.Core.Path.{_≡_};
 ghost use lib.ListN.{length};
@@ -9,14 +10,19 @@ ghost use Rattle.arbiter.specs.Writing.{written, bufferWritten};
 ghost use Rattle.arbiter.specs.Listing.{listing};
 ghost use Rattle.text.specs.Written.{textAfter};
 ghost use Rattle.capture.specs.Import.{imported, importedBuffer};
+ghost use Rattle.layout.specs.Images.{imageAnswer, imageAfter, freshNumber, freshAfter, shown};
 ghost use Rattle.sheets.specs.Sheets.{placeOf};
 ghost use Rattle.sheets.specs.Orders.{ordered, orderedBuffer};
 ghost use Rattle.arbiter.specs.declared.Strapping.the-variants.{Straps};
-ghost use Rattle.gunwaleish.specs.Packed.{packedReport, packedWritten, packedImport, packedBox, packedOrder, packedAddress, packedPins};
+ghost use Rattle.gunwaleish.specs.Packed.{packedReport, packedWritten, packedImport, packedBox, packedOrder, packedAnswer, packedShown, packedAddress, packedPins};
 use arbiter::Pins;
+use arbiter::Raw;
 use arbiter::Strapped;
 use arbiter::Strapping;
 use converter::convert_trace;
+use image::read_register;
+use imaging::fresh_image;
+use imaging::step_image;
 use importing::import_capture;
 use sheets::Place;
 use sheets::lookup::place_of;
@@ -111,6 +117,43 @@ pub extern "C" fn gunwaleish_sheet_events(board: &[u8], house: &[u8], events: &m
 {
     let told = order_events(board, house, events);
     byte(told.number) + 256 * (told.count as u64)
+}
+
+// ---- a device as an image in a lent buffer
+
+fn byte_low(x: u8) -> u32
+    ensures { λ r. ⌜ (r ≡ x) × (r < 256) ⌝ }
+{
+    x as u32
+}
+
+// A fresh image of this kind of part.
+#[no_mangle]
+pub extern "C" fn gunwaleish_image_fresh(kind: u8, image: &mut [u8]) -> u32
+    ensures { λ r. ⌜ (r ≡ freshNumber kind (now (image .entry))) × (now (image .exit) ≡ freshAfter kind (now (image .entry))) ⌝ }
+{
+    fresh_image(kind, image) as u32
+}
+
+// One event on an image, by its four bytes.
+#[no_mangle]
+pub extern "C" fn gunwaleish_image_step(kind: u8, x: u8, y: u8, z: u8, image: &mut [u8]) -> u32
+    ensures { λ r. ⌜ (r ≡ packedAnswer (imageAnswer (now (image .entry)) (record { kind = kind; x = x; y = y; z = z }))) × (now (image .exit) ≡ imageAfter (now (image .entry)) (record { kind = kind; x = x; y = y; z = z })) ⌝ }
+{
+    let a = step_image(image, Raw { kind, x, y, z });
+    byte_low(a.outcome)
+        + 256 * byte_low(a.read)
+        + 65536 * byte_low(a.owner)
+        + 16777216 * byte_low(a.lines)
+}
+
+// What a master reads of a register of an image, without an event.
+#[no_mangle]
+pub extern "C" fn gunwaleish_image_read(master: u8, register: u8, image: &[u8]) -> u32
+    ensures { λ r. ⌜ r ≡ packedShown (shown master register (now (image .entry))) ⌝ }
+{
+    let s = read_register(master, register, image);
+    byte_low(s.number) + 256 * byte_low(s.byte)
 }
 
 // The address of four pins.

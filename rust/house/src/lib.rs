@@ -1,12 +1,14 @@
-//! Holds `docs/PROMISES.md` to the code. [`faults`] tells in sentences where the two differ; a repository in order has none. [`unsealed`] tells
-//! of proofs that open the rules of a kind of part.
+//! Holds `docs/PROMISES.md` to the code and `docs/IMAGE.md` to its definition. [`faults`] and [`image_faults`] tell in sentences where they
+//! differ; a repository in order has none. [`unsealed`] tells of proofs that open the rules of a kind of part.
 
 mod calls;
 mod edits;
+mod image;
 mod list;
 mod sealed;
 mod tree;
 
+pub use image::{image_faults, LAYOUT, PAGE};
 pub use sealed::unsealed;
 pub use tree::Tree;
 

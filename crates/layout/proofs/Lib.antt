@@ -1,0 +1,5 @@
+pub mod Numbers
+pub mod Fits
+pub mod Back
+pub mod Steps
+pub mod Reached
