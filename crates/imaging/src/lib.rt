@@ -36,7 +36,7 @@ use image::image_number;
 use image::read_image;
 use layout::IMAGE_LENGTH;
 use step::fresh;
-use step::step_device;
+use traces::run_one;
 
 // ---- the numbers of an image
 
@@ -266,7 +266,7 @@ fn step_good(image: &mut [u8], r: Raw) -> Answer
     requires { ⌜ isImage (now image) ≡ true ⌝ }
     ensures { λ a. ⌜ (a ≡ step (deviceIn (now (image .entry))) r .answer) × (now (image .exit) ≡ imageOf (step (deviceIn (now (image .entry))) r .device)) ⌝ }
 {
-    let s = step_device(read_image(image), r);
+    let s = run_one(read_image(image), r);
     write_image(s.device, image);
     s.answer
 }

@@ -1,3 +1,4 @@
 pub mod Runs
+pub mod One
 pub mod Reading
 pub mod Unique
