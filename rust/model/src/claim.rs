@@ -42,8 +42,9 @@ impl Device {
     pub(crate) fn choose_claimant(&mut self) {
         let requests = |m: usize| self.masters[m].has(LOCK_REQ);
         let sole = |master| Some(Claim { master, ground: Ground::SoleRequester });
-        // A granted master has LOCK_REQ set here, so it stays the claimant.
-        let standing = self.claim.filter(|claim| requests(claim.master));
+        // "A granted master stays the claimant": it lost its grant with its request.
+        let stays = |claim: &Claim| requests(claim.master) || self.owner() == Some(claim.master);
+        let standing = self.claim.filter(stays);
         self.claim = match (standing, requests(0), requests(1)) {
             (Some(claim), _, _) => Some(claim),
             (None, false, false) => None,

@@ -66,13 +66,24 @@ pub struct Master {
     pub auto_increment: bool,
 }
 
-/// A grant as it was made, and the ticks that have passed since.
+/// A grant as it was made.
 #[derive(Clone, Debug, PartialEq, Eq)]
 pub struct Grant {
     pub owner: usize,
     /// RT at the grant. 0 is a grant without a reserve.
     pub reserve: i64,
-    pub ticks: i64,
+}
+
+/// The switch, of which one side at most is closed.
+#[derive(Clone, Copy, Debug, PartialEq, Eq)]
+pub enum Switch {
+    Apart,
+    Closed(usize),
+    /// Apart until an initialisation for this master ends. It has had so many PULSE of 0.
+    Initialising {
+        master: usize,
+        zeros: i64,
+    },
 }
 
 #[derive(Clone, Debug, PartialEq, Eq)]
@@ -93,12 +104,13 @@ pub struct Device {
     /// Ticks since SDA went low or SCL last changed, whichever came later (#102).
     pub sda_low_count: i64,
     pub idle_count: i64,
+    /// Ticks left of the last grant's reserve. Every TICK takes one from it, if it is above 0.
+    pub reserve_count: i64,
     /// The claimant and the ground of its claim, "kept while the grant lasts" (#107).
     pub claim: Option<Claim>,
     pub grant: Option<Grant>,
     pub last_granted: Option<usize>,
-    /// While initialising: how many PULSE of 0 this initialisation has had.
-    pub initialising: Option<i64>,
+    pub switch: Switch,
     pub bus_init_fail: bool,
 }
 
@@ -143,10 +155,11 @@ impl Device {
             scl_low_count: 0,
             sda_low_count: 0,
             idle_count: 0,
+            reserve_count: 0,
             claim: None,
             grant: None,
             last_granted: None,
-            initialising: None,
+            switch: Switch::Apart,
             bus_init_fail: false,
         }
     }
@@ -187,10 +200,18 @@ impl Device {
     }
 
     /// The master whose switch is closed. It is open during an initialisation.
-    pub fn switch(&self) -> Option<usize> {
-        match self.initialising {
-            Some(_) => None,
-            None => self.owner_with_connect(),
+    pub fn closed_for(&self) -> Option<usize> {
+        match self.switch {
+            Switch::Closed(m) => Some(m),
+            _ => None,
+        }
+    }
+
+    /// While initialising: how many PULSE of 0 this initialisation has had.
+    pub fn initialising(&self) -> Option<i64> {
+        match self.switch {
+            Switch::Initialising { zeros, .. } => Some(zeros),
+            _ => None,
         }
     }
 
@@ -237,8 +258,8 @@ impl Device {
         let levels = self.levels();
         // The ground "stands in bits 5 and 6 of the third answer byte" (#107).
         let bus = who(self.owner())
-            | (who(self.switch()) << 2)
-            | bit(self.initialising.is_some(), 0x10)
+            | (who(self.closed_for()) << 2)
+            | bit(self.initialising().is_some(), 0x10)
             | (self.ground() << 5);
         let pins = bit(self.interrupt_asserted(0), 0x01)
             | bit(self.interrupt_asserted(1), 0x02)

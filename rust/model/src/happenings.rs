@@ -146,7 +146,7 @@ impl Happenings {
             return;
         };
         let m = grant.owner;
-        let ran_out = grant.reserve > 0 && grant.ticks + 1 == grant.reserve;
+        let ran_out = grant.reserve > 0 && seen.before.reserve_count == 1;
         let still = seen.after.owner() == Some(m);
         self.note(
             still && ran_out && seen.event == Event::Tick,
@@ -206,7 +206,7 @@ impl Happenings {
         ) {
             let cut = !after.masters[m].has(BUS_CONNECT);
             self.note(cut, "cut at 35 ticks");
-            self.note(cut && before.initialising.is_some(), "cut at 35 ticks while initialising");
+            self.note(cut && before.initialising().is_some(), "cut at 35 ticks while initialising");
             self.note(!cut, "35 ticks and no cut");
         }
     }
@@ -214,20 +214,20 @@ impl Happenings {
     fn initialisation(&mut self, seen: &Seen) {
         let (before, after) = (seen.before, seen.after);
         let moved = before.owner() != after.owner();
-        let started = after.initialising == Some(0) && (before.initialising.is_none() || moved);
+        let started = after.initialising() == Some(0) && (before.initialising().is_none() || moved);
         self.note(started, "initialisation starts");
         self.note(started && before.bus_init_fail, "a start clears BUS_INIT_FAIL");
         self.note(
-            started && before.switch().is_some(),
+            started && before.closed_for().is_some(),
             "initialisation starts as the bus passes on",
         );
-        let ended = before.initialising.is_some() && (after.initialising.is_none() || moved);
+        let ended = before.initialising().is_some() && (after.initialising().is_none() || moved);
         match seen.event {
             _ if !ended => {}
             Event::Pulse { sda: true } => {
                 self.note(true, "initialisation succeeds");
                 self.note(
-                    before.initialising == Some(8),
+                    before.initialising() == Some(8),
                     "initialisation succeeds at the ninth clock",
                 );
             }
@@ -281,15 +281,15 @@ impl Happenings {
         self.note(pointer == 2 && value & 0x20 != 0, "TEST_INT");
         self.note(pointer == 3 && granted && value != own.rt, "RT write while granted");
         self.note(pointer == 1 && released, "BUS_CONNECT releases the drives");
-        let midway = granted && seen.before.initialising.is_some();
+        let midway = granted && seen.before.initialising().is_some();
         let toggles = (value ^ own.contr) & BUS_INIT != 0;
         self.note(pointer == 1 && midway && toggles, "BUS_INIT written while initialising");
     }
 
     fn outputs(&mut self, seen: &Seen, m: usize) {
-        let closes = seen.after.switch() == Some(m) && seen.before.switch() != Some(m);
+        let closes = seen.after.closed_for() == Some(m) && seen.before.closed_for() != Some(m);
         self.note(closes, &format!("switch closes for {m}"));
-        self.note(closes && seen.before.switch().is_some(), "switch passes in one step");
+        self.note(closes && seen.before.closed_for().is_some(), "switch passes in one step");
         let rises = !seen.before.interrupt_asserted(m) && seen.after.interrupt_asserted(m);
         self.note(rises, &format!("INT{m} becomes asserted"));
         let hung = seen.after.is_hung() && seen.after.masters[m].int_msk & INT_HUNG == 0;

@@ -33,7 +33,7 @@ impl Device {
             Event::Write { master, .. } => !may_write(master),
             Event::Pair { .. } => !(may_write(0) && may_write(1)),
             Event::Stop { master } => self.masters[master].port == Port::AtRest,
-            Event::Pulse { .. } => self.initialising.is_none(),
+            Event::Pulse { .. } => self.initialising().is_none(),
             _ => false,
         }
     }
@@ -81,8 +81,8 @@ impl Device {
     fn count_tick(&mut self) {
         let levels = self.levels();
         let idle = self.is_idle();
-        if let Some(grant) = &mut self.grant {
-            grant.ticks += 1;
+        if self.reserve_count > 0 {
+            self.reserve_count -= 1;
         }
         if self.hold > 0 {
             self.hold -= 1;
@@ -131,8 +131,9 @@ impl Device {
         };
         let owner = grant.owner;
         let lost = if grant.reserve > 0 {
-            // The idle timer does not touch a grant with a reserve.
-            grant.ticks >= grant.reserve && self.is_idle()
+            // "That many ticks have passed since the grant": none of them is left. The idle timer
+            // does not touch a grant with a reserve.
+            self.reserve_count == 0 && self.is_idle()
         } else {
             // Reserve 00h never runs out. Only the idle timer can end it.
             self.masters[owner].has(IDLE_TIMER_DIS) && self.idle_count == self.kind.idle_ticks()
@@ -163,29 +164,36 @@ impl Device {
         let at_rest = self.masters[m].port == Port::AtRest;
         if self.grant.is_none() && at_rest && self.hold == 0 {
             let reserve = i64::from(self.masters[m].rt);
-            self.grant = Some(Grant { owner: m, reserve, ticks: 0 });
+            self.grant = Some(Grant { owner: m, reserve });
+            self.reserve_count = reserve;
             self.idle_count = 0;
             self.last_granted = Some(m);
             self.masters[m].int_status |= INT_GRANTED;
         }
     }
 
-    /// Part 7. What is not said here follows from `Device::switch`.
+    /// Part 7.
     fn connect(&mut self, before: &Device, event: &Event) {
         let Some(owner) = self.owner_with_connect() else {
             // "Losing either grant or BUS_CONNECT abandons it and leaves BUS_INIT."
-            self.initialising = None;
+            self.switch = Switch::Apart;
             return;
         };
         // "Become both true" is per master (reading 9).
-        if before.owner_with_connect() != Some(owner) {
-            self.initialising = None;
-            if self.masters[owner].has(BUS_INIT) {
-                self.initialising = Some(0);
-                self.bus_init_fail = false;
+        let become_true = before.owner_with_connect() != Some(owner);
+        if become_true && self.masters[owner].has(BUS_INIT) {
+            self.switch = Switch::Initialising { master: owner, zeros: 0 };
+            self.bus_init_fail = false;
+            return;
+        }
+        match self.switch {
+            Switch::Initialising { master, zeros } if master == owner && !become_true => {
+                if let Event::Pulse { sda } = event {
+                    self.take_pulse(owner, *sda, zeros);
+                }
             }
-        } else if let (Event::Pulse { sda }, Some(zeros)) = (event, self.initialising) {
-            self.take_pulse(owner, *sda, zeros);
+            // "Otherwise the switch is closed exactly if both are true."
+            _ => self.switch = Switch::Closed(owner),
         }
     }
 
@@ -193,13 +201,13 @@ impl Device {
     fn take_pulse(&mut self, owner: usize, sda: bool, zeros: i64) {
         if sda {
             self.masters[owner].contr &= !BUS_INIT;
-            self.initialising = None; // the switch closes
+            self.switch = Switch::Closed(owner);
         } else if zeros + 1 == 9 {
             self.masters[owner].contr &= !(BUS_INIT | BUS_CONNECT);
             self.bus_init_fail = true;
-            self.initialising = None;
+            self.switch = Switch::Apart;
         } else {
-            self.initialising = Some(zeros + 1);
+            self.switch = Switch::Initialising { master: owner, zeros: zeros + 1 };
         }
     }
 }

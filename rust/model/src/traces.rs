@@ -140,7 +140,7 @@ impl Teller {
 
     /// What happens around the masters: time, lines, clocks and the reset pin.
     fn world_phrase(&mut self) -> Vec<Bytes> {
-        if self.device.initialising.is_some() && self.rng.percent(70) {
+        if self.device.initialising().is_some() && self.rng.percent(70) {
             return self.pulses();
         }
         if self.device.hold > 0 && self.rng.percent(50) {
