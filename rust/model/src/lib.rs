@@ -19,10 +19,12 @@
 //! - `converter`: an old trace given its third section (document 02, #105).
 //! - `capture`: a logic-analyser capture turned into events (document 02, #104).
 //! - `sheet`: the order sheet (document 02, #106).
+//! - `image`, `image_fields`: the device as 38 bytes, and a step on them (document 02, #108).
 //! - `rng`, `phrases`, `waits`, `traces`, `damage`: random cases for the tests.
 //! - `happenings`, `hanging`, `second_part`, `grounds`, `kinds`: what happens in them.
 //! - `pen`, `captures`, `capture_damage`, `sightings`: random captures, and what is seen in them.
 //! - `sheets`: random order sheets, and what is seen in them.
+//! - `images`: random images, good and damaged, and what is seen in them.
 //! - `stored`: the traces that the repository keeps as one set.
 
 pub mod bytes;
@@ -37,6 +39,9 @@ pub mod event;
 pub mod grounds;
 pub mod hanging;
 pub mod happenings;
+pub mod image;
+pub mod image_fields;
+pub mod images;
 pub mod kinds;
 pub mod part;
 pub mod pen;
@@ -56,7 +61,8 @@ pub mod writer;
 
 pub use capture::{import_capture, Imported};
 pub use converter::convert_trace;
-pub use device::Device;
+pub use device::{Device, Switch};
+pub use image::{image_fresh, image_of, image_read, image_step, read_image};
 pub use part::Kind;
 pub use sheet::{look_up, sheet_events};
 pub use straps::{address_of, pins_of};
