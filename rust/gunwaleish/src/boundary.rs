@@ -62,6 +62,16 @@ extern "C" {
         events: *mut u8,
         events_len: usize,
     ) -> u64;
+    fn gunwaleish_image_fresh(kind: u8, image: *mut u8, image_len: usize) -> u32;
+    fn gunwaleish_image_step(
+        kind: u8,
+        x: u8,
+        y: u8,
+        z: u8,
+        image: *mut u8,
+        image_len: usize,
+    ) -> u32;
+    fn gunwaleish_image_read(master: u8, register: u8, image: *const u8, image_len: usize) -> u32;
 }
 
 /// The number, then the address, the count of events and the kind of part, packed as 1, 256, 65536
@@ -137,4 +147,23 @@ pub fn sheet_events(board: &[u8], house: &[u8], events: &mut [u8]) -> u64 {
         let (to, to_len) = (events.as_mut_ptr(), events.len());
         gunwaleish_sheet_events(board, board_len, house, house_len, to, to_len)
     }
+}
+
+/// The number. The buffer has the image of a fresh device of this kind, or is as it was.
+pub fn image_fresh(kind: u8, image: &mut [u8]) -> u32 {
+    // SAFETY: see the head of this file.
+    unsafe { gunwaleish_image_fresh(kind, image.as_mut_ptr(), image.len()) }
+}
+
+/// The four answer bytes, the first lowest. The buffer has the image after the step.
+pub fn image_step(event: [u8; 4], image: &mut [u8]) -> u32 {
+    let [kind, x, y, z] = event;
+    // SAFETY: see the head of this file.
+    unsafe { gunwaleish_image_step(kind, x, y, z, image.as_mut_ptr(), image.len()) }
+}
+
+/// The number, then the byte, packed as 1 and 256.
+pub fn image_read(master: u8, register: u8, image: &[u8]) -> u32 {
+    // SAFETY: see the head of this file.
+    unsafe { gunwaleish_image_read(master, register, image.as_ptr(), image.len()) }
 }

@@ -31,12 +31,16 @@
 //! sheet and a house sheet, and `sheet_events` gives the events that they order. An empty box is
 //! refused, and never becomes a value.
 //!
+//! A `Device` stands between its events and is stepped one by one. It is the image of 38 bytes that a
+//! microcontroller keeps, so it can be kept as bytes too.
+//!
 //! The calls whose names end in `_into`, and `run_trace`, work on bytes in lent buffers and
 //! allocate nothing.
 
 mod answer;
 pub mod boundary;
 mod capture;
+mod device;
 mod event;
 mod part;
 mod pins;
@@ -47,6 +51,7 @@ mod writing;
 
 pub use answer::{Answer, Ground, Outcome};
 pub use capture::{import_capture, import_capture_into, MOST_CAPTURED, MOST_SAMPLES};
+pub use device::{Device, Register, IMAGE_LENGTH};
 pub use event::{Event, Master};
 pub use part::Part;
 pub use pins::Pins;

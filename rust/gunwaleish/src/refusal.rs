@@ -3,7 +3,8 @@
 use std::fmt;
 
 /// A refusal of a whole call. The library keeps to the documents' numbers, and so does `number`.
-/// Where a number says one thing of a trace and another of an order sheet, it has a name for each.
+/// Where a number says one thing of a trace and another of an order sheet or an image, it has a name
+/// for each.
 /// Later calls bring numbers of their own.
 #[derive(Clone, Copy, Debug, PartialEq, Eq, Hash)]
 #[non_exhaustive]
@@ -45,6 +46,10 @@ pub enum Refusal {
     /// 15: an order sheet has no such section or controller. `sheet_box` takes those that there
     /// are, so only a caller of `boundary` meets it.
     NoSuchBox,
+    /// 9: an image of a device has not 38 bytes.
+    OtherLength,
+    /// 16: a field of an image is outside the range that a run from power-up gives it.
+    ImageOutOfRange,
     /// A number that no document has here. The proved library never gives one. It
     /// stands here so that nothing has to panic if some other library is linked in its place.
     Unknown(u8),
@@ -67,6 +72,7 @@ impl Refusal {
             13 => Refusal::TooManySamples,
             14 => Refusal::EmptyBox,
             15 => Refusal::NoSuchBox,
+            16 => Refusal::ImageOutOfRange,
             other => Refusal::Unknown(other),
         })
     }
@@ -82,6 +88,14 @@ impl Refusal {
         }
     }
 
+    /// The refusal of this number by a call with an image. 0 is no refusal.
+    pub(crate) fn of_image(number: u8) -> Option<Refusal> {
+        match number {
+            9 => Some(Refusal::OtherLength),
+            _ => Refusal::of(number),
+        }
+    }
+
     /// The document's number.
     pub fn number(self) -> u8 {
         match self {
@@ -90,13 +104,14 @@ impl Refusal {
             Refusal::TooManyEvents => 6,
             Refusal::BytesAfterEnd | Refusal::BytesAfterSheet => 7,
             Refusal::NoSuchStrapping => 8,
-            Refusal::TooLittleRoom => 9,
+            Refusal::TooLittleRoom | Refusal::OtherLength => 9,
             Refusal::WrongCount | Refusal::WrongBoxCount => 10,
             Refusal::AddressOutside => 11,
             Refusal::ByteCut => 12,
             Refusal::TooManySamples => 13,
             Refusal::EmptyBox => 14,
             Refusal::NoSuchBox => 15,
+            Refusal::ImageOutOfRange => 16,
             Refusal::Unknown(number) => number,
         }
     }
@@ -125,6 +140,10 @@ impl fmt::Display for Refusal {
             Refusal::WrongBoxCount => "a section's count is not 2, the boxes of two controllers",
             Refusal::EmptyBox => "a box is ticked on neither sheet, and an empty box is no value",
             Refusal::NoSuchBox => "a sheet has no such section or controller",
+            Refusal::OtherLength => "the image of a device has 38 bytes, and these are not so many",
+            Refusal::ImageOutOfRange => {
+                "a field of the image has a value that no run from power-up gives it"
+            }
             Refusal::Unknown(_) => "the library gave a number that no document has here",
         };
         write!(f, "refusal {}: {line}", self.number())
