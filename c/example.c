@@ -1,6 +1,6 @@
-/* Lists a trace, says in words what part it is for, who owns the bus at its end and why its claim was won, writes the trace again, takes its
- * part away as in an old trace and has it converted, and shows straps both ways. With a capture it says what that has for the device at 71h,
- * and with two order sheets what they order.
+/* Lists a trace, says in words what part it is for, who owns the bus at its end and why its claim was won, steps its events one by one on an
+ * image of the device, writes the trace again, takes its part away as in an old trace and has it converted, and shows straps both ways. With a
+ * capture it says what that has for the device at 71h, and with two order sheets what they order.
  * Usage: example TRACE-FILE [CAPTURE-FILE [BOARD-SHEET HOUSE-SHEET]] */
 #include <stdio.h>
 #include <string.h>
@@ -45,6 +45,28 @@ static void show_converted(size_t length) {
            compared(again, length));
 }
 
+/* The four bytes of an answer as gunwaleish_image_step packs them. */
+static uint32_t packed(const uint8_t *four) {
+    return four[0] | (uint32_t)four[1] << 8 | (uint32_t)four[2] << 16 | (uint32_t)four[3] << 24;
+}
+
+/* The same events, one by one, on a device that stands as an image: the same answers. Then what a damaged image is answered. */
+static void show_image(const uint8_t *event, size_t events, uint8_t kind) {
+    uint8_t image[GUNWALEISH_IMAGE_BYTES];
+    size_t same = 0;
+    gunwaleish_image_fresh(kind, image, sizeof image);
+    for (size_t step = 0; step < events; step++, event += 4) {
+        uint32_t answer = gunwaleish_image_step(event[0], event[1], event[2], event[3], image, sizeof image);
+        same += answer == packed(answers + 4 * step);
+    }
+    printf("stepped on an image of %zu bytes: %zu of %zu answers the same; STATUS of master 1 is %02Xh\n", sizeof image, same, events,
+           gunwaleish_register(gunwaleish_image_read(1, 2, image, sizeof image)));
+    unsigned shorter = gunwaleish_number(gunwaleish_image_step(6, 0, 0, 0, image, sizeof image - 1));
+    image[GUNWALEISH_IMAGE_BYTES - 1] = 2;
+    unsigned damaged = gunwaleish_number(gunwaleish_image_step(6, 0, 0, 0, image, sizeof image));
+    printf("an image that is a byte short: refused, number %u; one that is damaged: number %u\n", shorter, damaged);
+}
+
 static void show_trace(size_t length) {
     size_t listed = gunwaleish_listing(trace, length, text, sizeof text);
     if (listed <= sizeof text) {
@@ -64,6 +86,7 @@ static void show_trace(size_t length) {
         printf("at the end the bus is owned by %s; ground of the claim: %s\n", owners[gunwaleish_owner(bus)],
                grounds[gunwaleish_ground(bus)]);
     }
+    show_image(trace + GUNWALEISH_TRACE_HEAD, events, kind);
     show_written(length, events, kind);
     show_converted(length);
 }

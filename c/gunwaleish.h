@@ -3,7 +3,8 @@
  * Link with libgunwaleish.a, which `tools/library` writes to target/staticlib/.
  *
  * What a caller owes, since C cannot say it: a pointer is never null, also with length 0; the bytes it points to are there for that
- * length; and the range that a call writes overlaps none that it reads. Any bytes are taken as a trace, as events, as samples or as a sheet.
+ * length; and the range that a call writes overlaps none that it reads, an image apart, which is one range for both. Any bytes are taken as a
+ * trace, as events, as samples, as a sheet or as an image.
  */
 #ifndef GUNWALEISH_H
 #define GUNWALEISH_H
@@ -24,6 +25,7 @@ enum gunwaleish_numbers {
     GUNWALEISH_UNKNOWN_KIND = 2,           /* the event's first byte is no kind */
     GUNWALEISH_FIELD_OUT_OF_RANGE = 3,     /* of an event: a field out of range, or an unused one not 0 */
     GUNWALEISH_NO_SUCH_PART = 3,           /* of a whole call: the kind of part is neither 0 nor 1 */
+    GUNWALEISH_NO_SUCH_REGISTER = 3,       /* of a register read out of an image: a master above 1 or a register above 7 */
     GUNWALEISH_BAD_BOX = 3,                /* of an order sheet: a tick or value out of range, or a value in a box that is not ticked */
     GUNWALEISH_OUT_OF_SEQUENCE = 4,        /* the event cannot come now */
     GUNWALEISH_TRACE_CUT = 5,              /* bytes are missing at the end, or event bytes do not come in fours */
@@ -33,13 +35,15 @@ enum gunwaleish_numbers {
     GUNWALEISH_BYTES_AFTER_SHEET = 7,      /* bytes after an order sheet's end */
     GUNWALEISH_NO_SUCH_STRAPPING = 8,      /* a pin code above 3, or a strapping without an address */
     GUNWALEISH_TOO_LITTLE_ROOM = 9,        /* the buffer is too short */
+    GUNWALEISH_OTHER_LENGTH = 9,           /* of an image: the buffer has not 38 bytes, but fewer or more */
     GUNWALEISH_WRONG_COUNT = 10,           /* the first byte, the count of pins, is not 4, or the count of the kind of part is not 1 */
     GUNWALEISH_WRONG_BOX_COUNT = 10,       /* of an order sheet: the count of a section is not 2 */
     GUNWALEISH_ADDRESS_OUTSIDE = 11,       /* the address is not one of 08h to 77h */
     GUNWALEISH_BYTE_CUT = 12,              /* a START or STOP inside a byte of a capture, or its end */
     GUNWALEISH_TOO_MANY_SAMPLES = 13,      /* more than 32,768 samples */
     GUNWALEISH_EMPTY_BOX = 14,             /* a box is ticked neither on the board sheet nor on the house sheet */
-    GUNWALEISH_NO_SUCH_BOX = 15            /* an order sheet has no such section or controller */
+    GUNWALEISH_NO_SUCH_BOX = 15,           /* an order sheet has no such section or controller */
+    GUNWALEISH_IMAGE_OUT_OF_RANGE = 16     /* a field of an image is outside the range that a run from power-up gives it */
 };
 
 /* The kinds of part. A TPT29641 differs in two things: its idle timer ends a grant at 151 idle ticks, not at 101, and its write pointer
@@ -84,6 +88,9 @@ enum gunwaleish_sheets {
 #define GUNWALEISH_MOST_SAMPLES 32768
 #define GUNWALEISH_MOST_CAPTURED 3640
 #define GUNWALEISH_MOST_CAPTURED_BYTES (4 * GUNWALEISH_MOST_CAPTURED)
+
+/* The bytes of a device's image, which docs/IMAGE.md lays out. */
+#define GUNWALEISH_IMAGE_BYTES 38
 
 /* The four bytes of an answer, by their places. */
 #define GUNWALEISH_ANSWER_OUTCOME 0
@@ -156,6 +163,22 @@ uint64_t gunwaleish_sheet_box(const uint8_t *board, size_t board_len, const uint
 uint64_t gunwaleish_sheet_events(const uint8_t *board, size_t board_len, const uint8_t *house, size_t house_len, uint8_t *events,
                                  size_t events_len);
 
+/* A device that stands between its events is an image of 38 bytes in a buffer of the caller's. Nothing else is kept anywhere. Make it with
+ * gunwaleish_image_fresh; the calls keep every field in its range, so 16 tells that something else wrote there. A refusal leaves the buffer as
+ * it was. Refusals, in this order: 9 if the buffer has another length than 38, 16 if a field is outside its range, then the call's own. */
+
+/* Makes the image of a device of this kind after power-up, whatever stood in the buffer. Gives the number: 0, 9, or 3 for a kind that is neither
+ * 0 nor 1. */
+uint32_t gunwaleish_image_fresh(uint8_t kind, uint8_t *image, size_t image_len);
+
+/* Steps the device by one event, given by its four bytes. Gives the four answer bytes, the first lowest; gunwaleish_answer takes them apart. The
+ * buffer has the new image. 9 and 16 answer the number, 00, 00, 00. An event refused with 2, 3 or 4 leaves the image and shows the device. */
+uint32_t gunwaleish_image_step(uint8_t kind, uint8_t x, uint8_t y, uint8_t z, uint8_t *image, size_t image_len);
+
+/* What the master reads of its register, without an event: no mailbox is emptied, and no pointer moves. Packed: number + 256 * the byte; number 0,
+ * 9, 16, or 3 for a master above 1 or a register above 7. */
+uint32_t gunwaleish_image_read(uint8_t master, uint8_t register_number, const uint8_t *image, size_t image_len);
+
 /* The address of a strapping; pin codes are 0 VSS, 1 VDD, 2 pull-down, 3 pull-up. Packed: number + 256 * address; number 0 or 8. */
 uint32_t gunwaleish_address_of(uint8_t ad3, uint8_t ad2, uint8_t ad1, uint8_t ad0);
 
@@ -207,6 +230,16 @@ static inline size_t gunwaleish_offset(uint64_t packed) {
 /* Out of what gunwaleish_sheet_events gave. */
 static inline size_t gunwaleish_ordered(uint64_t packed) {
     return (size_t)(packed >> 8);
+}
+
+/* One byte of the answer that gunwaleish_image_step gave, by its place, a GUNWALEISH_ANSWER_ of the above. There are four. */
+static inline uint8_t gunwaleish_answer(uint32_t packed, unsigned place) {
+    return (uint8_t)(place > 3 ? 0 : packed >> (8 * place) & 0xff);
+}
+
+/* The byte out of what gunwaleish_image_read gave. */
+static inline uint8_t gunwaleish_register(uint32_t packed) {
+    return (uint8_t)(packed >> 8 & 0xff);
 }
 
 /* The code of pin AD3, AD2, AD1 or AD0, out of what gunwaleish_pins_of gave. There are no other pins. */
