@@ -8,13 +8,14 @@ use model::traces::{old_trace_of, trace, trace_of};
 
 use crate::converting::converter_calls;
 use crate::figures::Figures;
+use crate::imaging::image_calls;
 use crate::importing::importer_calls;
 use crate::ordering::sheet_calls;
 use crate::writing::writer_calls;
 
 /// Compares one round of cases: some 55 good traces with 16,000 events and ten times as many
-/// damaged ones, some 100 calls of the writer, 60 of the converter, 90 of the importer and 190 with
-/// order sheets.
+/// damaged ones, some 100 calls of the writer, 60 of the converter, 90 of the importer, 190 with
+/// order sheets, and 3,000 steps on images.
 pub fn round(seed: u64, figures: &mut Figures) {
     let mut rng = Rng::new(seed);
     for length in lengths(&mut rng) {
@@ -31,6 +32,7 @@ pub fn round(seed: u64, figures: &mut Figures) {
     converter_calls(&mut rng, figures);
     importer_calls(&mut rng, figures);
     sheet_calls(&mut rng, figures);
+    image_calls(&mut rng, figures);
 }
 
 /// Many short traces and a few long ones. A bus hangs only in those of 700 events and more.

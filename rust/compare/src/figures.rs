@@ -4,6 +4,7 @@ use std::collections::BTreeMap;
 use std::fmt;
 
 use model::happenings::{kinds_of, Happenings};
+use model::images::image_sights;
 use model::part::BOTH_KINDS;
 use model::sheets::SHEET_SIGHTS;
 use model::sightings::SIGHTS;
@@ -24,6 +25,9 @@ const CALLS: &[(&str, &[u8])] = &[
     ("import", &[0, 9, 11, 12, 13]),
     ("look up", &[0, 3, 5, 7, 10, 14, 15]),
     ("sheet events", &[0, 3, 5, 7, 9, 10, 14]),
+    ("image step", &[0, 1, 2, 3, 4, 9, 16]),
+    ("image read", &[0, 3, 9, 16]),
+    ("image fresh", &[0, 3, 9]),
 ];
 /// So many mismatches are told in full. The rest are only counted.
 const TOLD: usize = 3;
@@ -39,8 +43,8 @@ pub struct Figures {
     listings: u64,
     /// What happened in runs, one for each kind of part.
     happenings: [Happenings; 2],
-    /// What was seen in captures and on order sheets.
-    sights: Happenings,
+    /// What was seen in captures, on order sheets and in images.
+    pub(crate) sights: Happenings,
     mismatches: u64,
     told: Vec<String>,
 }
@@ -139,7 +143,7 @@ impl Figures {
         }
     }
 
-    fn answered(&mut self, call: &'static str, number: u8) {
+    pub(crate) fn answered(&mut self, call: &'static str, number: u8) {
         *self.numbers.entry((call, number)).or_insert(0) += 1;
     }
 
@@ -152,7 +156,7 @@ impl Figures {
     }
 
     /// Tells what differs, and the input by its name.
-    fn tell(&mut self, name: &str, input: &[u8], difference: &str) {
+    pub(crate) fn tell(&mut self, name: &str, input: &[u8], difference: &str) {
         // Once enough is told, no more files are kept.
         if self.told.len() < TOLD {
             let bytes =
@@ -210,8 +214,8 @@ impl Figures {
         self.mismatches == 0
     }
 
-    /// Every kind of happening in runs, for each kind of part, and every sight in captures and on
-    /// order sheets, each with its count.
+    /// Every kind of happening in runs, for each kind of part, and every sight in captures, on order
+    /// sheets and in images, each with its count.
     fn occurred(&self) -> Vec<(String, u64)> {
         let mut all = vec![];
         for (part, happenings) in BOTH_KINDS.into_iter().zip(&self.happenings) {
@@ -219,8 +223,10 @@ impl Figures {
                 kinds_of(part).map(|name| (format!("{part:?}: {name}"), happenings.count(name))),
             );
         }
-        let sights = SIGHTS.iter().chain(SHEET_SIGHTS);
-        all.extend(sights.map(|name| (name.to_string(), self.sights.count(name))));
+        let mut sights: Vec<String> =
+            SIGHTS.iter().chain(SHEET_SIGHTS).map(|name| name.to_string()).collect();
+        sights.extend(image_sights());
+        all.extend(sights.into_iter().map(|name| (name.clone(), self.sights.count(&name))));
         all
     }
 

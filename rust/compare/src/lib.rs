@@ -7,6 +7,7 @@
 //! - `converting`: the converter of old traces on both sides.
 //! - `importing`: the importer of captures on both sides.
 //! - `ordering`: the order sheet on both sides.
+//! - `imaging`: the flat image of a device on both sides.
 //! - `words`: events and answers in words, for what differs.
 //! - `cases`: random calls, good and damaged, in rounds.
 //! - `fixed`: calls that are few enough to try them all.
@@ -17,6 +18,7 @@ pub mod check;
 pub mod converting;
 pub mod figures;
 pub mod fixed;
+pub mod imaging;
 pub mod importing;
 pub mod ordering;
 pub mod words;

@@ -3,6 +3,7 @@
 use std::thread;
 
 use compare::fixed::*;
+use compare::imaging::{images_byte_by_byte, images_of_every_length};
 use compare::ordering::{sheets_one_by_one, sheets_side_by_side};
 use compare::{clock_seed, round, seed_or, Figures};
 use model::traces::seed_of;
@@ -31,6 +32,8 @@ fn main() {
     short_captures(&mut figures);
     sheets_one_by_one(&mut figures);
     sheets_side_by_side(&mut figures);
+    images_byte_by_byte(&mut figures);
+    images_of_every_length(&mut figures);
     print!("{figures}{}", figures.happenings());
     let never = figures.never();
     if !never.is_empty() {

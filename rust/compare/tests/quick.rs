@@ -4,6 +4,7 @@
 use std::io::Write;
 
 use compare::fixed::*;
+use compare::imaging::{images_byte_by_byte, images_of_every_length};
 use compare::ordering::{sheets_one_by_one, sheets_side_by_side};
 use compare::{clock_seed, round, seed_or, Figures};
 use model::traces::seed_of;
@@ -90,4 +91,14 @@ fn every_byte_of_an_order_sheet() {
 #[test]
 fn order_sheets_refused_side_by_side() {
     check_all(sheets_side_by_side);
+}
+
+#[test]
+fn every_byte_of_an_image() {
+    check_all(images_byte_by_byte);
+}
+
+#[test]
+fn images_of_any_length() {
+    check_all(images_of_every_length);
 }

@@ -2,7 +2,7 @@
 //! say nothing about what is right.
 
 use crate::device::{BOTH_HIGH, LOCK_REQ};
-use crate::event::read_event;
+use crate::event::{make::*, read_event};
 use crate::happenings::Happenings;
 use crate::image::*;
 use crate::part::Kind;
@@ -31,6 +31,25 @@ pub fn any_image(rng: &mut Rng) -> [u8; IMAGE_LENGTH] {
 fn about(rng: &mut Rng, most: i64) -> i64 {
     let any = rng.between(0, most as u64) as i64;
     rng.pick(&[0, 0, most.min(1), most, most - 1, any, any, any])
+}
+
+/// One event of any kind, most often one that reads as an event.
+pub fn any_event(rng: &mut Rng) -> [u8; 4] {
+    let m = rng.below(2) as u8;
+    let (byte, other) = (rng.byte(), rng.byte());
+    match rng.below(16) {
+        0 => command(m, rng.pick(&[byte, byte & 0x87])),
+        1..=3 => write(m, byte),
+        4 => pair(byte, other),
+        5 => read(m),
+        6 => stop(m),
+        7 | 8 => lines(byte & 1, other & 1, m),
+        9..=11 => tick(),
+        12 => pulse(m),
+        13 => rng.pick(&[reset(), general_call(m, 6), general_call(m, byte)]),
+        14 => [rng.below(12) as u8, rng.below(3) as u8, byte & 1, rng.below(2) as u8],
+        _ => [byte, other, rng.byte(), rng.byte()],
+    }
 }
 
 /// Writes one field, in range or not.
