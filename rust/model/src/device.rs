@@ -207,6 +207,16 @@ impl Device {
         }
     }
 
+    /// The master whose switch is closed or who initialises. After a step of a run it is the one for
+    /// whom grant and BUS_CONNECT are both true.
+    pub fn switch_of(&self) -> Option<usize> {
+        match self.switch {
+            Switch::Apart => None,
+            Switch::Closed(m) => Some(m),
+            Switch::Initialising { master, .. } => Some(master),
+        }
+    }
+
     /// While initialising: how many PULSE of 0 this initialisation has had.
     pub fn initialising(&self) -> Option<i64> {
         match self.switch {

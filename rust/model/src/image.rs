@@ -97,7 +97,7 @@ impl Row {
             Range::UpTo(most) => number <= most,
             Range::Without(bits) => number & i64::from(bits) == 0,
             Range::IdleCount => {
-                Kind::of(image[KIND_OFFSET]).is_some_and(|kind| number <= kind.idle_ticks())
+                Kind::of(image[KIND_OFFSET]).is_none_or(|kind| number <= kind.idle_ticks())
             }
         }
     }

@@ -179,15 +179,16 @@ impl Device {
             self.switch = Switch::Apart;
             return;
         };
-        // "Become both true" is per master (reading 9).
-        let become_true = before.owner_with_connect() != Some(owner);
+        // "Become both true" is per master (reading 9). For whom they were true before, the switch
+        // tells, closed or initialising.
+        let become_true = before.switch_of() != Some(owner);
         if become_true && self.masters[owner].has(BUS_INIT) {
             self.switch = Switch::Initialising { master: owner, zeros: 0 };
             self.bus_init_fail = false;
             return;
         }
         match self.switch {
-            Switch::Initialising { master, zeros } if master == owner && !become_true => {
+            Switch::Initialising { master, zeros } if master == owner => {
                 if let Event::Pulse { sda } = event {
                     self.take_pulse(owner, *sda, zeros);
                 }

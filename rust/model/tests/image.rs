@@ -107,6 +107,8 @@ fn runs_on_images_are_runs_on_devices() {
                 assert_eq!(image_step(event, &mut image), device.step(event));
                 assert_eq!(image, image_of(&device));
                 assert_eq!(read_image(&image).as_ref(), Ok(&device));
+                // "Otherwise the switch is closed exactly if both are true."
+                assert_eq!(device.switch_of(), device.owner_with_connect());
             }
         }
     }
