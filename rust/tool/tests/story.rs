@@ -203,7 +203,7 @@ fn totals_are_the_models() {
             for m in [0, 1] {
                 let owns = device.owner() == Some(m);
                 let waits = device.masters[m].has(LOCK_REQ) && !owns;
-                let is = [owns, device.switch() == Some(m), waits];
+                let is = [owns, device.closed_for() == Some(m), waits];
                 (0..3).for_each(|place| counted[m][place] += usize::from(is[place]));
             }
         });
