@@ -12,6 +12,7 @@ use Rattle.gunwaleish.proofs.gunwaleish_sheet_events.Reads as gunwaleis
 use Rattle.gunwaleish.proofs.gunwaleish_image_fresh.Reads as gunwaleish-image-fresh
 use Rattle.gunwaleish.proofs.gunwaleish_image_step.Reads as gunwaleish-image-step
 use Rattle.gunwaleish.proofs.gunwaleish_image_read.Reads as gunwaleish-image-read
+use Rattle.gunwaleish.proofs.gunwaleish_list_orders.Reads as gunwaleish-list-orders
 use Rattle.gunwaleish.proofs.gunwaleish_address_of.Reads as gunwaleish-address-of
 use Rattle.gunwaleish.proofs.gunwaleish_pins_of.Reads as gunwaleish-pins-of
 
@@ -44,6 +45,9 @@ gunwaleish-image-step-once κ a x y s t p q = (once (p .0) (q .0), once (p .1) (
 
 pub gunwaleish-image-read-once : OneResult gunwaleish-image-read.Post
 gunwaleish-image-read-once κ a x y s t p q = once p q
+
+pub gunwaleish-list-orders-once : OneLeft (λ κ s. now (s .1 .1 .1 .0)) gunwaleish-list-orders.Post
+gunwaleish-list-orders-once κ a x y s t p q = (once (p .0) (q .0), once (p .1) (q .1))
 
 pub gunwaleish-address-of-once : OneResult gunwaleish-address-of.Post
 gunwaleish-address-of-once κ a x y s t p q = once p q

@@ -1,5 +1,5 @@
-// The library for Rust and C: traces, captures, order sheets, images and straps over numbers and byte slices. A slice passes as a pointer and
-// then a length.
+// The library for Rust and C: traces, captures, order sheets, images, orders of scripts and straps over numbers and byte slices. A slice passes
+// as a pointer and then a length.
 ghost use Prim.Native.Nat.{_<_};
 ghost use mathlib.Core.Path.{_≡_};
 ghost use lib.ListN.{length};
@@ -11,10 +11,11 @@ ghost use Rattle.arbiter.specs.Listing.{listing};
 ghost use Rattle.text.specs.Written.{textAfter};
 ghost use Rattle.capture.specs.Import.{imported, importedBuffer};
 ghost use Rattle.layout.specs.Images.{imageAnswer, imageAfter, freshNumber, freshAfter, shown};
+ghost use Rattle.orders.specs.Call.{ordersListed, ordersBuffer};
 ghost use Rattle.sheets.specs.Sheets.{placeOf};
 ghost use Rattle.sheets.specs.Orders.{ordered, orderedBuffer};
 ghost use Rattle.arbiter.specs.declared.Strapping.the-variants.{Straps};
-ghost use Rattle.gunwaleish.specs.Packed.{packedReport, packedWritten, packedImport, packedBox, packedOrder, packedAnswer, packedShown, packedAddress, packedPins};
+ghost use Rattle.gunwaleish.specs.Packed.{packedReport, packedWritten, packedImport, packedBox, packedOrder, packedAnswer, packedShown, packedListed, packedAddress, packedPins};
 use arbiter::Pins;
 use arbiter::Raw;
 use arbiter::Strapped;
@@ -24,6 +25,7 @@ use image::read_register;
 use imaging::fresh_image;
 use imaging::step_image;
 use importing::import_capture;
+use orders::list_orders;
 use sheets::Place;
 use sheets::lookup::place_of;
 use sheets::orders::order_events;
@@ -154,6 +156,20 @@ pub extern "C" fn gunwaleish_image_read(master: u8, register: u8, image: &[u8]) 
 {
     let s = read_register(master, register, image);
     byte_low(s.number) + 256 * byte_low(s.byte)
+}
+
+// The byte of each order of two scripts into a lent buffer, until the limit.
+#[no_mangle]
+pub extern "C" fn gunwaleish_list_orders(
+    script0: &[u8],
+    script1: &[u8],
+    limit: usize,
+    out: &mut [u8],
+) -> u64
+    ensures { λ r. ⌜ (r ≡ packedListed (ordersListed (now (script0 .entry)) (now (script1 .entry)) limit (now (out .entry)))) × (now (out .exit) ≡ ordersBuffer (now (script0 .entry)) (now (script1 .entry)) limit (now (out .entry))) ⌝ }
+{
+    let listed = list_orders(script0, script1, limit, out);
+    byte(listed.number) + 256 * (listed.count as u64)
 }
 
 // The address of four pins.

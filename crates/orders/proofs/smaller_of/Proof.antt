@@ -1,0 +1,14 @@
+-- `orders::smaller_of` meets its contract.
+-- Assumes nothing.
+use borrow.Author.Tests.{le-ltb, lt-ltb}
+use Rattle.orders.proofs.smaller_of.Statement.{statement}
+use Rattle.orders.proofs.smaller_of.Tie as tie
+
+returns : tie.Need-returns
+returns c = simp (lt-ltb _ _ (c .if1 .taken))
+
+returns-2 : tie.Need-returns-2
+returns-2 c = simp (le-ltb _ _ (c .if1 .left))
+
+pub smaller-of-spec : {M : Type 1} → statement M
+smaller-of-spec = tie.close (tie.spec returns returns-2)

@@ -1,0 +1,4 @@
+pub mod Orders
+pub mod Choices
+pub mod Call
+pub mod Walk
