@@ -20,11 +20,13 @@
 //! - `capture`: a logic-analyser capture turned into events (document 02, #104).
 //! - `sheet`: the order sheet (document 02, #106).
 //! - `image`, `image_fields`: the device as 38 bytes, and a step on them (document 02, #108).
+//! - `orders`: all orders of two start-up scripts (document 02, #109).
 //! - `rng`, `phrases`, `waits`, `traces`, `damage`: random cases for the tests.
 //! - `happenings`, `hanging`, `second_part`, `grounds`, `kinds`: what happens in them.
 //! - `pen`, `captures`, `capture_damage`, `sightings`: random captures, and what is seen in them.
 //! - `sheets`: random order sheets, and what is seen in them.
 //! - `images`: random images, good and damaged, and what is seen in them.
+//! - `scripts`: random pairs of start-up scripts, and what is seen in their orders.
 //! - `stored`: the traces that the repository keeps as one set.
 
 pub mod bytes;
@@ -43,10 +45,12 @@ pub mod image;
 pub mod image_fields;
 pub mod images;
 pub mod kinds;
+pub mod orders;
 pub mod part;
 pub mod pen;
 pub mod phrases;
 pub mod rng;
+pub mod scripts;
 pub mod second_part;
 pub mod sheet;
 pub mod sheets;
@@ -63,6 +67,8 @@ pub use capture::{import_capture, Imported};
 pub use converter::convert_trace;
 pub use device::{Device, Switch};
 pub use image::{image_fresh, image_of, image_read, image_step, read_image};
+pub use device::Device;
+pub use orders::{list_orders, Listed};
 pub use part::Kind;
 pub use sheet::{look_up, sheet_events};
 pub use straps::{address_of, pins_of};
