@@ -131,15 +131,37 @@ pub struct Answer {
     pub sda: bool,
 }
 
+/// What the third byte of an answer shows by itself. The fields are those of `Answer`.
+#[derive(Clone, Copy, Debug, PartialEq, Eq, Hash)]
+#[non_exhaustive]
+pub struct Bus {
+    pub owner: Option<Master>,
+    pub connected: Option<Master>,
+    pub initialising: bool,
+    pub ground: Option<Ground>,
+}
+
+impl From<u8> for Bus {
+    fn from(byte: u8) -> Bus {
+        Bus {
+            owner: master(byte),
+            connected: master(byte >> 2),
+            initialising: byte & 0x10 != 0,
+            ground: Ground::of(byte >> 5 & 3),
+        }
+    }
+}
+
 impl From<[u8; 4]> for Answer {
     fn from([outcome, byte_read, bus, pins]: [u8; 4]) -> Answer {
+        let Bus { owner, connected, initialising, ground } = bus.into();
         Answer {
             outcome: Outcome::of(outcome),
             byte_read,
-            owner: master(bus),
-            connected: master(bus >> 2),
-            initialising: bus & 0x10 != 0,
-            ground: Ground::of(bus >> 5 & 3),
+            owner,
+            connected,
+            initialising,
+            ground,
             int0: pins & 0x01 != 0,
             int1: pins & 0x02 != 0,
             scl: pins & 0x04 != 0,

@@ -72,6 +72,15 @@ extern "C" {
         image_len: usize,
     ) -> u32;
     fn gunwaleish_image_read(master: u8, register: u8, image: *const u8, image_len: usize) -> u32;
+    fn gunwaleish_list_orders(
+        script0: *const u8,
+        script0_len: usize,
+        script1: *const u8,
+        script1_len: usize,
+        limit: usize,
+        listed: *mut u8,
+        listed_len: usize,
+    ) -> u64;
 }
 
 /// The number, then the address, the count of events and the kind of part, packed as 1, 256, 65536
@@ -166,4 +175,15 @@ pub fn image_step(event: [u8; 4], image: &mut [u8]) -> u32 {
 pub fn image_read(master: u8, register: u8, image: &[u8]) -> u32 {
     // SAFETY: see the head of this file.
     unsafe { gunwaleish_image_read(master, register, image.as_ptr(), image.len()) }
+}
+
+/// The number, then the count of listed orders, packed as 1 and 256.
+pub fn list_orders(script0: &[u8], script1: &[u8], limit: usize, listed: &mut [u8]) -> u64 {
+    let (script0, script0_len) = (script0.as_ptr(), script0.len());
+    let (script1, script1_len) = (script1.as_ptr(), script1.len());
+    // SAFETY: see the head of this file.
+    unsafe {
+        let (to, to_len) = (listed.as_mut_ptr(), listed.len());
+        gunwaleish_list_orders(script0, script0_len, script1, script1_len, limit, to, to_len)
+    }
 }

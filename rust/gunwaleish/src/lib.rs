@@ -34,6 +34,9 @@
 //! A `Device` stands between its events and is stepped one by one. It is the image of 38 bytes that a
 //! microcontroller keeps, so it can be kept as bytes too.
 //!
+//! Before both controllers' start-up scripts are packaged, `list_orders` tries them in all the orders
+//! that keep each script's own order, and says for each how the bus stands at its end.
+//!
 //! The calls whose names end in `_into`, and `run_trace`, work on bytes in lent buffers and
 //! allocate nothing.
 
@@ -42,6 +45,7 @@ pub mod boundary;
 mod capture;
 mod device;
 mod event;
+mod orders;
 mod part;
 mod pins;
 mod refusal;
@@ -49,10 +53,11 @@ mod run;
 mod sheet;
 mod writing;
 
-pub use answer::{Answer, Ground, Outcome};
+pub use answer::{Answer, Bus, Ground, Outcome};
 pub use capture::{import_capture, import_capture_into, MOST_CAPTURED, MOST_SAMPLES};
 pub use device::{Device, Register, IMAGE_LENGTH};
 pub use event::{Event, Master};
+pub use orders::{list_orders, list_orders_into, MOST_ORDERS, MOST_SCRIPT};
 pub use part::Part;
 pub use pins::Pins;
 pub use refusal::Refusal;

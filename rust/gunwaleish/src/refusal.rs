@@ -3,8 +3,8 @@
 use std::fmt;
 
 /// A refusal of a whole call. The library keeps to the documents' numbers, and so does `number`.
-/// Where a number says one thing of a trace and another of an order sheet or an image, it has a name
-/// for each.
+/// Where a number says one thing of a trace and another of an order sheet, an image or a start-up
+/// script, it has a name for each.
 /// Later calls bring numbers of their own.
 #[derive(Clone, Copy, Debug, PartialEq, Eq, Hash)]
 #[non_exhaustive]
@@ -21,7 +21,7 @@ pub enum Refusal {
     /// 8: a pin code is above 3, or the strapping has no address.
     NoSuchStrapping,
     /// 9: the buffer is too short. Answers need four bytes an event, so do the events of a capture,
-    /// and a trace nine more.
+    /// and a trace nine more. Listed orders need a byte each.
     TooLittleRoom,
     /// 10: a section's count is wrong: that of the pins, the first byte, is not 4, or that of the
     /// kind of part is not 1.
@@ -43,6 +43,8 @@ pub enum Refusal {
     WrongBoxCount,
     /// 14: a box is empty: ticked neither on the board sheet nor on the house sheet.
     EmptyBox,
+    /// 6: a start-up script has more than six events.
+    LongScript,
     /// 15: an order sheet has no such section or controller. `sheet_box` takes those that there
     /// are, so only a caller of `boundary` meets it.
     NoSuchBox,
@@ -96,12 +98,20 @@ impl Refusal {
         }
     }
 
+    /// The refusal of this number by a call with start-up scripts. 0 is no refusal.
+    pub(crate) fn of_scripts(number: u8) -> Option<Refusal> {
+        match number {
+            6 => Some(Refusal::LongScript),
+            _ => Refusal::of(number),
+        }
+    }
+
     /// The document's number.
     pub fn number(self) -> u8 {
         match self {
             Refusal::NoSuchPart | Refusal::BadBox => 3,
             Refusal::TraceCut | Refusal::SheetCut => 5,
-            Refusal::TooManyEvents => 6,
+            Refusal::TooManyEvents | Refusal::LongScript => 6,
             Refusal::BytesAfterEnd | Refusal::BytesAfterSheet => 7,
             Refusal::NoSuchStrapping => 8,
             Refusal::TooLittleRoom | Refusal::OtherLength => 9,
@@ -138,6 +148,7 @@ impl fmt::Display for Refusal {
             Refusal::SheetCut => "the sheet has under 15 bytes",
             Refusal::BytesAfterSheet => "there are bytes after the sheet's end",
             Refusal::WrongBoxCount => "a section's count is not 2, the boxes of two controllers",
+            Refusal::LongScript => "a start-up script has more than six events",
             Refusal::EmptyBox => "a box is ticked on neither sheet, and an empty box is no value",
             Refusal::NoSuchBox => "a sheet has no such section or controller",
             Refusal::OtherLength => "the image of a device has 38 bytes, and these are not so many",

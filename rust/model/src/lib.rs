@@ -67,7 +67,6 @@ pub use capture::{import_capture, Imported};
 pub use converter::convert_trace;
 pub use device::{Device, Switch};
 pub use image::{image_fresh, image_of, image_read, image_step, read_image};
-pub use device::Device;
 pub use orders::{list_orders, Listed};
 pub use part::Kind;
 pub use sheet::{look_up, sheet_events};

@@ -1,9 +1,10 @@
 //! The tool that people run: a subcommand reads traces (or scripts, or captures) and writes one
-//! thing of each, or reads two order sheets and says what they order.
+//! thing of each, or reads two order sheets and says what they order, or tries two start-up scripts in
+//! all their orders.
 //!
 //! Every answer comes from the proved library. What is here is words and pictures: `story` follows
-//! a run and says what changed, `order` says what is on two sheets, `commands` has a file for each
-//! subcommand, and `arguments`, `files` and `each` are the way from the command line to the files
+//! a run and says what changed, `order` says what is on two sheets, `startup` how the orders of two
+//! scripts end, `commands` has a file for each subcommand, and `arguments`, `files` and `each` are the way from the command line to the files
 //! and back.
 
 pub mod arguments;
@@ -16,6 +17,7 @@ pub mod files;
 pub mod order;
 pub mod picture;
 pub mod script;
+pub mod startup;
 pub mod story;
 pub mod summary;
 pub mod svg;

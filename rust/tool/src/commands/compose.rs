@@ -8,7 +8,7 @@ use crate::files::Input;
 use crate::script::{read_script, Script};
 
 /// A script of the longest trace has far less, even with long comments.
-const MOST_SCRIPT: usize = 1 << 24;
+pub const MOST_TEXT: usize = 1 << 24;
 
 pub const COMMAND: Command = Command {
     name: "compose",
@@ -36,11 +36,11 @@ pub const COMMAND: Command = Command {
            If a line cannot be read, nothing is written.",
     options: &[],
     example: "target/rust/release/gunwaleish compose traces/m1.script | cmp - traces/m1.trace",
-    run: |arguments| Each { most: MOST_SCRIPT, ending: "trace", make: compose }.run(arguments),
+    run: |arguments| Each { most: MOST_TEXT, ending: "trace", make: compose }.run(arguments),
 };
 
 pub fn compose(input: &Input) -> Made {
-    if input.bytes.len() > MOST_SCRIPT {
+    if input.bytes.len() > MOST_TEXT {
         return Made::refused(format!("{}: the script is longer than 16 MiB", input.name));
     }
     let script = match read_script(&input.bytes) {

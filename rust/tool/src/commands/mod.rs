@@ -6,6 +6,7 @@ pub mod decompose;
 pub mod explain;
 pub mod import;
 pub mod list;
+pub mod orders;
 pub mod picture;
 pub mod sheet;
 pub mod wave;
@@ -31,6 +32,7 @@ const TRACES: &str = "[TRACE...] [-o OUT]";
 
 pub const COMMANDS: &[Command] = &[
     sheet::COMMAND,
+    orders::COMMAND,
     list::COMMAND,
     explain::COMMAND,
     compose::COMMAND,

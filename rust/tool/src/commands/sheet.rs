@@ -1,6 +1,6 @@
 //! `sheet`: what two order sheets order, in words, or their events as a trace.
 
-use gunwaleish::{sheet_events, write_trace, Refusal, Sheet, SHEET_LENGTH};
+use gunwaleish::{sheet_events, write_trace, Master, Refusal, Sheet, SHEET_EVENTS, SHEET_LENGTH};
 
 use super::Command;
 use crate::arguments::Arguments;
@@ -14,7 +14,8 @@ use crate::script::write_script;
 pub const COMMAND: Command = Command {
     name: "sheet",
     summary: "what a board sheet and a house sheet order, in words, or as a trace",
-    usage: "BOARD HOUSE [(--address HEX | --pins AD3 AD2 AD1 AD0) --part NAME [--script]] [-o OUT]",
+    usage: "BOARD HOUSE [(--address HEX | --pins AD3 AD2 AD1 AD0) --part NAME\n       \
+            [--script [--controller N]]] [-o OUT]",
     help: "BOARD and HOUSE are two order sheets, 15 bytes each; sheets/README.md has their layout. The\n\
            output says of each box what is ordered and from which sheet: the board sheet's if it is\n\
            ticked there, else the house sheet's. A box that is ticked on neither is empty and never\n\
@@ -23,11 +24,12 @@ pub const COMMAND: Command = Command {
            With a device, named by its address or the codes of its pins and by its part, PCA9641 or\n\
            TPT29641, the output is not the words but a trace: the twelve events that start the shelf.\n\
            They fit a fresh device. With --script it is their script, to which tick and lines are\n\
-           added by hand before gunwaleish compose makes a trace of it. Nothing of a pair that is\n\
+           added by hand before gunwaleish compose makes a trace of it; with --controller 0 or 1 it is\n\
+           that controller's six events alone, for gunwaleish orders. Nothing of a pair that is\n\
            refused is written.\n\n\
            Exit code: 0 the pair is complete; 1 a box is empty, or a sheet is no sheet: standard error\n\
            says which, and at which byte; 2 wrong use, or a file that cannot be read or written.",
-    options: &[("--address", 1), ("--pins", 4), ("--part", 1), ("--script", 0)],
+    options: &[("--address", 1), ("--pins", 4), ("--part", 1), ("--script", 0), ("--controller", 1)],
     example: "target/rust/release/gunwaleish sheet sheets/board.sheet sheets/house.sheet",
     run,
 };
@@ -38,6 +40,8 @@ pub enum Wanted {
     Words,
     Trace(Device),
     Script(Device),
+    /// The script of one controller.
+    ScriptOf(Device, Master),
 }
 
 impl Wanted {
@@ -46,7 +50,7 @@ impl Wanted {
         match self {
             Wanted::Words => "txt",
             Wanted::Trace(_) => "trace",
-            Wanted::Script(_) => "script",
+            Wanted::Script(_) | Wanted::ScriptOf(..) => "script",
         }
     }
 }
@@ -72,10 +76,17 @@ fn wanted(arguments: &Arguments) -> Result<Wanted, Failure> {
         return Ok(Wanted::Words);
     }
     let device = read_device(COMMAND.name, arguments)?;
-    Ok(match arguments.options.contains_key("--script") {
-        true => Wanted::Script(device),
-        false => Wanted::Trace(device),
-    })
+    let controller = arguments.options.get("--controller").map(Vec::as_slice).unwrap_or_default();
+    match (arguments.options.contains_key("--script"), controller) {
+        (false, []) => Ok(Wanted::Trace(device)),
+        (false, _) => Err(wrong("--controller needs --script")),
+        (true, []) => Ok(Wanted::Script(device)),
+        (true, [word, ..]) => {
+            let named = Master::BOTH.into_iter().find(|master| master.to_string() == *word);
+            let unknown = || format!("'{}' is no controller, 0 or 1", word.escape_debug());
+            Ok(Wanted::ScriptOf(device, named.ok_or_else(|| wrong(&unknown()))?))
+        }
+    }
 }
 
 fn wrong(what: &str) -> Failure {
@@ -94,6 +105,12 @@ pub fn sheet(board: &Input, house: &Input, wanted: Wanted) -> Made {
     match wanted {
         Wanted::Words => Made { output: order_in_words(board, house), refused: None },
         Wanted::Script(to) => Made::done(write_script(to.pins, to.part, &events)),
+        Wanted::ScriptOf(to, master) => {
+            // Controller 0's come first.
+            let (first, second) = events.split_at(SHEET_EVENTS / 2);
+            let own = if master == Master::Zero { first } else { second };
+            Made::done(write_script(to.pins, to.part, own))
+        }
         Wanted::Trace(to) => match write_trace(to.pins, to.part, &events) {
             Ok(trace) => Made::done(trace),
             Err(refusal) => Made::refused(refused(board, house, refusal)),
