@@ -6,6 +6,7 @@ use std::fmt;
 use model::happenings::{kinds_of, Happenings};
 use model::images::image_sights;
 use model::part::BOTH_KINDS;
+use model::scripts::{Scripts, ORDER_SIGHTS};
 use model::sheets::SHEET_SIGHTS;
 use model::sightings::SIGHTS;
 use model::trace::hex;
@@ -15,6 +16,7 @@ use crate::check::{check_listing, check_run, Difference};
 use crate::converting::check_convert;
 use crate::importing::check_import;
 use crate::ordering::{check_box, check_sheet_events};
+use crate::starting::check_orders;
 use crate::writing::{check_write, check_write_again};
 
 /// The calls that answer a number, each with the numbers that have to occur.
@@ -28,6 +30,7 @@ const CALLS: &[(&str, &[u8])] = &[
     ("image step", &[0, 1, 2, 3, 4, 9, 16]),
     ("image read", &[0, 3, 9, 16]),
     ("image fresh", &[0, 3, 9]),
+    ("list orders", &[0, 5, 6, 9]),
 ];
 /// So many mismatches are told in full. The rest are only counted.
 const TOLD: usize = 3;
@@ -41,9 +44,10 @@ pub struct Figures {
     numbers: BTreeMap<(&'static str, u8), u64>,
     events: u64,
     listings: u64,
+    orders: u64,
     /// What happened in runs, one for each kind of part.
     happenings: [Happenings; 2],
-    /// What was seen in captures, on order sheets and in images.
+    /// What was seen in captures, on order sheets, in images and in orders of scripts.
     pub(crate) sights: Happenings,
     mismatches: u64,
     told: Vec<String>,
@@ -122,6 +126,21 @@ impl Figures {
         }
     }
 
+    /// Lists the orders of two scripts on both sides and counts it.
+    pub fn orders(&mut self, scripts: &Scripts, limit: usize, room: usize) {
+        match check_orders(scripts, limit, room) {
+            Ok(listed) => {
+                self.answered("list orders", listed.number);
+                self.orders += listed.count as u64;
+                self.sights.see_orders(scripts, limit, room);
+            }
+            Err(difference) => {
+                let call = format!("script 1 {}, limit {limit}, room {room}", hex(&scripts[1]));
+                self.tell("script0", &scripts[0], &format!("{call}; {difference}"))
+            }
+        }
+    }
+
     /// Has the library write an accepted trace again.
     pub fn write_again(&mut self, trace: &[u8]) {
         if let Err(difference) = check_write_again(trace) {
@@ -180,6 +199,7 @@ impl Figures {
         }
         self.events += other.events;
         self.listings += other.listings;
+        self.orders += other.orders;
         for (mine, others) in self.happenings.iter_mut().zip(&other.happenings) {
             mine.add(others);
         }
@@ -215,7 +235,7 @@ impl Figures {
     }
 
     /// Every kind of happening in runs, for each kind of part, and every sight in captures, on order
-    /// sheets and in images, each with its count.
+    /// sheets, in images and in orders of scripts, each with its count.
     fn occurred(&self) -> Vec<(String, u64)> {
         let mut all = vec![];
         for (part, happenings) in BOTH_KINDS.into_iter().zip(&self.happenings) {
@@ -224,7 +244,7 @@ impl Figures {
             );
         }
         let mut sights: Vec<String> =
-            SIGHTS.iter().chain(SHEET_SIGHTS).map(|name| name.to_string()).collect();
+            SIGHTS.iter().chain(SHEET_SIGHTS).chain(ORDER_SIGHTS).map(|name| name.to_string()).collect();
         sights.extend(image_sights());
         all.extend(sights.into_iter().map(|name| (name.clone(), self.sights.count(&name))));
         all
@@ -243,12 +263,13 @@ impl fmt::Display for Figures {
         let calls: Vec<String> = CALLS.iter().map(|(call, _)| self.calls(call)).collect();
         writeln!(
             f,
-            "seed {}, by number: {}; {} events run, {} listings, {kinds} of {} kinds of happening, \
-             {} mismatches",
+            "seed {}, by number: {}; {} events run, {} listings, {} orders listed, {kinds} of {} kinds \
+             of happening, {} mismatches",
             self.seed,
             calls.join(", "),
             self.events,
             self.listings,
+            self.orders,
             occurred.len(),
             self.mismatches
         )?;

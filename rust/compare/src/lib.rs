@@ -8,6 +8,7 @@
 //! - `importing`: the importer of captures on both sides.
 //! - `ordering`: the order sheet on both sides.
 //! - `imaging`: the flat image of a device on both sides.
+//! - `starting`: all orders of two start-up scripts on both sides.
 //! - `words`: events and answers in words, for what differs.
 //! - `cases`: random calls, good and damaged, in rounds.
 //! - `fixed`: calls that are few enough to try them all.
@@ -21,6 +22,7 @@ pub mod fixed;
 pub mod imaging;
 pub mod importing;
 pub mod ordering;
+pub mod starting;
 pub mod words;
 pub mod writing;
 
