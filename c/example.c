@@ -1,6 +1,7 @@
 /* Lists a trace, says in words what part it is for, who owns the bus at its end and why its claim was won, steps its events one by one on an
  * image of the device, writes the trace again, takes its part away as in an old trace and has it converted, and shows straps both ways. With a
- * capture it says what that has for the device at 71h, and with two order sheets what they order.
+ * capture it says what that has for the device at 71h, and with two order sheets what they order, and who owns the bus at the end if the two
+ * controllers start up in any order.
  * Usage: example TRACE-FILE [CAPTURE-FILE [BOARD-SHEET HOUSE-SHEET]] */
 #include <stdio.h>
 #include <string.h>
@@ -138,6 +139,26 @@ static void show_box(size_t board_length, size_t house_length, uint8_t section, 
     }
 }
 
+/* How many orders of two start-up scripts end with each owner, with no owner though somebody asks, and neither. */
+static void show_orders(const char *what, const uint8_t *script0, size_t length0, const uint8_t *script1, size_t length1, size_t limit) {
+    uint8_t listed[GUNWALEISH_MOST_ORDERS];
+    size_t owned[4] = {0, 0, 0, 0};
+    size_t stuck = 0;
+    uint64_t result = gunwaleish_list_orders(script0, length0, script1, length1, limit, listed, sizeof listed);
+    if (gunwaleish_number(result) != GUNWALEISH_DONE) {
+        printf("%s: refused, number %u\n", what, gunwaleish_number(result));
+        return;
+    }
+    for (size_t order = 0; order < gunwaleish_listed(result); order++) {
+        unsigned owner = gunwaleish_owner(listed[order]);
+        owned[owner]++;
+        /* There is a claim exactly if somebody asks. */
+        stuck += owner == 0 && gunwaleish_ground(listed[order]) != GUNWALEISH_NO_CLAIM;
+    }
+    printf("%s: %zu orders; master 0 owns in %zu, master 1 in %zu, nobody in %zu, though somebody asks in %zu of them\n", what,
+           gunwaleish_listed(result), owned[1], owned[2], owned[0], stuck);
+}
+
 /* Every box, and the events that a trace is then written of. */
 static void show_sheets(size_t board_length, size_t house_length) {
     uint8_t ordered[GUNWALEISH_SHEET_EVENTS_BYTES];
@@ -155,6 +176,12 @@ static void show_sheets(size_t board_length, size_t house_length) {
     const uint8_t *last = answers + 4 * (gunwaleish_ordered(result) - 1);
     printf("%zu events; after them the bus at %02Xh is owned by %s\n", gunwaleish_ordered(result), gunwaleish_address(report),
            owners[gunwaleish_owner(last[GUNWALEISH_ANSWER_BUS])]);
+    const size_t half = sizeof ordered / 2;
+    show_orders("in any order", ordered, half, ordered + half, half, SIZE_MAX);
+    show_orders("the first of them", ordered, half, ordered + half, half, 26);
+    show_orders("master 1's last STOP forgotten", ordered, half, ordered + half, half - 4, SIZE_MAX);
+    show_orders("with a byte missing", ordered, half, ordered + half, half - 1, SIZE_MAX);
+    show_orders("all as one script", ordered, sizeof ordered, ordered, 0, SIZE_MAX);
 }
 
 /* Reads a file into a buffer. Gives 0 if it cannot be opened. */

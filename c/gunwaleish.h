@@ -4,7 +4,7 @@
  *
  * What a caller owes, since C cannot say it: a pointer is never null, also with length 0; the bytes it points to are there for that
  * length; and the range that a call writes overlaps none that it reads, an image apart, which is one range for both. Any bytes are taken as a
- * trace, as events, as samples, as a sheet or as an image.
+ * trace, as events, as samples, as a sheet, as an image or as a script.
  */
 #ifndef GUNWALEISH_H
 #define GUNWALEISH_H
@@ -17,8 +17,8 @@ extern "C" {
 #endif
 
 /* The numbers of documents 01 and 02. 0 to 4 are outcomes of one event, the others refuse a whole call; so does 3, for a kind of part other
- * than 0 and 1 and for an order sheet. Where a number says one thing of a trace and another of an order sheet, it has a name for each. A call
- * that is not refused has 0. */
+ * than 0 and 1 and for an order sheet. Where a number says one thing of a trace and another of an order sheet or of a start-up script, it has
+ * a name for each. A call that is not refused has 0. */
 enum gunwaleish_numbers {
     GUNWALEISH_DONE = 0,                   /* done, accepted */
     GUNWALEISH_NOT_ACKNOWLEDGED = 1,       /* the byte was not acknowledged */
@@ -31,6 +31,7 @@ enum gunwaleish_numbers {
     GUNWALEISH_TRACE_CUT = 5,              /* bytes are missing at the end, or event bytes do not come in fours */
     GUNWALEISH_SHEET_CUT = 5,              /* of an order sheet: under 15 bytes */
     GUNWALEISH_TOO_MANY_EVENTS = 6,        /* more than 4,096 events */
+    GUNWALEISH_LONG_SCRIPT = 6,            /* of a start-up script: more than six events */
     GUNWALEISH_BYTES_AFTER_END = 7,        /* bytes after the trace's end */
     GUNWALEISH_BYTES_AFTER_SHEET = 7,      /* bytes after an order sheet's end */
     GUNWALEISH_NO_SUCH_STRAPPING = 8,      /* a pin code above 3, or a strapping without an address */
@@ -91,6 +92,11 @@ enum gunwaleish_sheets {
 
 /* The bytes of a device's image, which docs/IMAGE.md lays out. */
 #define GUNWALEISH_IMAGE_BYTES 38
+
+/* The most events of a start-up script, their bytes, and the orders of two such scripts. */
+#define GUNWALEISH_MOST_SCRIPT 6
+#define GUNWALEISH_MOST_SCRIPT_BYTES (4 * GUNWALEISH_MOST_SCRIPT)
+#define GUNWALEISH_MOST_ORDERS 924
 
 /* The four bytes of an answer, by their places. */
 #define GUNWALEISH_ANSWER_OUTCOME 0
@@ -179,6 +185,16 @@ uint32_t gunwaleish_image_step(uint8_t kind, uint8_t x, uint8_t y, uint8_t z, ui
  * 9, 16, or 3 for a master above 1 or a register above 7. */
 uint32_t gunwaleish_image_read(uint8_t master, uint8_t register_number, const uint8_t *image, size_t image_len);
 
+/* Tries two start-up scripts, four bytes an event, in all the orders that keep each script's own order, each on a PCA9641 fresh from power-up,
+ * and writes for each the third answer byte after its last event, of which gunwaleish_owner, gunwaleish_switch and gunwaleish_ground give the
+ * parts. At each point script 0's next event is tried first, and then script 1's: with a 0 for an event of script 0 and a 1 for one of script
+ * 1, two events and one come as 001, 010, 100. Two empty scripts have one order. The result is packed: number + 256 * how many were listed,
+ * the smaller of the limit and the number of orders, which is at most 924. Refusals, in this order: 5 event bytes of a script not in fours, 6
+ * a script above six events, 9 if the buffer is shorter than what is to be listed. A refusal writes nothing, and lists 0. Bytes past what is
+ * listed stay. The two scripts are only read, and may be the same. */
+uint64_t gunwaleish_list_orders(const uint8_t *script0, size_t script0_len, const uint8_t *script1, size_t script1_len, size_t limit,
+                                uint8_t *listed, size_t listed_len);
+
 /* The address of a strapping; pin codes are 0 VSS, 1 VDD, 2 pull-down, 3 pull-up. Packed: number + 256 * address; number 0 or 8. */
 uint32_t gunwaleish_address_of(uint8_t ad3, uint8_t ad2, uint8_t ad1, uint8_t ad0);
 
@@ -240,6 +256,11 @@ static inline uint8_t gunwaleish_answer(uint32_t packed, unsigned place) {
 /* The byte out of what gunwaleish_image_read gave. */
 static inline uint8_t gunwaleish_register(uint32_t packed) {
     return (uint8_t)(packed >> 8 & 0xff);
+}
+
+/* Out of what gunwaleish_list_orders gave. */
+static inline size_t gunwaleish_listed(uint64_t packed) {
+    return (size_t)(packed >> 8);
 }
 
 /* The code of pin AD3, AD2, AD1 or AD0, out of what gunwaleish_pins_of gave. There are no other pins. */

@@ -100,17 +100,18 @@ pub fn orders_of_every_length(figures: &mut Figures) {
     }
 }
 
-/// Every limit and every room about it, for the two scripts of an order sheet (#106).
-pub fn every_limit_of_orders(figures: &mut Figures) {
+/// Limits and rooms about none, half and all of the orders that the two scripts of an order sheet have
+/// (#106).
+pub fn limits_of_orders(figures: &mut Figures) {
     let script = |m: u8| -> Vec<u8> {
         [[0, m, 3, 0], [1, m, 1, 0], [3, m, 0, 0], [0, m, 1, 0], [1, m, 5, 0], [3, m, 0, 0]]
             .concat()
     };
     let scripts = [script(0), script(1)];
-    for limit in 0..=930 {
-        figures.orders(&scripts, limit, limit);
-    }
-    for room in 0..=926 {
-        figures.orders(&scripts, usize::MAX, room);
+    for about in (0..4).chain(460..465).chain(920..928) {
+        for room in [about, about + 1, usize::saturating_sub(about, 1)] {
+            figures.orders(&scripts, about, room);
+        }
+        figures.orders(&scripts, usize::MAX, about);
     }
 }

@@ -6,7 +6,7 @@ use std::io::Write;
 use compare::fixed::*;
 use compare::imaging::{images_byte_by_byte, images_of_every_length};
 use compare::ordering::{sheets_one_by_one, sheets_side_by_side};
-use compare::starting::{every_limit_of_orders, orders_of_every_length};
+use compare::starting::{limits_of_orders, orders_of_every_length};
 use compare::{clock_seed, round, seed_or, Figures};
 use model::traces::seed_of;
 
@@ -110,6 +110,6 @@ fn start_up_scripts_of_every_length() {
 }
 
 #[test]
-fn every_limit_of_their_orders() {
-    check_all(every_limit_of_orders);
+fn limits_of_their_orders() {
+    check_all(limits_of_orders);
 }

@@ -130,10 +130,12 @@ fn replay(names: [&str; 2], endings: &[Ending]) -> String {
     let Some(ending) = stuck.or(endings.first()).filter(|_| endings.len() > 1) else {
         return String::new();
     };
+    let word = |name| if name == files::name_of("-".as_ref()) { "-" } else { name };
+    let [script0, script1] = names.map(word);
     format!(
         "\nA 0 is the next event of script 0, a 1 the next one of script 1. Event by event:\n    \
-         gunwaleish orders {} {} --order {} | gunwaleish explain\n",
-        names[0], names[1], ending.pattern
+         gunwaleish orders {script0} {script1} --order {} | gunwaleish explain\n",
+        ending.pattern
     )
 }
 

@@ -1,0 +1,220 @@
+//! `gunwaleish orders` as people call it: the samples of `traces/orders/` with what is said of each,
+//! exit codes, and files in and out.
+
+use std::collections::BTreeSet;
+use std::fs;
+use std::path::{Path, PathBuf};
+use std::process::{Command, Output};
+
+const TOOL: &str = env!("CARGO_BIN_EXE_gunwaleish");
+/// The tool's place in what people read.
+const BUILT: &str = "target/rust/release/gunwaleish";
+const START: [&str; 2] = ["traces/orders/start0.script", "traces/orders/start1.script"];
+
+fn root() -> PathBuf {
+    Path::new(env!("CARGO_MANIFEST_DIR")).join("../..")
+}
+
+/// Runs the tool at the repository's root.
+fn run(arguments: &[&str]) -> Output {
+    Command::new(TOOL).args(arguments).current_dir(root()).output().unwrap()
+}
+
+/// Runs a line of a shell there, with the tool that was built for the test.
+fn shell(line: &str) -> Output {
+    let line = line.replace(BUILT, TOOL);
+    Command::new("sh").args(["-c", &line]).current_dir(root()).output().unwrap()
+}
+
+fn code(output: &Output) -> i32 {
+    output.status.code().unwrap()
+}
+
+fn said(output: &Output) -> String {
+    String::from_utf8(output.stderr.clone()).unwrap()
+}
+
+fn text(path: &str) -> String {
+    fs::read_to_string(root().join(path)).unwrap()
+}
+
+/// A folder of a test's own, taken away when the test is over.
+struct Folder(PathBuf);
+
+impl Folder {
+    fn new(name: &str) -> Folder {
+        let path = std::env::temp_dir().join(format!("gunwaleish-{name}-{}", std::process::id()));
+        fs::create_dir_all(&path).unwrap();
+        Folder(path)
+    }
+
+    fn path(&self, name: &str) -> String {
+        self.0.join(name).to_str().unwrap().to_string()
+    }
+}
+
+impl Drop for Folder {
+    fn drop(&mut self) {
+        let _ = fs::remove_dir_all(&self.0);
+    }
+}
+
+/// Each command of the samples' page, what it says word for word, and its exit code, which the line
+/// before it names.
+#[test]
+fn the_samples_say_what_their_page_has() {
+    let page = text("traces/orders/README.md");
+    let command = format!("\n    {BUILT} orders ");
+    let mut parts = page.split(&command);
+    let mut before = parts.next().unwrap();
+    let mut ran = 0;
+    for part in parts {
+        let (line, rest) = part.split_once("\n\n```\n").unwrap();
+        let (expected, _) = rest.split_once("```\n").unwrap();
+        let output = shell(&format!("{{ {BUILT} orders {line}; }} 2>&1"));
+        let found = String::from_utf8(output.stdout.clone()).unwrap();
+        assert!(found == expected, "traces/orders/README.md: {BUILT} orders {line} says\n{found}");
+        let named = format!("The exit code is {}.\n", code(&output));
+        assert!(before.ends_with(&named), "{line}: {named}");
+        before = part;
+        ran += 1;
+    }
+    assert_eq!(ran, 4);
+}
+
+/// The two start-up scripts are those of the order sheets, the others lack a STOP, and the page has
+/// every one of them.
+#[test]
+fn the_samples_are_what_their_page_says() {
+    let page = text("traces/orders/README.md");
+    let folder = Folder::new("start-up");
+    let made = format!("    {BUILT} sheet ");
+    let lines: Vec<&str> = page.lines().filter(|line| line.starts_with(&made)).collect();
+    assert_eq!(lines.len(), 2);
+    for line in lines {
+        let here = folder.path("");
+        assert_eq!(code(&shell(&line.replace("traces/orders/", &here))), 0, "{line}");
+    }
+    for name in ["start0.script", "start1.script"] {
+        let again = fs::read_to_string(folder.path(name)).unwrap();
+        assert_eq!(again, text(&format!("traces/orders/{name}")), "{name}");
+    }
+    let whole = text(START[1]);
+    for (name, at) in [("start1-no-first-stop", 4), ("start1-no-last-stop", 7)] {
+        let found = text(&format!("traces/orders/{name}.script"));
+        let events = found.lines().filter(|line| !line.starts_with('#'));
+        let without = whole.lines().enumerate().filter(|(place, _)| *place != at);
+        assert_eq!(whole.lines().nth(at), Some("stop 1"));
+        assert!(events.eq(without.map(|(_, line)| line)), "{name}");
+    }
+    let entries = fs::read_dir(root().join("traces/orders")).unwrap();
+    for name in entries.map(|entry| entry.unwrap().file_name().into_string().unwrap()) {
+        assert!(name == "README.md" || page.contains(&format!("| `{name}` | ")), "{name}");
+    }
+}
+
+/// The commands that the person who packages is told, in their order. Outputs under target/ go to a
+/// folder of the test's own, and are read from there.
+#[test]
+fn the_packagers_commands_work() {
+    let folder = Folder::new("packager");
+    let page = text("docs/ORDERS.md");
+    let lines = page.lines().filter(|line| line.starts_with(&format!("    {BUILT} ")));
+    let mut ran = 0;
+    for line in lines {
+        let here = folder.path("");
+        let line = line.replace(" target/start", &format!(" {here}/start"));
+        let output = shell(&line);
+        assert_eq!(code(&output), 0, "{line}: {}", said(&output));
+        ran += 1;
+    }
+    assert!(ran >= 4, "{ran}");
+}
+
+/// What the page says of the samples is what the tool says.
+#[test]
+fn the_packagers_page_has_the_tools_words() {
+    let page = text("docs/ORDERS.md");
+    let told = String::from_utf8(run(&["orders", START[0], START[1]]).stdout).unwrap();
+    let lines: BTreeSet<&str> = told.lines().filter(|line| line.starts_with("in ")).collect();
+    assert_eq!(lines.len(), 2);
+    for line in lines {
+        assert!(page.contains(&format!("{line}\n")), "docs/ORDERS.md lacks: {line}");
+    }
+}
+
+#[test]
+fn exit_codes_are_for_scripts() {
+    let forgotten = "traces/orders/start1-no-last-stop.script";
+    let good = run(&["orders", START[0], START[1]]);
+    assert_eq!((code(&good), said(&good).as_str()), (0, ""));
+    let stuck = run(&["orders", START[0], forgotten]);
+    assert_eq!((code(&stuck), stuck.stdout.is_empty()), (1, false));
+    assert!(said(&stuck)
+        .ends_with("in 126 of 462 orders nobody owns the bus, though it is asked for\n"));
+    let each = run(&["orders", START[0], forgotten, "--all"]);
+    assert_eq!((code(&each), said(&each)), (1, said(&stuck)));
+    // One order is written also where nobody owns at its end.
+    let one = run(&["orders", START[0], forgotten, "--order", "00001111100"]);
+    assert_eq!((code(&one), one.stdout.len()), (0, 7 + 44 + 2));
+    let none = run(&["orders", START[0], forgotten, "--order", "0"]);
+    assert_eq!((code(&none), none.stdout.len()), (1, 0));
+    let long = run(&["orders", START[0], "traces/m1.script"]);
+    assert_eq!((code(&long), long.stdout.len()), (1, 0));
+}
+
+#[test]
+fn wrong_use_is_2() {
+    let [a, b] = START;
+    let cases: [(&[&str], &str); 9] = [
+        (&[], "orders needs two files, the script of controller 0 and then that of controller 1"),
+        (&[a], "and has 1"),
+        (&[a, b, b], "and has 3"),
+        (&["-", "-"], "standard input cannot be both scripts"),
+        (&[a, "no-such.script"], "no-such.script cannot be read"),
+        (&[a, b, "--order"], "--order needs 1 after it, and has 0"),
+        (&[a, b, "--order", "01", "--all"], "--all and --order are both there"),
+        (&[a, b, "--script"], "--script needs --order"),
+        (&[a, b, "-o", b], "traces/orders/start1.script is an input, and is not written over"),
+    ];
+    for (arguments, expected) in cases {
+        let output = run(&[&["orders"], arguments].concat());
+        assert_eq!((code(&output), output.stdout.len()), (2, 0), "{arguments:?}");
+        assert!(said(&output).contains(expected), "{arguments:?}: {}", said(&output));
+    }
+    let sheet = ["sheet", "sheets/board.sheet", "sheets/house.sheet", "--address", "71", "--part"];
+    for (words, expected) in [
+        (&["PCA9641", "--controller", "0"][..], "--controller needs --script"),
+        (&["PCA9641", "--script", "--controller", "2"], "'2' is no controller, 0 or 1"),
+    ] {
+        let output = run(&[&sheet[..], words].concat());
+        assert_eq!(code(&output), 2);
+        assert!(said(&output).contains(expected), "{}", said(&output));
+    }
+}
+
+/// Into a named file, into a folder under script 0's name, and a script out of standard input.
+#[test]
+fn outputs_go_where_they_should() {
+    let folder = Folder::new("orders");
+    let to = folder.0.to_str().unwrap();
+    let [a, b] = START;
+    let words = run(&["orders", a, b]).stdout;
+    for options in [
+        &["-o", to][..],
+        &["--order", "000000111111", "-o", to],
+        &["--order", "000000111111", "--script", "-o", to],
+    ] {
+        let output = run(&[&["orders", a, b], options].concat());
+        assert_eq!((code(&output), output.stdout.len()), (0, 0), "{}", said(&output));
+    }
+    assert_eq!(fs::read(folder.path("start0.txt")).unwrap(), words);
+    assert_eq!(fs::read(folder.path("start0.trace")).unwrap().len(), 7 + 48 + 2);
+    let script = fs::read_to_string(folder.path("start0.script")).unwrap();
+    // The first order is the one that the order sheets have.
+    let sheet = "sheet sheets/board.sheet sheets/house.sheet --address 71 --part PCA9641 --script";
+    assert_eq!(script, String::from_utf8(shell(&format!("{BUILT} {sheet}")).stdout).unwrap());
+    let output = shell(&format!("{BUILT} orders - {b} < {a}"));
+    let found = String::from_utf8(output.stdout).unwrap();
+    assert!(found.starts_with("924 orders of 6 events (standard input) and 6 events ("), "{found}");
+}
