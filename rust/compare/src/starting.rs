@@ -101,7 +101,8 @@ pub fn orders_of_every_length(figures: &mut Figures) {
 }
 
 /// Limits and rooms about none, half and all of the orders that the two scripts of an order sheet have
-/// (#106).
+/// (#106); and two scripts whose orders tell the part: on a TPT29641 written bytes roll past register 7
+/// to CONTR.
 pub fn limits_of_orders(figures: &mut Figures) {
     let script = |m: u8| -> Vec<u8> {
         [[0, m, 3, 0], [1, m, 1, 0], [3, m, 0, 0], [0, m, 1, 0], [1, m, 5, 0], [3, m, 0, 0]]
@@ -114,4 +115,8 @@ pub fn limits_of_orders(figures: &mut Figures) {
         }
         figures.orders(&scripts, usize::MAX, about);
     }
+    let rolls = |m: u8| -> Vec<u8> {
+        [[0, m, 0x87, 0], [1, m, 1, 0], [1, m, 1, 0], [1, m, 1, 0], [3, m, 0, 0]].concat()
+    };
+    figures.orders(&[rolls(0), rolls(1)], usize::MAX, 252);
 }

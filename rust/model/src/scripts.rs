@@ -5,6 +5,7 @@ use crate::device::*;
 use crate::event::make::*;
 use crate::happenings::Happenings;
 use crate::orders::*;
+use crate::part::Kind;
 use crate::phrases::{Bytes, Phrase};
 use crate::rng::Rng;
 use crate::trace::four;
@@ -38,14 +39,16 @@ fn good_script(rng: &mut Rng, m: u8) -> Vec<u8> {
 /// What a script goes on with.
 fn phrase(rng: &mut Rng, m: u8) -> Phrase {
     let any = [rng.byte() % 12, rng.byte() % 3, rng.byte(), 0];
-    match rng.below(10) {
+    match rng.below(11) {
         0..=2 => start_up(rng, m),
         3 => vec![command(m, 1), write(m, contr(rng)), stop(m), tick()],
         // A PAIR counts where both ports are open for writing.
         4..=5 => vec![command(m, 1), pair(contr(rng), contr(rng)), stop(m)],
         6 => vec![command(m, 1), write(m, contr(rng) | BUS_INIT | BUS_CONNECT), stop(m), pulse(1)],
         7 => vec![command(m, 1), write(m, LOCK_REQ | SMBUS_SWRST), general_call(m, 6), tick()],
-        8 => vec![rng.pick(&[tick(), reset(), read(m), stop(m), lines(1, 0, 1), lines(1, 1, 1)])],
+        // On a TPT29641, and on that alone, the third byte comes to CONTR.
+        8 => vec![command(m, 0x87), write(m, 0), write(m, 0), write(m, contr(rng)), stop(m)],
+        9 => vec![rng.pick(&[tick(), reset(), read(m), stop(m), lines(1, 0, 1), lines(1, 1, 1)])],
         _ => vec![rng.pick(&[any, command(m, 8), write(m, 1), pulse(0), general_call(m, 7)])],
     }
 }
@@ -118,6 +121,7 @@ pub const ORDER_SIGHTS: &[&str] = &[
     "order that ends with a request and no owner",
     "orders that end differently",
     "event refused in one order and not in another",
+    "order that ends otherwise on a TPT29641",
 ];
 
 impl Happenings {
@@ -175,6 +179,10 @@ impl Happenings {
         let of_first = refused_in(&scripts, &[vec![0; lengths[0]], vec![1; lengths[1]]].concat());
         let of_last = refused_in(&scripts, &[vec![1; lengths[1]], vec![0; lengths[0]]].concat());
         self.note(of_first != of_last, "event refused in one order and not in another");
+        let mut other = Device::power_up_of(Kind::Tpt29641);
+        let first = scripts.concat().into_iter().map(|event| other.step(event)).last();
+        let otherwise = first.is_some_and(|answer| answer[2] != bytes[0]);
+        self.note(otherwise, "order that ends otherwise on a TPT29641");
     }
 }
 
