@@ -132,9 +132,12 @@ impl Scripts {
 
     /// Why each that waits does so, where nobody owns the bus: a sentence each.
     fn why(&self, ending: &Ending) -> Result<Vec<String>, Refusal> {
+        if !ending.is_stuck() {
+            return Ok(vec![]);
+        }
         let story = follow(&self.trace(&ending.pattern)?)?;
         let waiting = Master::BOTH.into_iter().filter(|m| ending.waits[*m as usize]);
-        let last = story.steps.last().filter(|_| ending.is_stuck());
+        let last = story.steps.last();
         let why = |m| Some(format!("controller {m} waits: {}", why_it_waits(last?, m, 0)));
         Ok(waiting.filter_map(why).collect())
     }
