@@ -1,0 +1,19 @@
+-- What each public call of `routing` promises leaves room for one result.
+-- Assumes nothing.
+use Rattle.arbiter.proofs.Once.{OneResult, once}
+use Rattle.routing.proofs.start.Reads as start
+use Rattle.routing.proofs.see.Reads as see
+use Rattle.routing.proofs.plan_of.Reads as plan-of
+use Rattle.routing.proofs.visit.Reads as visit
+
+pub start-once : OneResult start.Post
+start-once κ a x y s t p q = once p q
+
+pub see-once : OneResult see.Post
+see-once κ a x y s t p q = once p q
+
+pub plan-of-once : OneResult plan-of.Post
+plan-of-once κ a x y s t p q = once p q
+
+pub visit-once : OneResult visit.Post
+visit-once κ a x y s t p q = once p q

@@ -1,0 +1,42 @@
+-- `routing::see` meets its contract.
+-- Assumes nothing.
+use borrow.Author.Needs.{needs}
+use borrow.Author.Tests.{le-ltb, lt-ltb}
+use Rattle.routing.specs.Deciding.{seeOf}
+use Rattle.routing.proofs.see.Statement.{statement}
+use Rattle.routing.proofs.see.Tie as tie
+
+cast-at : tie.Need-cast-at
+cast-at c = search needs
+
+is-among-requires : tie.Need-is-among-requires
+is-among-requires c κs = search needs
+
+first-at-requires : tie.Need-first-at-requires
+first-at-requires c κs = search needs
+
+array-write-addresses : tie.Need-array-write-addresses
+array-write-addresses c = search needs
+
+add-t17 : tie.Need-add-t17
+add-t17 c = search needs
+
+returns : tie.Need-returns
+unfolding seeOf
+returns c = simp (← c .first-at .ensures, ← c .before .before .before .is-among .ensures, lt-ltb _ _ (c .before .before .before .before .if1 .taken))
+
+returns-2 : tie.Need-returns-2
+unfolding seeOf
+returns-2 c = simp (le-ltb _ _ (c .if1 .left))
+
+pub see-spec : {M : Type 1} → statement M
+see-spec =
+    tie.close
+    (tie.spec
+    cast-at
+    is-among-requires
+    first-at-requires
+    array-write-addresses
+    add-t17
+    returns
+    returns-2)

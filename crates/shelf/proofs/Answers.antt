@@ -1,0 +1,25 @@
+-- All that specs/Answers.antt states: the one term that fills the record.
+-- Assumes nothing.
+use Rattle.shelf.specs.Answers.{Answers}
+use Rattle.shelf.proofs.Rows.{keeps-addresses, others-same, reached-steps, answer-alone, refused-same}
+use Rattle.shelf.proofs.Found.{reached-in-row, unknown-changes-none}
+use Rattle.shelf.proofs.Places.{at-place, answer-at-place, every-run-at-place, one-connected-at-place, later-at-place, reserve-lasts-at-place, partner-in-time-at-place}
+
+pub answers : Answers
+answers =
+    record {
+      keepsAddresses = keeps-addresses;
+      othersSame = others-same;
+      reachedSteps = reached-steps;
+      answerAlone = answer-alone;
+      refusedSame = refused-same;
+      reachedInRow = reached-in-row;
+      unknownChangesNone = unknown-changes-none;
+      atPlace = at-place;
+      answerAtPlace = answer-at-place;
+      everyRunAtPlace = every-run-at-place;
+      oneConnectedAtPlace = one-connected-at-place;
+      laterAtPlace = later-at-place;
+      reserveLastsAtPlace = reserve-lasts-at-place;
+      partnerInTimeAtPlace = partner-in-time-at-place;
+    }

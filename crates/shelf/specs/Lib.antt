@@ -1,0 +1,4 @@
+pub mod Names
+pub mod Shelf
+pub mod Runs
+pub mod Answers
