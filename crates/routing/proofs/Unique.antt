@@ -3,6 +3,7 @@
 use Rattle.arbiter.proofs.Once.{OneResult, once}
 use Rattle.routing.proofs.start.Reads as start
 use Rattle.routing.proofs.see.Reads as see
+use Rattle.routing.proofs.see_record.Reads as see-record
 use Rattle.routing.proofs.plan_of.Reads as plan-of
 use Rattle.routing.proofs.visit.Reads as visit
 
@@ -11,6 +12,9 @@ start-once κ a x y s t p q = once p q
 
 pub see-once : OneResult see.Post
 see-once κ a x y s t p q = once p q
+
+pub see-record-once : OneResult see-record.Post
+see-record-once κ a x y s t p q = once p q
 
 pub plan-of-once : OneResult plan-of.Post
 plan-of-once κ a x y s t p q = once p q

@@ -10,7 +10,7 @@ use shelf::Fault;
 use shelf::Naming;
 use shelf::Reach;
 use shelf::Record;
-use step::step_device;
+use traces::run_one;
 
 // What is known of a row after some records: the name that is looked for and its place, how many records there are (17 for any more than
 // 16), their addresses, and whether two of these are equal.
@@ -81,21 +81,22 @@ fn first_at(place: Reach, hit: bool, n: u8) -> Reach
     }
 }
 
-pub fn see(s: Seen, c: Record) -> Seen
-    ensures { λ r. ⌜ r ≡ seeOf s (c .address) ⌝ }
+// One more record, with this address.
+pub fn see(s: Seen, address: u8) -> Seen
+    ensures { λ r. ⌜ r ≡ seeOf s address ⌝ }
 {
     let n = s.count;
     let at = n as usize;
-    let a = c.address;
     let mut addresses = s.addresses;
     if at < 16 {
-        let equal = s.equal | is_among(addresses, at, a);
+        let equal = s.equal | is_among(addresses, at, address);
         let before = s.place;
-        let place = first_at(before, a == s.name, n);
-        addresses[at] = a;
+        let place = first_at(before, address == s.name, n);
+        addresses[at] = address;
+        let count = n + 1;
         Seen {
             name: s.name,
-            count: n + 1,
+            count,
             equal,
             place,
             addresses,
@@ -110,6 +111,12 @@ pub fn see(s: Seen, c: Record) -> Seen
             addresses,
         }
     }
+}
+
+pub fn see_record(s: Seen, c: Record) -> Seen
+    ensures { λ r. ⌜ r ≡ seeOf s (c .address) ⌝ }
+{
+    see(s, c.address)
 }
 
 fn naming_of(kind: u8) -> Naming
@@ -239,7 +246,7 @@ pub fn visit(c: Record, t: Task) -> Visited
 {
     let before = c.device;
     let event = t.event;
-    let s = step_device(before, event);
+    let s = run_one(before, event);
     let device = s.device;
     let answer = first_answer(t.told, t.answer, s.answer);
     Visited {

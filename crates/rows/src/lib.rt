@@ -12,7 +12,7 @@ use routing::Plan;
 use routing::Seen;
 use routing::Task;
 use routing::plan_of;
-use routing::see;
+use routing::see_record;
 use routing::start;
 use routing::visit;
 use shelf::Record;
@@ -24,7 +24,7 @@ pub fn survey(row: &[Record], name: u8) -> Seen
     let mut s = start(name);
     let mut i: usize = 0;
     while i < row.len() {
-        s = see(s, row[i]);
+        s = see_record(s, row[i]);
         i = i + 1;
     }
     s

@@ -18,8 +18,8 @@ first-at-requires c κs = search needs
 array-write-addresses : tie.Need-array-write-addresses
 array-write-addresses c = search needs
 
-add-t17 : tie.Need-add-t17
-add-t17 c = search needs
+add-count : tie.Need-add-count
+add-count c = search needs
 
 returns : tie.Need-returns
 unfolding seeOf
@@ -37,6 +37,6 @@ see-spec =
     is-among-requires
     first-at-requires
     array-write-addresses
-    add-t17
+    add-count
     returns
     returns-2)

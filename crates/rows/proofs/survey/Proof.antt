@@ -1,5 +1,5 @@
 -- `rows::survey` meets its contract: a walk of its MIR, by hand, with a loop that carries what is known along. The shared slice is looked into once, before the loop, and let go once, after it.
--- All that the proof knows of `start` and `see` is that they meet their contracts. No field of a record is named here.
+-- All that the proof knows of `start` and `see_record` is that they meet their contracts. No field of a record is named here.
 -- Assumes nothing.
 use mathlib.Core.Path.{_≡_, refl, sym, _∙_, ap, subst}
 use mathlib.Core.Bool.{Bool, true, false}
@@ -61,10 +61,10 @@ use Rattle.routing.proofs.start as st
 use Rattle.routing.proofs.start.Symbol as st-def
 use Rattle.routing.proofs.start.Symbol.{name as #st}
 use Rattle.routing.proofs.start.Met as st-thm
-use Rattle.routing.proofs.see as se
-use Rattle.routing.proofs.see.Symbol as se-def
-use Rattle.routing.proofs.see.Symbol.{name as #se}
-use Rattle.routing.proofs.see.Met as se-thm
+use Rattle.routing.proofs.see_record as se
+use Rattle.routing.proofs.see_record.Symbol as se-def
+use Rattle.routing.proofs.see_record.Symbol.{name as #se}
+use Rattle.routing.proofs.see_record.Met as se-thm
 use Rattle.rows.proofs.survey.Key.{name as #self}
 use Rattle.rows.proofs.survey as self
 use Rattle.rows.proofs.survey.Statement as stated
@@ -321,4 +321,4 @@ survey-spec 𝓤 H 𝓜 𝓖 𝓡 =
     (tables 𝓤 H 𝓜 𝓡 code.env .C) (tables 𝓤 H 𝓜 𝓡 code.env .Λ) #self code.function (code.unfolded 𝓤 H 𝓜 𝓡)
     (self-meets 𝓤 H (𝓖 .A) (givenOf 𝓤 H 𝓜 𝓖) (𝓜 .mem) (𝓡 .run) (tablesOf 𝓤 H 𝓜 (tables 𝓤 H 𝓜 𝓡 code.env))
     (cited 𝓤 H (St 𝓤 H (𝓖 .A) (𝓜 .mem) (𝓡 .run)) 𝓜 𝓡 code.env #st st-def.routine code.calls-routing·start (st-thm.met 𝓤 H 𝓜 𝓖 𝓡))
-    (cited 𝓤 H (Se 𝓤 H (𝓖 .A) (𝓜 .mem) (𝓡 .run)) 𝓜 𝓡 code.env #se se-def.routine code.calls-routing·see (se-thm.met 𝓤 H 𝓜 𝓖 𝓡)))
+    (cited 𝓤 H (Se 𝓤 H (𝓖 .A) (𝓜 .mem) (𝓡 .run)) 𝓜 𝓡 code.env #se se-def.routine code.calls-routing·see-record (se-thm.met 𝓤 H 𝓜 𝓖 𝓡)))
