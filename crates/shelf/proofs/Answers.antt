@@ -3,6 +3,7 @@
 use Rattle.shelf.specs.Answers.{Answers}
 use Rattle.shelf.proofs.Rows.{keeps-addresses, others-same, reached-steps, answer-alone, refused-same}
 use Rattle.shelf.proofs.Found.{reached-in-row, unknown-changes-none}
+use Rattle.shelf.proofs.Shown.{shown-at-place}
 use Rattle.shelf.proofs.Places.{at-place, answer-at-place, every-run-at-place, one-connected-at-place, later-at-place, reserve-lasts-at-place, partner-in-time-at-place}
 
 pub answers : Answers
@@ -15,6 +16,7 @@ answers =
       refusedSame = refused-same;
       reachedInRow = reached-in-row;
       unknownChangesNone = unknown-changes-none;
+      shownAtPlace = shown-at-place;
       atPlace = at-place;
       answerAtPlace = answer-at-place;
       everyRunAtPlace = every-run-at-place;

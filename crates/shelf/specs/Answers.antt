@@ -1,7 +1,7 @@
 -- Request #110: what is proved of every shelf, in one record. proofs/Answers.antt fills it with one term, so that a lost proof fails the
 -- check.
 -- Assumes nothing.
-use Rattle.shelf.specs.Runs.{KeepsAddresses, OthersSame, ReachedSteps, AnswerAlone, RefusedSame, ReachedInRow, UnknownChangesNone, AtPlace, AnswerAtPlace, EveryRunAtPlace, OneConnectedAtPlace, LaterAtPlace, ReserveLastsAtPlace, PartnerInTimeAtPlace}
+use Rattle.shelf.specs.Runs.{KeepsAddresses, OthersSame, ReachedSteps, AnswerAlone, RefusedSame, ReachedInRow, UnknownChangesNone, ShownAtPlace, AtPlace, AnswerAtPlace, EveryRunAtPlace, OneConnectedAtPlace, LaterAtPlace, ReserveLastsAtPlace, PartnerInTimeAtPlace}
 
 pub record Answers : Type 1 where
   pub keepsAddresses : KeepsAddresses
@@ -11,6 +11,7 @@ pub record Answers : Type 1 where
   pub refusedSame : RefusedSame
   pub reachedInRow : ReachedInRow
   pub unknownChangesNone : UnknownChangesNone
+  pub shownAtPlace : ShownAtPlace
   pub atPlace : AtPlace
   pub answerAtPlace : AnswerAtPlace
   pub everyRunAtPlace : EveryRunAtPlace

@@ -8,12 +8,12 @@ use Rattle.arbiter.specs.Words.{partner}
 use Rattle.arbiter.specs.State.{owns, connected, isIdle}
 use Rattle.arbiter.specs.Events.{decode, decodedNumber}
 use Rattle.arbiter.specs.Effects.{powerUp}
-use Rattle.arbiter.specs.Steps.{step, refused, runFrom, run}
+use Rattle.arbiter.specs.Steps.{answer, step, refused, runFrom, run}
 use Rattle.arbiter.specs.AuditWords.{next, requests, resting, reserveOf, reset, tick, withdrawalOf, grantTaken, ticksIn, never}
 use Rattle.arbiter.specs.declared.Master.{Master}
 use Rattle.arbiter.specs.declared.Decoded.the-variants.{UnknownKind}
 use Rattle.shelf.specs.Names.{ℕ, Bool, true, false, List, [], _∷_, _++_, map, eqb, length, getD, if_then_else_, Kind, Pca9641, Device, Raw, Answer, Record, AnAddress, Nothing, Fault, Reach, At, Everyone, Refused}
-use Rattle.shelf.specs.Shelf.{addressesOf, recordAt, deviceAt, naming, reaches, reachesPlace, mostRecords, twoEqual, stepRecord, faultAnswer, shelfRow, shelfAnswer}
+use Rattle.shelf.specs.Shelf.{addressesOf, recordAt, deviceAt, naming, reaches, reachesPlace, mostRecords, twoEqual, stepRecord, faultAnswer, shelfRow, shelfAnswer, shelfShow}
 
 -- ---- one event
 
@@ -60,6 +60,13 @@ UnknownChangesNone =
     (row : List Record) (name : ℕ) (r : Raw) → decode r ≡ UnknownKind → reaches (addressesOf row) name r ≡ Everyone
     → (shelfRow row name r ≡ row) × (shelfAnswer row name r ≡ refused (decodedNumber UnknownKind) (deviceAt row 0) .answer)
 
+-- "An event that reaches all .. answers for place 0, each device then being readable by its place": what is shown after an event of a
+-- device that it reached is that device after its own step.
+abbrev pub ShownAtPlace : Type 0
+ShownAtPlace =
+    (row : List Record) (name : ℕ) (r : Raw) (j : ℕ) → j < length row → reachesPlace j (reaches (addressesOf row) name r) ≡ true
+    → shelfShow (shelfRow row name r) j ≡ answer 0 0 (step (deviceAt row j) r .device)
+
 -- ---- a run of a shelf
 
 -- an event with the number beside it: the address or the place that it names
@@ -76,8 +83,11 @@ pub record Slot : Type 0 where
   pub address : ℕ
   pub kind : Kind
 
+abbrev pub freshAt : ℕ → Kind → Record
+freshAt address kind = record { address = address; device = powerUp kind }
+
 abbrev pub freshRecord : Slot → Record
-freshRecord s = record { address = s .address; device = powerUp (s .kind) }
+freshRecord s = freshAt (s .address) (s .kind)
 
 -- all devices after power-up
 abbrev pub freshRow : List Slot → List Record

@@ -3,7 +3,7 @@
 -- Assumes nothing.
 use mathlib.Core.Path.{_≡_}
 use Rattle.arbiter.specs.Effects.{powerUp}
-use Rattle.arbiter.specs.Steps.{step}
+use Rattle.arbiter.specs.Steps.{step, answer}
 use Rattle.shelf.specs.Names.{ℕ, suc, Bool, true, false, _||_, List, [], _∷_, map, eqb, ltb, length, getD, set, if_then_else_, Pca9641, Device, Raw, Answer, Record, Naming, AnAddress, APlace, Nothing, Fault, EmptyRow, TooMany, EqualAddresses, NotInRow, Reach, At, Everyone, Refused}
 
 -- ---- the row
@@ -19,7 +19,7 @@ addressesOf row = map (λ (c : Record). c .address) row
 unfoldable pub noRecord : Record
 noRecord = record { address = 0; device = powerUp Pca9641 }
 
--- "readable by its place"; places count from 0
+-- places count from 0
 abbrev pub recordAt : List Record → ℕ → Record
 recordAt row i = getD row i noRecord
 
@@ -61,12 +61,15 @@ reachBy APlace name roll = if ltb name (length roll) then At name else Refused N
 reachBy Nothing name roll = Everyone
 
 -- "Refusals, before 01's own: 17 two equal addresses, 18 an address or place not in the row, 6 above 16, 5 an empty row; order 5, 6, 17, 18"
-unfoldable pub reaches : List ℕ → ℕ → Raw → Reach
-reaches roll name r =
+abbrev pub reachOf : Naming → ℕ → List ℕ → Reach
+reachOf n name roll =
     if eqb (length roll) 0 then Refused EmptyRow
     else if ltb mostRecords (length roll) then Refused TooMany
     else if twoEqual roll then Refused EqualAddresses
-    else reachBy (naming (r .kind)) name roll
+    else reachBy n name roll
+
+unfoldable pub reaches : List ℕ → ℕ → Raw → Reach
+reaches roll name r = reachOf (naming (r .kind)) name roll
 
 abbrev pub faultNumber : Fault → ℕ
 faultNumber EmptyRow = 5
@@ -110,3 +113,23 @@ shelfAnswer row name r = answerAfter (reaches (addressesOf row) name r) r row
 -- what the call leaves: the row after it, and its answer
 abbrev pub ShelfStepped : List Record → ℕ → Raw → List Record → Answer → Type 0
 ShelfStepped before name r after a = (after ≡ shelfRow before name r) × (a ≡ shelfAnswer before name r)
+
+-- the raw events that say no more than their kind: "tick all, reset all" (document 01)
+abbrev pub tickRaw : Raw
+tickRaw = record { kind = 6; x = 0; y = 0; z = 0 }
+
+abbrev pub resetRaw : Raw
+resetRaw = record { kind = 8; x = 0; y = 0; z = 0 }
+
+-- ---- a device shown by its place
+
+-- "each device then being readable by its place": outcome 0, no byte read, and owner and lines as they stand. A name that is a place never
+-- reaches everyone.
+abbrev pub showBy : Reach → List Record → Answer
+showBy (At i) row = answer 0 0 (deviceAt row i)
+showBy Everyone row = answer 0 0 (deviceAt row 0)
+showBy (Refused f) row = faultAnswer f
+
+-- refused like an event that names this place; no record changes
+unfoldable pub shelfShow : List Record → ℕ → Answer
+shelfShow row place = showBy (reachOf APlace place (addressesOf row)) row
