@@ -20,10 +20,10 @@ use Rattle.shelf.specs.declared.Fault.{Fault}
 use Rattle.shelf.specs.declared.Fault.the-variants.{EmptyRow, TooMany, EqualAddresses, NotInRow}
 use Rattle.shelf.specs.declared.Reach.{Reach}
 use Rattle.shelf.specs.declared.Reach.the-variants.{At, Everyone, Refused}
-use Rattle.shelf.specs.Shelf.{addressesOf, recordAt, naming, isIn, twoEqual, further, placeOf, reachBy, reaches}
+use Rattle.shelf.specs.Shelf.{addressesOf, recordAt, naming, isIn, twoEqual, further, placeOf, reachBy, reachOf, reaches}
 use Rattle.shelf.proofs.Rows.{addresses-length}
 use Rattle.routing.specs.declared.Seen.{Seen}
-use Rattle.routing.specs.Deciding.{startOf, amongFirst, firstAt, seeOf, seenTo, seenOf, placeBelow, namedIn, reachIn}
+use Rattle.routing.specs.Deciding.{startOf, amongFirst, firstAt, seeOf, seenTo, seenOf, placeBelow, namedIn, reachFor, reachIn}
 
 -- ---- one address more at the end
 
@@ -214,34 +214,38 @@ named-is APlace name s p t =
     ∙ ap (λ (n : ℕ). if ltb name n then At name else Refused NotInRow) (t .counted)
 named-is Nothing name s p t = refl
 
-tells-reach : (name : ℕ) (r : Raw) (s : Seen) (p : List ℕ) → Tells name s p → reachIn s (r .kind) ≡ reaches p name r
-unfolding reachIn reaches
-tells-reach name r s p t =
-    ap (λ (n : ℕ). if eqb n 0 then Refused EmptyRow else if ltb 16 n then Refused TooMany else if s .equal then Refused EqualAddresses else namedIn (naming (r .kind)) s) (t .counted)
-    ∙ ap (λ (b : Bool). past (if b then Refused EqualAddresses else namedIn (naming (r .kind)) s)) (t .equals)
-    ∙ ap (λ (w : Reach). past (if twoEqual p then Refused EqualAddresses else w)) (named-is (naming (r .kind)) name s p t)
+tells-reach : (n : Naming) (name : ℕ) (s : Seen) (p : List ℕ) → Tells name s p → reachFor s n ≡ reachOf n name p
+unfolding reachFor
+tells-reach n name s p t =
+    ap (λ (k : ℕ). if eqb k 0 then Refused EmptyRow else if ltb 16 k then Refused TooMany else if s .equal then Refused EqualAddresses else namedIn n s) (t .counted)
+    ∙ ap (λ (b : Bool). past (if b then Refused EqualAddresses else namedIn n s)) (t .equals)
+    ∙ ap (λ (w : Reach). past (if twoEqual p then Refused EqualAddresses else w)) (named-is n name s p t)
   where
     past : Reach → Reach
     past w = if eqb (length p) 0 then Refused EmptyRow else if ltb 16 (length p) then Refused TooMany else w
 
-too-many : (name : ℕ) (r : Raw) (s : Seen) (p : List ℕ) → s .count ≡ 17 → 16 < length p → reachIn s (r .kind) ≡ reaches p name r
-unfolding reachIn reaches
-too-many name r s p e h =
-    ap (λ (n : ℕ). if eqb n 0 then Refused EmptyRow else if ltb 16 n then Refused TooMany else if s .equal then Refused EqualAddresses else namedIn (naming (r .kind)) s) e
+too-many : (n : Naming) (name : ℕ) (s : Seen) (p : List ℕ) → s .count ≡ 17 → 16 < length p → reachFor s n ≡ reachOf n name p
+unfolding reachFor
+too-many n name s p e h =
+    ap (λ (k : ℕ). if eqb k 0 then Refused EmptyRow else if ltb 16 k then Refused TooMany else if s .equal then Refused EqualAddresses else namedIn n s) e
     ∙ sym (if-false (Refused EmptyRow) _ (ne-eqb (length p) 0 (λ z. omega arith)) ∙ if-true (Refused TooMany) _ (lt-ltb 16 (length p) h))
 
-pub reach-is : (name : ℕ) (r : Raw) (row : List Record) → reachIn (seenOf name row) (r .kind) ≡ reaches (addressesOf row) name r
+pub reach-for-is : (n : Naming) (name : ℕ) (row : List Record) → reachFor (seenOf name row) n ≡ reachOf n name (addressesOf row)
 unfolding seenOf
-reach-is name r row = split (ltb 16 (length row))
+reach-for-is n name row = split (ltb 16 (length row))
     (λ q. let h : 16 < length row = ltb-true 16 (length row) q in
     let e : length row ≡ (length row - 17) + 17 = omega arith in
-    too-many name r (seenTo (length row) name row) (addressesOf row)
-    (ap (λ (n : ℕ). (seenTo n name row) .count) e ∙ above (length row - 17) name row (omega arith))
-    (subst (λ (n : ℕ). 16 < n) (sym (addresses-length row)) h))
-    (λ q. tells-reach name r (seenTo (length row) name row) (addressesOf row)
+    too-many n name (seenTo (length row) name row) (addressesOf row)
+    (ap (λ (k : ℕ). (seenTo k name row) .count) e ∙ above (length row - 17) name row (omega arith))
+    (subst (λ (k : ℕ). 16 < k) (sym (addresses-length row)) h))
+    (λ q. tells-reach n name (seenTo (length row) name row) (addressesOf row)
     (subst (λ (p : List ℕ). Tells name (seenTo (length row) name row) p)
-    (ap (λ (n : ℕ). take n (addressesOf row)) (sym (addresses-length row)) ∙ take-length (addressesOf row))
+    (ap (λ (k : ℕ). take k (addressesOf row)) (sym (addresses-length row)) ∙ take-length (addressesOf row))
     (tells-to (length row) name row (omega arith) (ltb-false 16 (length row) q))))
+
+pub reach-is : (name : ℕ) (r : Raw) (row : List Record) → reachIn (seenOf name row) (r .kind) ≡ reaches (addressesOf row) name r
+unfolding reachIn reaches
+reach-is name r row = reach-for-is (naming (r .kind)) name row
 
 -- how many there are, where they are not too many
 pub count-is : (name : ℕ) (row : List Record) → length row ≤ 16 → (seenOf name row) .count ≡ length row
@@ -249,3 +253,9 @@ unfolding seenOf
 count-is name row h =
     tells-to (length row) name row (omega arith) h .counted
     ∙ length-take-le (length row) (addressesOf row) (subst (λ (n : ℕ). length row ≤ n) (sym (addresses-length row)) (omega arith))
+
+-- what is known of the first i of them, where they are not too many: the name, and that there are i
+pub seen-at : (i name : ℕ) (row : List Record) → i ≤ length row → i ≤ 16 → ((seenTo i name row) .name ≡ name) × ((seenTo i name row) .count ≡ i)
+seen-at i name row h k =
+    let t = tells-to i name row h k in
+    (t .named, t .counted ∙ length-take-le i (addressesOf row) (subst (λ (n : ℕ). i ≤ n) (sym (addresses-length row)) h))

@@ -71,12 +71,15 @@ namedIn AnAddress s = s .place
 namedIn APlace s = placeBelow (s .name) (s .count)
 namedIn Nothing s = Everyone
 
-unfoldable pub reachIn : Seen → ℕ → Reach
-reachIn s kind =
+unfoldable pub reachFor : Seen → Naming → Reach
+reachFor s n =
     if eqb (s .count) 0 then Refused EmptyRow
     else if ltb 16 (s .count) then Refused TooMany
     else if s .equal then Refused EqualAddresses
-    else namedIn (naming kind) s
+    else namedIn n s
+
+unfoldable pub reachIn : Seen → ℕ → Reach
+reachIn s kind = reachFor s (naming kind)
 
 -- ---- what is to be done
 

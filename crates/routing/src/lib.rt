@@ -3,7 +3,7 @@
 ghost use mathlib.Core.Path.{_≡_};
 ghost use Prim.Native.Nat.{_≤_};
 ghost use Rattle.shelf.specs.Shelf.{naming, faultNumber, faultAnswer};
-ghost use Rattle.routing.specs.Deciding.{startOf, amongFirst, firstAt, seeOf, placeBelow, namedIn, reachIn, noAnswer, planWith, planBy, planOf, firstAnswer, visitOf};
+ghost use Rattle.routing.specs.Deciding.{startOf, amongFirst, firstAt, seeOf, placeBelow, namedIn, reachFor, reachIn, noAnswer, planWith, planBy, planOf, firstAnswer, visitOf};
 use arbiter::Answer;
 use arbiter::Raw;
 use shelf::Fault;
@@ -153,9 +153,9 @@ fn named_in(n: Naming, s: Seen) -> Reach
     }
 }
 
-// The refusals of the shelf, in their order, or whom the event reaches.
-fn reach_in(s: Seen, kind: u8) -> Reach
-    ensures { λ r. ⌜ r ≡ reachIn s kind ⌝ }
+// The refusals of the shelf, in their order, or whom the name reaches.
+pub fn reach_for(s: Seen, n: Naming) -> Reach
+    ensures { λ r. ⌜ r ≡ reachFor s n ⌝ }
 {
     if s.count == 0 {
         Reach::Refused(Fault::EmptyRow)
@@ -164,8 +164,14 @@ fn reach_in(s: Seen, kind: u8) -> Reach
     } else if s.equal {
         Reach::Refused(Fault::EqualAddresses)
     } else {
-        named_in(naming_of(kind), s)
+        named_in(n, s)
     }
+}
+
+fn reach_in(s: Seen, kind: u8) -> Reach
+    ensures { λ r. ⌜ r ≡ reachIn s kind ⌝ }
+{
+    reach_for(s, naming_of(kind))
 }
 
 // ---- what is to be done
@@ -181,7 +187,7 @@ fn fault_number(f: Fault) -> u8
     }
 }
 
-fn fault_answer(f: Fault) -> Answer
+pub fn fault_answer(f: Fault) -> Answer
     ensures { λ r. ⌜ r ≡ faultAnswer f ⌝ }
 {
     Answer {
@@ -216,7 +222,7 @@ fn plan_by(w: Reach, count: u8, r: Raw) -> Plan
     }
 }
 
-fn no_answer() -> Answer
+pub fn no_answer() -> Answer
     ensures { λ r. ⌜ r ≡ noAnswer ⌝ }
 {
     Answer {

@@ -1,7 +1,6 @@
 -- `routing::reach_in` meets its contract.
 -- Assumes nothing.
 use borrow.Author.Needs.{needs}
-use borrow.Author.Tests.{eq-eqb, le-ltb, lt-ltb, ne-eqb}
 use Rattle.routing.specs.Deciding.{reachIn}
 use Rattle.routing.proofs.reach_in.Statement.{statement}
 use Rattle.routing.proofs.reach_in.Tie as tie
@@ -9,32 +8,12 @@ use Rattle.routing.proofs.reach_in.Tie as tie
 naming-of-requires : tie.Need-naming-of-requires
 naming-of-requires c κs = search needs
 
-named-in-requires : tie.Need-named-in-requires
-named-in-requires c κs = search needs
+reach-for-requires : tie.Need-reach-for-requires
+reach-for-requires c κs = search needs
 
 returns : tie.Need-returns
 unfolding reachIn
-returns c = simp (eq-eqb _ _ (c .if1 .taken))
-
-returns-2 : tie.Need-returns-2
-unfolding reachIn
-returns-2 c = simp (lt-ltb _ _ (c .if2 .taken), ne-eqb _ _ (c .before .before .if1 .left))
-
-returns-3 : tie.Need-returns-3
-unfolding reachIn
-returns-3 c = simp (c .if3 .taken, le-ltb _ _ (c .before .if2 .left), ne-eqb _ _ (c .before .before .before .if1 .left))
-
-returns-4 : tie.Need-returns-4
-unfolding reachIn
-returns-4 c =
-    simp (
-      ← c .named-in .ensures,
-      ← c .before .naming-of .ensures,
-      c .before .before .if3 .left,
-      le-ltb _ _ (c .before .before .before .if2 .left),
-      ne-eqb _ _ (c .before .before .before .before .before .if1 .left),
-    )
+returns c = simp (c .reach-for .ensures, c .before .naming-of .ensures)
 
 pub reach-in-spec : {M : Type 1} → statement M
-reach-in-spec =
-    tie.close (tie.spec naming-of-requires named-in-requires returns returns-2 returns-3 returns-4)
+reach-in-spec = tie.close (tie.spec naming-of-requires reach-for-requires returns)
