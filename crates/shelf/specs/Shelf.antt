@@ -114,12 +114,15 @@ shelfAnswer row name r = answerAfter (reaches (addressesOf row) name r) r row
 abbrev pub ShelfStepped : List Record → ℕ → Raw → List Record → Answer → Type 0
 ShelfStepped before name r after a = (after ≡ shelfRow before name r) × (a ≡ shelfAnswer before name r)
 
--- the raw events that say no more than their kind: "tick all, reset all" (document 01)
+-- an event of these four bytes; and those of "tick all, reset all" (document 01)
+abbrev pub rawOf : ℕ → ℕ → ℕ → ℕ → Raw
+rawOf kind x y z = record { kind = kind; x = x; y = y; z = z }
+
 abbrev pub tickRaw : Raw
-tickRaw = record { kind = 6; x = 0; y = 0; z = 0 }
+tickRaw = rawOf 6 0 0 0
 
 abbrev pub resetRaw : Raw
-resetRaw = record { kind = 8; x = 0; y = 0; z = 0 }
+resetRaw = rawOf 8 0 0 0
 
 -- ---- a device shown by its place
 

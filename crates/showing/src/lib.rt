@@ -1,0 +1,91 @@
+// A shelf's device shown by its place, on plain values: what is known of a row once it has been looked at, and what it shows. The crate `rows`
+// goes through the row.
+ghost use mathlib.Core.Path.{_≡_};
+ghost use Rattle.arbiter.specs.Steps.{answer};
+ghost use Rattle.showing.specs.Showing.{lookStart, shownHere, lookOf, shownWith, shownOf};
+use arbiter::Answer;
+use arbiter::Device;
+use arbiter::Raw;
+use routing::Seen;
+use routing::fault_answer;
+use routing::no_answer;
+use routing::reach_for;
+use routing::see_record;
+use routing::start;
+use shelf::Naming;
+use shelf::Reach;
+use shelf::Record;
+use traces::run_one;
+
+// What is known of a row after some records, its name a place, and what the device at that place shows once it has been met.
+pub struct Looked {
+    pub seen: Seen,
+    pub answer: Answer,
+}
+
+// A device as it stands: outcome 0 and no byte read. An event of unknown kind changes nothing, and its answer has the owner and the lines.
+pub fn show_device(d: Device) -> Answer
+    ensures { λ r. ⌜ r ≡ answer 0 0 d ⌝ }
+{
+    let s = run_one(
+        d,
+        Raw {
+            kind: 255,
+            x: 0,
+            y: 0,
+            z: 0,
+        },
+    );
+    let a = s.answer;
+    Answer {
+        outcome: 0,
+        read: 0,
+        owner: a.owner,
+        lines: a.lines,
+    }
+}
+
+pub fn look_start(place: u8) -> Looked
+    ensures { λ r. ⌜ r ≡ lookStart place ⌝ }
+{
+    Looked {
+        seen: start(place),
+        answer: no_answer(),
+    }
+}
+
+fn shown_here(here: bool, d: Device, before: Answer) -> Answer
+    ensures { λ r. ⌜ r ≡ shownHere here d before ⌝ }
+{
+    if here { show_device(d) } else { before }
+}
+
+// One more record. It is shown if its place is the one that is looked for.
+pub fn look(s: Looked, c: Record) -> Looked
+    ensures { λ r. ⌜ r ≡ lookOf s c ⌝ }
+{
+    let before = s.seen;
+    let device = c.device;
+    let answer = shown_here(before.count == before.name, device, s.answer);
+    let seen = see_record(before, c);
+    Looked { seen, answer }
+}
+
+fn shown_with(w: Reach, a: Answer) -> Answer
+    ensures { λ r. ⌜ r ≡ shownWith w a ⌝ }
+{
+    match w {
+        Reach::At(_) => a,
+        Reach::Everyone => a,
+        Reach::Refused(f) => fault_answer(f),
+    }
+}
+
+// What the whole row shows: a refusal of the shelf, or the device.
+pub fn shown(s: Looked) -> Answer
+    ensures { λ r. ⌜ r ≡ shownOf s ⌝ }
+{
+    let w = reach_for(s.seen, Naming::APlace);
+    let a = s.answer;
+    shown_with(w, a)
+}
