@@ -2,4 +2,5 @@ pub mod Rows
 pub mod Found
 pub mod Places
 pub mod Shown
+pub mod Examples
 pub mod Answers

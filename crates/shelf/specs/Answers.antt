@@ -2,6 +2,7 @@
 -- check.
 -- Assumes nothing.
 use Rattle.shelf.specs.Runs.{KeepsAddresses, OthersSame, ReachedSteps, AnswerAlone, RefusedSame, ReachedInRow, UnknownChangesNone, ShownAtPlace, AtPlace, AnswerAtPlace, EveryRunAtPlace, OneConnectedAtPlace, LaterAtPlace, ReserveLastsAtPlace, PartnerInTimeAtPlace}
+use Rattle.shelf.specs.Examples.{ExamplesHold}
 
 pub record Answers : Type 1 where
   pub keepsAddresses : KeepsAddresses
@@ -19,3 +20,4 @@ pub record Answers : Type 1 where
   pub laterAtPlace : LaterAtPlace
   pub reserveLastsAtPlace : ReserveLastsAtPlace
   pub partnerInTimeAtPlace : PartnerInTimeAtPlace
+  pub examplesHold : ExamplesHold

@@ -1,4 +1,5 @@
 pub mod Names
 pub mod Shelf
 pub mod Runs
+pub mod Examples
 pub mod Answers

@@ -1,0 +1,21 @@
+-- Every row of the table of specs/Examples.antt holds: antt computes each, and finds what the request says.
+-- Assumes nothing.
+use mathlib.Core.Path.{refl}
+use Rattle.arbiter.specs.Rules.{rulesOf}
+use Rattle.arbiter.specs.Words.{byteOf}
+use Rattle.arbiter.specs.Registers.{contrByte, statusByte, registerByte, isAsserted, ownWritten, mailWritten, drivesWritten, turnWritten}
+use Rattle.arbiter.specs.Events.{decode, inSequence, acknowledged, outcome}
+use Rattle.arbiter.specs.Effects.{commanded, written, paired, wasRead, lined, ticked, freshSide, wasReset, powerUp, effect}
+use Rattle.arbiter.specs.Order.{levels, lost, lossesFrom, losses, cutFrom, cut, winner, claim, granted, grantFrom, grant, joined, clocked, keptJoined, connectFrom, connect}
+use Rattle.arbiter.specs.Steps.{parts, ownerByte, linesByte, byteRead, refused, taken, stepEvent, stepDecoded, step}
+use Rattle.shelf.specs.Shelf.{noRecord, naming, reaches, stepRecord, shelfRow, shelfAnswer, shelfShow}
+use Rattle.shelf.specs.Runs.{shelfRun}
+use Rattle.shelf.specs.Examples.{examples, ExamplesHold}
+
+pub examples-hold : ExamplesHold
+unfolding rulesOf byteOf contrByte statusByte registerByte isAsserted ownWritten mailWritten drivesWritten turnWritten
+    decode inSequence acknowledged outcome commanded written paired wasRead lined ticked freshSide wasReset powerUp effect
+    levels lost lossesFrom losses cutFrom cut winner claim granted grantFrom grant joined clocked keptJoined connectFrom connect
+    parts ownerByte linesByte byteRead refused taken stepEvent stepDecoded step
+    noRecord naming reaches stepRecord shelfRow shelfAnswer shelfShow shelfRun examples
+examples-hold = refl
