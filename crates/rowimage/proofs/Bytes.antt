@@ -21,6 +21,7 @@ use Rattle.layout.proofs.Back.{read-back, laid-out-back}
 use Rattle.shelf.specs.declared.Record.{Record}
 use Rattle.shelf.specs.Shelf.{recordAt, deviceAt}
 use Rattle.rowimage.specs.Row.{recordBytes, recordCount, bytesOfRecord, bytesOfRow, imageIn, recordIn, recordsTo, recordsIn, imagesFit, rowNumber, isRow}
+use Rattle.rowimage.specs.Walk.{imagePlace, withImage}
 use Rattle.rowimage.specs.Laws.{rowInRange, RowReadBack, RowLaidOutBack}
 
 -- ---- one record
@@ -150,10 +151,6 @@ images-more (suc k) b =
 
 -- ---- the image at a place of a row's bytes, and another in its stead
 
--- where it stands: after the address of its record
-abbrev pub imagePlace : ℕ → ℕ
-imagePlace i = recordBytes * i + 1
-
 further-place : (c : Record) (i : ℕ) → imagePlace (suc i) ≡ length (bytesOfRecord c) + imagePlace i
 further-place c i = let h = record-long c in omega (arith, h)
 
@@ -165,10 +162,6 @@ image-at (c ∷ row) (suc i) h =
     ap (λ (n : ℕ). take imageLength (drop n (bytesOfRecord c ++ bytesOfRow row))) (further-place c i)
     ∙ ap (λ (l : List ℕ). take imageLength l) (drop-append-add (bytesOfRecord c) (bytesOfRow row) (imagePlace i))
     ∙ image-at row i (omega arith)
-
--- the bytes with those of this image from the place on
-abbrev pub withImage : ℕ → List ℕ → List ℕ → List ℕ
-withImage i image b = take (imagePlace i) b ++ (image ++ drop imageLength (drop (imagePlace i) b))
 
 pub image-put : (row : List Record) (i : ℕ) (c : Record) → i < length row → c .address ≡ recordAt row i .address
     → withImage i (imageOf (c .device)) (bytesOfRow row) ≡ bytesOfRow (set row i c)

@@ -22,7 +22,8 @@ use Rattle.shelf.specs.Shelf.{addressesOf, noRecord, recordAt, deviceAt, reache
 use Rattle.shelf.specs.Runs.{Named, shelfRun, Slot, freshRow, shelfAfter}
 use Rattle.shelf.proofs.Rows.{refused-same}
 use Rattle.rowimage.specs.Row.{bytesOfRow, recordsIn, isRow}
-use Rattle.rowimage.specs.Calls.{rowAnswer, rowBuffer, slotsIn, freshRowNumber, freshRowBuffer}
+use Rattle.rowimage.specs.Calls.{rowAnswer, rowBuffer}
+use Rattle.rowimage.specs.Slots.{slotCount, slotsTo, rowOfSlots, freshRowNumber, freshRowBuffer}
 use Rattle.rowimage.specs.Laws.{rowInRange, RowStays, RowRefused, FreshRowGood, rowRun, namedBytes, RowsAlike}
 use Rattle.rowimage.proofs.Bytes.{row-read-back, row-laid-out-back}
 
@@ -92,10 +93,10 @@ fresh-fits [] = refl
 fresh-fits (s ∷ slots) = and-eq-true-iff (inRange (powerUp (s .kind))) (rowInRange (freshRow slots)) .1 (power-up-fits (s .kind), fresh-fits slots)
 
 pub fresh-row-good : FreshRowGood
-unfolding freshRowBuffer
+unfolding freshRowBuffer rowOfSlots
 fresh-row-good slots b h =
-    subst (λ (l : List ℕ). (isRow l ≡ true) × (recordsIn l ≡ freshRow (slotsIn slots))) (sym (if-true _ _ (eq-eqb (freshRowNumber slots b) 0 h)))
-    (row-read-back (freshRow (slotsIn slots)) (fresh-fits (slotsIn slots)))
+    subst (λ (l : List ℕ). (isRow l ≡ true) × (recordsIn l ≡ rowOfSlots slots)) (sym (if-true _ _ (eq-eqb (freshRowNumber slots b) 0 h)))
+    (row-read-back (rowOfSlots slots) (fresh-fits (slotsTo (slotCount slots) slots)))
 
 from-alike : (row : List Record) (es : List Named) → rowInRange row ≡ true → namedBytes es ≡ true
     → (rowRun (bytesOfRow row) es ≡ bytesOfRow (shelfRun row es)) × (rowInRange (shelfRun row es) ≡ true)

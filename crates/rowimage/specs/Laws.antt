@@ -13,7 +13,8 @@ use Rattle.shelf.specs.declared.Reach.the-variants.{Refused}
 use Rattle.shelf.specs.Shelf.{addressesOf, reaches, faultAnswer, shelfRow, shelfAnswer}
 use Rattle.shelf.specs.Runs.{Named, Slot, freshRow, shelfAfter}
 use Rattle.rowimage.specs.Row.{bytesOfRow, recordsIn, isRow}
-use Rattle.rowimage.specs.Calls.{rowAnswer, rowBuffer, slotsIn, freshRowNumber, freshRowBuffer}
+use Rattle.rowimage.specs.Calls.{rowAnswer, rowBuffer}
+use Rattle.rowimage.specs.Slots.{rowOfSlots, freshRowNumber, freshRowBuffer}
 
 -- every device of the row has its fields in range
 unfoldable pub rowInRange : List Record → Bool
@@ -50,7 +51,7 @@ RowRefused =
 abbrev pub FreshRowGood : Type 0
 FreshRowGood =
     (slots b : List ℕ) → freshRowNumber slots b ≡ 0
-    → (isRow (freshRowBuffer slots b) ≡ true) × (recordsIn (freshRowBuffer slots b) ≡ freshRow (slotsIn slots))
+    → (isRow (freshRowBuffer slots b) ≡ true) × (recordsIn (freshRowBuffer slots b) ≡ rowOfSlots slots)
 
 -- events one after the other on a buffer
 unfoldable pub rowRun : List ℕ → List Named → List ℕ

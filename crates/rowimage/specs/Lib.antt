@@ -1,3 +1,5 @@
 pub mod Row
 pub mod Calls
+pub mod Slots
 pub mod Laws
+pub mod Walk
