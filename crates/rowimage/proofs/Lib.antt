@@ -1,3 +1,6 @@
 pub mod Bytes
 pub mod Laws
 pub mod Walks
+pub mod Showing
+pub mod Fresh
+pub mod Unique

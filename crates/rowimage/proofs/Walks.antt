@@ -142,7 +142,7 @@ module _ (b : List ℕ) (good : isRow b ≡ true) where
   carry-none from task =
       let none : 0 ≡ from - from = omega arith in (
         sym (row-laid-out-back b good .1) ∙ ap (λ (s : List Record × Task). bytesOfRow (s .0)) (sym (sweep-none from (row, task)))
-        ∙ ap (λ (k : ℕ). bytesOfRow (sweepOf from k (row, task) .0)) none,
+            ∙ ap (λ (k : ℕ). bytesOfRow (sweepOf from k (row, task) .0)) none,
         ap (λ (s : List Record × Task). s .1) (sym (sweep-none from (row, task))) ∙ ap (λ (k : ℕ). sweepOf from k (row, task) .1) none,
       )
 

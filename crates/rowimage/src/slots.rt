@@ -2,13 +2,13 @@
 ghost use Prim.Native.Nat.{_+_, _*_, _≤_};
 ghost use mathlib.Core.Path.{_≡_};
 ghost use mathlib.Core.Bool.{true};
-ghost use mathlib.Core.List.{_++_};
-ghost use lib.ListN.{length, take, drop};
-ghost use Rattle.arbiter.specs.Traces.{isKind, kindOf};
+ghost use lib.ListN.{length, drop};
+ghost use Rattle.layout.specs.Images.{freshAfter};
 ghost use Rattle.routing.specs.Deciding.{seenOf};
-ghost use Rattle.shelf.specs.Runs.{freshRow, freshRecord};
-ghost use Rattle.rowimage.specs.Row.{recordBytes, bytesOfRecord, bytesOfRow};
+ghost use Rattle.shelf.specs.Runs.{freshRow};
+ghost use Rattle.rowimage.specs.Row.{recordBytes, bytesOfRow, imageIn};
 ghost use Rattle.rowimage.specs.Slots.{slotBytes, slotsTo, kindsKnown, rowOfSlots, kindsNumber, slotsNumber, isLaidFor, freshRowNumber, freshRowBuffer};
+ghost use Rattle.rowimage.specs.Walk.{withImage};
 use crate::RECORD_BYTES;
 use format::is_kind;
 use imaging::fresh_image;
@@ -89,14 +89,12 @@ fn is_laid_for(slots: usize, row: usize) -> bool
 
 // ---- the row
 
-// The record at a place: its address, and a fresh image of this kind.
-fn put_slot(row: &mut [u8], i: usize, address: u8, kind: u8)
-    requires { ⌜ (recordBytes * i + recordBytes ≤ length (now row)) × (isKind kind ≡ true) ⌝ }
-    ensures { λ _. ⌜ now (row .exit) ≡ take (recordBytes * i) (now (row .entry)) ++ (bytesOfRecord (freshRecord (record { address = address; kind = kindOf kind })) ++ drop (recordBytes * i + recordBytes) (now (row .entry))) ⌝ }
+// The image of a fresh device of this kind at a place.
+fn put_fresh(row: &mut [u8], i: usize, kind: u8)
+    requires { ⌜ recordBytes * i + recordBytes ≤ length (now row) ⌝ }
+    ensures { λ _. ⌜ now (row .exit) ≡ withImage i (freshAfter kind (imageIn (drop (recordBytes * i) (now (row .entry))))) (now (row .entry)) ⌝ }
 {
-    let at = RECORD_BYTES * i;
-    row[at] = address;
-    let from = at + 1;
+    let from = RECORD_BYTES * i + 1;
     let end = from + IMAGE_LENGTH;
     fresh_image(kind, &mut row[from..end]);
 }
@@ -107,10 +105,10 @@ fn put_slots(slots: &[u8], row: &mut [u8], n: usize)
 {
     let mut i: usize = 0;
     while i < n {
-        let at = SLOT_BYTES * i;
-        let address = slots[at];
-        let kind = slots[at + 1];
-        put_slot(row, i, address, kind);
+        let slot = SLOT_BYTES * i;
+        put_fresh(row, i, slots[slot + 1]);
+        let at = RECORD_BYTES * i;
+        row[at] = slots[slot];
         i += 1;
     }
 }

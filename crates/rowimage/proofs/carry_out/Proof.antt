@@ -49,8 +49,8 @@ loop-again c =
     let place : start .args .p .from ≤ at .loop .i = inv .0 in
     let inside : at .loop .i < recordCount (start .args .row .now) = omega arith in
     let next =
-        carry-again (start .args .row .now) (start .pre .0) (start .args .p .from) (at .loop .i) (start .args .p .task) place inside
-        _ _ _ _ _ (inv .3) (inv .4) (put .step-place .ensures .0) (put .step-place .ensures .1) (c .told-by .ensures)
+    carry-again (start .args .row .now) (start .pre .0) (start .args .p .from) (at .loop .i) (start .args .p .task) place inside
+    _ _ _ _ _ (inv .3) (inv .4) (put .step-place .ensures .0) (put .step-place .ensures .1) (c .told-by .ensures)
     in
     (omega arith, omega arith, put .step-place .kept .0 ∙ inv .2, next .0, next .1)
 
