@@ -15,7 +15,7 @@ use crate::second_part::Rolled;
 pub use crate::kinds::kinds_of;
 
 /// The kinds of event, by number.
-const EVENT_NAMES: [&str; 10] =
+pub(crate) const EVENT_NAMES: [&str; 10] =
     ["COMMAND", "WRITE", "READ", "STOP", "PAIR", "LINES", "TICK", "PULSE", "RESET", "GENERAL CALL"];
 
 #[derive(Default)]

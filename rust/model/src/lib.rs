@@ -21,12 +21,14 @@
 //! - `sheet`: the order sheet (document 02, #106).
 //! - `image`, `image_fields`: the device as 38 bytes, and a step on them (document 02, #108).
 //! - `orders`: all orders of two start-up scripts (document 02, #109).
+//! - `shelf`, `row`: several devices with addresses, as records and as bytes (document 02, #110).
 //! - `rng`, `phrases`, `waits`, `traces`, `damage`: random cases for the tests.
 //! - `happenings`, `hanging`, `second_part`, `grounds`, `kinds`: what happens in them.
 //! - `pen`, `captures`, `capture_damage`, `sightings`: random captures, and what is seen in them.
 //! - `sheets`: random order sheets, and what is seen in them.
 //! - `images`: random images, good and damaged, and what is seen in them.
 //! - `scripts`: random pairs of start-up scripts, and what is seen in their orders.
+//! - `shelves`, `shelf_sights`: random shelves and runs on them, and what is seen in them.
 //! - `stored`: the traces that the repository keeps as one set.
 
 pub mod bytes;
@@ -50,10 +52,14 @@ pub mod part;
 pub mod pen;
 pub mod phrases;
 pub mod rng;
+pub mod row;
 pub mod scripts;
 pub mod second_part;
 pub mod sheet;
 pub mod sheets;
+pub mod shelf;
+pub mod shelf_sights;
+pub mod shelves;
 pub mod sightings;
 pub mod step;
 pub mod stored;
@@ -69,7 +75,9 @@ pub use device::{Device, Switch};
 pub use image::{image_fresh, image_of, image_read, image_step, read_image};
 pub use orders::{list_orders, Listed};
 pub use part::Kind;
+pub use row::{read_row, row_of, shelf_fresh, shelf_show, shelf_step};
 pub use sheet::{look_up, sheet_events};
+pub use shelf::{Record, Shelf};
 pub use straps::{address_of, pins_of};
 pub use trace::{listing, read_trace, run_trace, Trace, TraceResult};
 pub use writer::{write_trace, Written};
