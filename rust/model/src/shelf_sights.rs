@@ -51,7 +51,7 @@ const SIGHTS: &[&str] = &[
     "16 where two addresses are equal",
     "16 above 16 records",
     "16 where the name is not in the row",
-    "16 where the event is of unknown kind",
+    "16 in a row where the event is of unknown kind",
     // The shelf's own refusals, and their order.
     "5 for an event that reaches all",
     "5 for an event that names something",
@@ -143,7 +143,7 @@ impl Happenings {
             Naming::Place => Some(usize::from(name)).filter(|place| *place <= last),
             Naming::All => return,
             Naming::Nothing => {
-                return self.note(true, "16 where the event is of unknown kind");
+                return self.note(true, "16 in a row where the event is of unknown kind");
             }
         };
         self.note(named.is_none(), "16 where the name is not in the row");
