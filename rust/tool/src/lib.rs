@@ -1,11 +1,12 @@
 //! The tool that people run: a subcommand reads traces (or scripts, or captures) and writes one
 //! thing of each, or reads two order sheets and says what they order, or tries two start-up scripts in
-//! all their orders.
+//! all their orders, or runs a script over a shelf of several devices.
 //!
 //! Every answer comes from the proved library. What is here is words and pictures: `story` follows
 //! a run and says what changed, `order` says what is on two sheets, `startup` how the orders of two
-//! scripts end, `commands` has a file for each subcommand, and `arguments`, `files` and `each` are the way from the command line to the files
-//! and back.
+//! scripts end, `shelf` what happens at each place of a shelf, `commands` has a file for each
+//! subcommand, and `arguments`, `files` and `each` are the way from the command line to the files and
+//! back.
 
 pub mod arguments;
 pub mod commands;
@@ -17,6 +18,7 @@ pub mod files;
 pub mod order;
 pub mod picture;
 pub mod script;
+pub mod shelf;
 pub mod startup;
 pub mod story;
 pub mod summary;
@@ -57,8 +59,8 @@ pub fn overview() -> String {
         text.push_str(&format!("  {:<10} {}\n", command.name, command.summary));
     }
     text.push_str(
-        "\nWithout FILE, or with -, standard input is read; sheet needs its two files. -o names the file\n\
-         to write, or a folder that is there; then each output has its input's name. Many files need\n\
+        "\nWithout FILE, or with -, standard input is read; sheet, orders and shelf need two files. -o names\n\
+         the file to write, or a folder that is there; then each output has its input's name. Many files need\n\
          such a folder.\n\
          Controller 0 and controller 1 are document 01's masters 0 and 1.\n\n\
          gunwaleish COMMAND --help tells more, with an example. --version gives the version.\n\n\

@@ -33,6 +33,8 @@ pub const COMMAND: Command = Command {
            The part has no default: a script without one is refused. A TPT29641 differs from a\n\
            PCA9641 in two things: its idle timer ends a grant at 151 idle ticks, not at 101, and its\n\
            write pointer rolls from 7 to 0, where that of a PCA9641 stays at 7.\n\n\
+           The script is for one device, so no event has a name; gunwaleish shelf runs a script with\n\
+           names over several.\n\n\
            If a line cannot be read, nothing is written.",
     options: &[],
     example: "target/rust/release/gunwaleish compose traces/m1.script | cmp - traces/m1.trace",

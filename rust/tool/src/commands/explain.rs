@@ -43,6 +43,19 @@ struct Line {
 }
 
 fn told(name: &str, story: &Story) -> String {
+    format!(
+        "{name}: {} at address {:02X}h, pins {}, {}\n{}\n\n{}",
+        story.part,
+        story.address,
+        story.pins,
+        words::count(story.steps.len(), "event"),
+        words::part(story.part),
+        body(story)
+    )
+}
+
+/// The lines of a run, and its totals.
+pub fn body(story: &Story) -> String {
     let lines = lines(story);
     // As wide as the columns need, but a long event may stick out.
     let width = |cell: fn(&Line) -> &String, head: &str| {
@@ -52,17 +65,9 @@ fn told(name: &str, story: &Story) -> String {
     let came = width(|line| &line.came, "what came");
     let answered = width(|line| &line.answered, "answer");
     let mut text = format!(
-        "{name}: {} at address {:02X}h, pins {}, {}\n{}\n\n",
-        story.part,
-        story.address,
-        story.pins,
-        words::count(story.steps.len(), "event"),
-        words::part(story.part)
-    );
-    text.push_str(&format!(
         "{:>9}  {:>9}  {:came$}  {:answered$}  own con wait int SCL SDA  what changed\n",
         "event", "tick", "what came", "answer"
-    ));
+    );
     for line in &lines {
         let row = format!(
             "{:>9}  {:>9}  {:came$}  {:answered$}  {}  {}",

@@ -9,6 +9,7 @@ pub mod list;
 pub mod orders;
 pub mod picture;
 pub mod sheet;
+pub mod shelf;
 pub mod wave;
 
 use crate::arguments::Arguments;
@@ -33,6 +34,7 @@ const TRACES: &str = "[TRACE...] [-o OUT]";
 pub const COMMANDS: &[Command] = &[
     sheet::COMMAND,
     orders::COMMAND,
+    shelf::COMMAND,
     list::COMMAND,
     explain::COMMAND,
     compose::COMMAND,

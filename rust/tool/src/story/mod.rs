@@ -15,7 +15,7 @@ pub use changes::{Change, GrantEnd, InitialisationEnd};
 pub use part::{idle_limit, write_pointer_rolls};
 pub use written::Written;
 
-use gunwaleish::{Answer, Event, Ground, Master, Part, Pins, Refusal};
+use gunwaleish::{Answer, Event, Ground, Master, Part, Pins, Refusal, Run};
 
 /// What can be seen of the device at one moment. A pair has master 0's first.
 #[derive(Clone, Copy, Debug, PartialEq, Eq)]
@@ -51,7 +51,7 @@ const POWER_UP: Scene = Scene {
 /// One event of a run.
 #[derive(Clone, Debug, PartialEq, Eq)]
 pub struct Step {
-    /// Its place in the trace, from 1.
+    /// Its place in the trace, or in the script of a shelf, from 1.
     pub number: usize,
     /// The ticks that have passed, this one included.
     pub tick: usize,
@@ -99,7 +99,11 @@ impl Story {
 
 /// Runs a trace and follows it.
 pub fn follow(trace: &[u8]) -> Result<Story, Refusal> {
-    let run = gunwaleish::run(trace)?;
+    gunwaleish::run(trace).map(follow_run)
+}
+
+/// Follows a run.
+pub fn follow_run(run: Run) -> Story {
     let hung = hung::flags(&run);
     let mut written = [Written::new(run.part); 2];
     let mut scene = POWER_UP;
@@ -127,7 +131,7 @@ pub fn follow(trace: &[u8]) -> Result<Story, Refusal> {
         steps.push(step);
         scene = now;
     }
-    Ok(Story { address: run.address, pins: run.pins, part: run.part, steps })
+    Story { address: run.address, pins: run.pins, part: run.part, steps }
 }
 
 fn scene_after(

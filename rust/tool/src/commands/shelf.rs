@@ -1,0 +1,97 @@
+//! `shelf`: a script run over a shelf of several devices.
+
+use super::compose::MOST_TEXT;
+use super::Command;
+use crate::arguments::Arguments;
+use crate::each::{output_of, Made};
+use crate::failure::Failure;
+use crate::files::{self, is_standard, Input};
+use crate::script::named::read_named;
+use crate::shelf::file::{self, read_shelf};
+use crate::shelf::{run_over, words, Shelved};
+use crate::words::count;
+
+pub const COMMAND: Command = Command {
+    name: "shelf",
+    summary: "a script run over a shelf of several devices, told device by device",
+    usage: "SHELF SCRIPT [--list] [-o OUT]",
+    help: "A shelf file has a line a device, up to 16, in the order of their places from 0: the address in\n\
+           hex and the part. A script is as gunwaleish compose reads it, but without pins and part,\n\
+           and an event for one device has a name before it:\n\n\
+           at 71 command 0 03     # by its address: command, write, read, stop, pair\n\
+           place 2 lines 1 0 1    # by its place: lines, pulse\n\
+           tick 50                # tick, reset and general reach all devices\n\
+           at 71 raw 00 00 08 00  # raw by its first byte\n\n\
+           The output says how each device stands at the end, and then for each, as gunwaleish explain\n\
+           does, what happens there. An event has its number in the script, of which a device shows\n\
+           those that reach it. --list has each event on a line instead, after its four answer bytes\n\
+           in hex, which are those of the device that it names, or of place 0.\n\n\
+           An event whose address or place is not in the row reaches nobody, and the run goes on\n\
+           (refusal 18). No device (5), more than 16 (6) or two with the same address (17) are no\n\
+           shelf, and nothing is run.\n\n\
+           Exit code: 0 done; 1 the shelf, the script or an event of it is refused: standard error\n\
+           says which and where; 2 wrong use, or a file that cannot be read or written.",
+    options: &[("--list", 0)],
+    example: "target/rust/release/gunwaleish shelf traces/shelf/chassis.shelf traces/shelf/hang.script",
+    run,
+};
+
+fn run(arguments: &Arguments) -> Result<(), Failure> {
+    let [shelf, script] = arguments.files.as_slice() else {
+        let count = arguments.files.len();
+        let what = format!("shelf needs two files, the shelf and then the script, and has {count}");
+        return Err(wrong(&what));
+    };
+    if is_standard(shelf) && is_standard(script) {
+        return Err(wrong("standard input cannot be both the shelf and the script"));
+    }
+    let list = arguments.options.contains_key("--list");
+    let ending = if list { "listing" } else { "txt" };
+    // In a folder the output has the script's name, since one shelf serves many scripts.
+    let inputs = [script.clone(), shelf.clone()];
+    let output = output_of(&inputs, ending, arguments.output.as_deref())?;
+    let read = |path| files::read(path, MOST_TEXT);
+    over(&read(shelf)?, &read(script)?, list).hand_out(output.as_deref())
+}
+
+fn wrong(what: &str) -> Failure {
+    Failure::Wrong(format!("{what}; gunwaleish shelf --help tells more"))
+}
+
+/// The script run over the shelf: in words, or as a list. Events that the shelf refuses are told as a
+/// refusal too.
+pub fn over(shelf: &Input, script: &Input, list: bool) -> Made {
+    let shelved = match run_both(shelf, script) {
+        Ok(shelved) => shelved,
+        Err(why) => return Made::refused(why),
+    };
+    let text = match list {
+        true => words::listed(&shelved),
+        false => words::told([&shelf.name, &script.name], &shelved),
+    };
+    Made { output: Some(text.into()), refused: refused(&script.name, &shelved) }
+}
+
+fn run_both(shelf: &Input, script: &Input) -> Result<Shelved, String> {
+    for input in [shelf, script] {
+        if input.bytes.len() > MOST_TEXT {
+            return Err(format!("{}: the file is longer than 16 MiB", input.name));
+        }
+    }
+    let (slots, last) =
+        read_shelf(&shelf.bytes).map_err(|unread| format!("{}, {unread}", shelf.name))?;
+    let events = read_named(&script.bytes).map_err(|unread| format!("{}, {unread}", script.name))?;
+    run_over(slots.clone(), &events)
+        .map_err(|refusal| format!("{}, {}", shelf.name, file::refused(&slots, last, refusal)))
+}
+
+/// The first event that the shelf refused, and how many more there are.
+fn refused(name: &str, shelved: &Shelved) -> Option<String> {
+    let mut refused = shelved.refused();
+    let (number, named) = refused.next()?;
+    let more = match refused.count() {
+        0 => String::new(),
+        others => format!(" (and {} more)", count(others, "event")),
+    };
+    Some(format!("{name}, line {}, event {number}: {}{more}", named.line, words::why(named)))
+}

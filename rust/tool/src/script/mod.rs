@@ -1,0 +1,144 @@
+//! Scripts: a trace as plain text, one event a line.
+//!
+//! | line | event |
+//! |---|---|
+//! | `pins 0 0 0 1` | the codes of AD3 to AD0; once, before the first event |
+//! | `part PCA9641` | the part, or `part TPT29641`; once, before the first event |
+//! | `command 0 03` | COMMAND of controller 0 with 03h |
+//! | `write 0 32` | WRITE of 32h |
+//! | `read 0`, `stop 0` | READ, STOP |
+//! | `pair 01 81` | PAIR: 01h of controller 0 and 81h of controller 1 |
+//! | `lines 1 0 1` | LINES: SCL, SDA and INT_IN |
+//! | `tick`, `tick 50` | one TICK, fifty of them |
+//! | `pulse 0` | PULSE with this level of SDA |
+//! | `reset` | RESET |
+//! | `general 0 06` | GENERAL CALL of controller 0 with 06h |
+//! | `raw FF 00 00 00` | four bytes as they are |
+//!
+//! Bytes are in hex, the count of ticks is in decimal, and what stands after `#` is a comment. Pins and
+//! part have no default. In a script for a shelf an event has a name before it (`named`).
+
+pub mod named;
+mod words;
+
+pub use words::{each_line, Unread, Words};
+
+use gunwaleish::{Event, Part, Pins, MOST_EVENTS};
+
+/// A script that was read.
+#[derive(Clone, Debug, PartialEq, Eq)]
+pub struct Script {
+    pub pins: Pins,
+    /// Where the pins are.
+    pub pins_line: usize,
+    pub part: Part,
+    /// The events, and of a script with too many only one more than a trace may have.
+    pub events: Vec<Event>,
+    /// Where the first event is that is too many.
+    pub overflow_line: Option<usize>,
+}
+
+const AN_EVENT: &str =
+    "command, write, read, stop, pair, lines, tick, pulse, reset, general, raw, pins or part";
+const PINS_FIRST: &str = "pins before the first event";
+const NO_PINS: &str = "pins, which the script has nowhere";
+const PINS_ONCE: &str = "an event, since the pins are there already";
+const PART_FIRST: &str = "part PCA9641 or part TPT29641 before the first event: a script names its \
+                          part, since a kind left out and read as a default is how the incident came \
+                          about";
+const NO_PART: &str = "part PCA9641 or part TPT29641, which the script has nowhere: a script names its \
+                       part, since a kind left out and read as a default is how the incident came about";
+const PART_ONCE: &str = "an event, since the part is there already";
+const NO_NAME: &str = "an event without a name: this script is for one device, and gunwaleish shelf \
+                       runs one for several";
+
+pub fn read_script(text: &[u8]) -> Result<Script, Unread> {
+    let mut reading = Reading::default();
+    let last = each_line(text, |words| reading.take_line(words))?;
+    let nowhere = |expected| Unread { line: last, word: String::new(), expected };
+    let (pins, pins_line) = reading.pins.ok_or(nowhere(NO_PINS))?;
+    let part = reading.part.ok_or(nowhere(NO_PART))?;
+    let Reading { events, overflow_line, .. } = reading;
+    Ok(Script { pins, pins_line, part, events, overflow_line })
+}
+
+/// What was read so far: the pins with their line, the part, and what a script has besides.
+#[derive(Default)]
+struct Reading {
+    pins: Option<(Pins, usize)>,
+    part: Option<Part>,
+    events: Vec<Event>,
+    overflow_line: Option<usize>,
+}
+
+impl Reading {
+    fn take_line(&mut self, words: &mut Words) -> Result<(), Unread> {
+        let Some(word) = words.word() else {
+            return Ok(());
+        };
+        match word.to_ascii_lowercase().as_str() {
+            "pins" if self.pins.is_some() => Err(words.unread(word, PINS_ONCE)),
+            "pins" => {
+                let codes = [words.byte()?, words.byte()?, words.byte()?, words.byte()?];
+                self.pins = Some((codes.into(), words.line));
+                words.end()
+            }
+            "part" if self.part.is_some() => Err(words.unread(word, PART_ONCE)),
+            "part" => {
+                self.part = Some(words.part()?);
+                words.end()
+            }
+            "at" | "place" => Err(words.unread(word, NO_NAME)),
+            _ => self.take_event(word, words),
+        }
+    }
+
+    fn take_event(&mut self, word: &str, words: &mut Words) -> Result<(), Unread> {
+        let (event, times) = words.events(word, AN_EVENT)?;
+        if self.pins.is_none() {
+            return Err(words.unread(word, PINS_FIRST));
+        }
+        if self.part.is_none() {
+            return Err(words.unread(word, PART_FIRST));
+        }
+        words.end()?;
+        let room = MOST_EVENTS + 1 - self.events.len();
+        self.events.extend(vec![event; times.min(room)]);
+        if self.events.len() > MOST_EVENTS {
+            self.overflow_line.get_or_insert(words.line);
+        }
+        Ok(())
+    }
+}
+
+/// The script of these pins, this part and these events. Reading it gives the same bytes again.
+pub fn write_script(pins: Pins, part: Part, events: &[Event]) -> String {
+    let mut text = format!("pins {pins}\npart {part}\n");
+    let both_ticks = |a: &Event, b: &Event| *a == Event::Tick && *b == Event::Tick;
+    for run in events.chunk_by(both_ticks) {
+        text.push_str(&line_of(run[0], run.len()));
+        text.push('\n');
+    }
+    text
+}
+
+/// The line of an event, or of so many ticks.
+pub fn line_of(event: Event, times: usize) -> String {
+    let level = u8::from;
+    match event {
+        Event::Command { master, code } => format!("command {master} {code:02X}"),
+        Event::Write { master, value } => format!("write {master} {value:02X}"),
+        Event::Read { master } => format!("read {master}"),
+        Event::Stop { master } => format!("stop {master}"),
+        Event::Pair { value0, value1 } => format!("pair {value0:02X} {value1:02X}"),
+        Event::Lines { scl, sda, int_in } => {
+            format!("lines {} {} {}", level(scl), level(sda), level(int_in))
+        }
+        Event::Tick if times == 1 => "tick".to_string(),
+        Event::Tick => format!("tick {times}"),
+        Event::Pulse { sda } => format!("pulse {}", level(sda)),
+        Event::Reset => "reset".to_string(),
+        Event::GeneralCall { master, code } => format!("general {master} {code:02X}"),
+        Event::Raw([a, b, c, d]) => format!("raw {a:02X} {b:02X} {c:02X} {d:02X}"),
+    }
+}

@@ -1,0 +1,85 @@
+//! A shelf with several arbiters, run by one script. Document 02, #110.
+//!
+//! `file` reads the shelf file, and `script::named` the script. The library's shelf answers each event
+//! and says which reach nobody. What happens at one place is the run of the events that reach it, on a
+//! device by itself: so it is proved of the library's shelf. So `story` follows that run, and `words`
+//! tells it.
+
+pub mod file;
+mod row;
+pub mod words;
+
+use gunwaleish::{run, write_trace, Answer, Part, Pins, Refusal};
+
+use crate::script::named::{Name, Named};
+use crate::story::{follow_run, Story};
+use row::Shelf;
+
+/// A place of the row: its address, its part, and its line in the shelf file.
+#[derive(Clone, Copy, Debug, PartialEq, Eq)]
+pub struct Slot {
+    pub address: u8,
+    pub part: Part,
+    pub line: usize,
+}
+
+/// The refusal of an event whose address or place is not in the row.
+pub const NOT_IN_THE_ROW: u8 = 18;
+
+/// A script that was run over a shelf.
+#[derive(Clone, Debug, PartialEq, Eq)]
+pub struct Shelved {
+    pub slots: Vec<Slot>,
+    /// Each event with its answer, which is that of the device that it names, or of place 0.
+    pub answered: Vec<(Named, Answer)>,
+    /// What happens at each place. The events have their numbers in the script.
+    pub stories: Vec<Story>,
+}
+
+impl Shelved {
+    /// The events that the shelf refuses, each with its number in the script.
+    pub fn refused(&self) -> impl Iterator<Item = (usize, &Named)> {
+        let numbered = self.answered.iter().enumerate();
+        let refused = numbered.filter(|(_, (_, answer))| is_refused(answer));
+        refused.map(|(place, (named, _))| (place + 1, named))
+    }
+}
+
+fn is_refused(answer: &Answer) -> bool {
+    answer.outcome.number() == NOT_IN_THE_ROW
+}
+
+/// Runs a script over a shelf of fresh devices.
+pub fn run_over(slots: Vec<Slot>, events: &[Named]) -> Result<Shelved, Refusal> {
+    let row: Vec<(u8, Part)> = slots.iter().map(|slot| (slot.address, slot.part)).collect();
+    let mut shelf = Shelf::new(&row)?;
+    let step = |named: &Named| (*named, shelf.step(named.name.number(), named.event));
+    let answered: Vec<(Named, Answer)> = events.iter().map(step).collect();
+    let stories = (0..slots.len()).map(|place| story_at(place, &slots, &answered));
+    let stories = stories.collect::<Result<_, _>>()?;
+    Ok(Shelved { slots, answered, stories })
+}
+
+/// What happens at a place.
+fn story_at(
+    place: usize,
+    slots: &[Slot],
+    answered: &[(Named, Answer)],
+) -> Result<Story, Refusal> {
+    let slot = slots[place];
+    let here = |name: Name| match name {
+        Name::Address(address) => address == slot.address,
+        Name::Place(number) => usize::from(number) == place,
+        Name::All => true,
+    };
+    let numbered = answered.iter().map(|(named, _)| named).zip(1..);
+    let reached: Vec<_> = numbered.filter(|(named, _)| here(named.name)).collect();
+    let events: Vec<_> = reached.iter().map(|(named, _)| named.event).collect();
+    // The pins bear on no answer, and an address of a shelf need not be one that pins have.
+    let run = run(&write_trace(Pins::default(), slot.part, &events)?)?;
+    let mut story = follow_run(run);
+    for (step, (_, number)) in story.steps.iter_mut().zip(reached) {
+        step.number = number;
+    }
+    Ok(story)
+}

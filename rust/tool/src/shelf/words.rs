@@ -1,0 +1,101 @@
+//! A run over a shelf in words: how each device stands at the end, what reached nobody, and then what
+//! happened at each place.
+
+use gunwaleish::{Answer, Ground, Master};
+
+use super::{Shelved, Slot};
+use crate::commands::explain;
+use crate::script::named::{Name, Named};
+use crate::story::{Scene, Story};
+use crate::words::{count, part};
+
+/// The whole text. The names are those of the shelf file and of the script.
+pub fn told(names: [&str; 2], shelved: &Shelved) -> String {
+    let devices = count(shelved.slots.len(), "device");
+    let events = count(shelved.answered.len(), "event");
+    let mut text = format!("{}: {devices}; {}: {events}\n\n", names[0], names[1]);
+    for (place, slot, story) in places(shelved) {
+        text.push_str(&format!("{}: {}\n", heading(place, slot), at_the_end(story)));
+    }
+    text.push_str(&reached_nobody(shelved));
+    for (place, slot, story) in places(shelved) {
+        text.push_str(&format!(
+            "\n{}: {} of {events} reach it\n{}\n\n{}",
+            heading(place, slot),
+            story.steps.len(),
+            part(slot.part),
+            explain::body(story)
+        ));
+    }
+    text
+}
+
+fn places(shelved: &Shelved) -> impl Iterator<Item = (usize, &Slot, &Story)> {
+    let places = shelved.slots.iter().zip(&shelved.stories).enumerate();
+    places.map(|(place, (slot, story))| (place, slot, story))
+}
+
+fn heading(place: usize, slot: &Slot) -> String {
+    format!("place {place}, address {:02X}h, {}", slot.address, slot.part)
+}
+
+/// How a device stands after the last event that reached it.
+fn at_the_end(story: &Story) -> String {
+    let Some(scene) = story.steps.last().map(|step| step.scene) else {
+        return "no event reaches it".to_string();
+    };
+    let mut said = vec![owner(&scene)];
+    let waits = Master::BOTH.into_iter().filter(|m| scene.waits[*m as usize]);
+    said.extend(waits.map(|m| format!("controller {m} waits")));
+    said.extend(scene.hung.then(|| "the bus is hung".to_string()));
+    said.join("; ")
+}
+
+fn owner(scene: &Scene) -> String {
+    match (scene.owner, scene.connected) {
+        (None, _) => "nobody owns the bus".to_string(),
+        (Some(m), Some(_)) => format!("controller {m} owns the bus and is connected"),
+        (Some(m), None) => format!("controller {m} owns the bus"),
+    }
+}
+
+/// The events that the shelf refused, a line each.
+fn reached_nobody(shelved: &Shelved) -> String {
+    let lines: Vec<String> = shelved
+        .refused()
+        .map(|(number, named)| {
+            format!("    event {number}, line {}, {named}: {}\n", named.line, why(named))
+        })
+        .collect();
+    match lines.is_empty() {
+        true => String::new(),
+        false => format!("\nRefused by the shelf, and changing nothing:\n{}", lines.concat()),
+    }
+}
+
+/// Why the shelf refuses an event.
+pub fn why(named: &Named) -> String {
+    match named.name {
+        Name::Address(address) => format!("refusal 18: no device has address {address:02X}h"),
+        Name::Place(place) => format!("refusal 18: the shelf has no place {place}"),
+        Name::All => "refusal 18: it is not in the row".to_string(),
+    }
+}
+
+/// Each event on a line: its answer as a listing has it, and then the event as a script has it.
+pub fn listed(shelved: &Shelved) -> String {
+    let line = |(named, answer): &(Named, Answer)| format!("{}  {named}\n", digits(answer));
+    shelved.answered.iter().map(line).collect()
+}
+
+/// The four bytes of an answer, in hex.
+fn digits(answer: &Answer) -> String {
+    let who = |master: Option<Master>| master.map_or(0, |m| m.number() + 1);
+    let bits = |flags: &[bool]| flags.iter().rev().fold(0, |byte, &flag| byte << 1 | u8::from(flag));
+    let ground = answer.ground.map_or(0, Ground::number);
+    let initialising = u8::from(answer.initialising);
+    let bus = who(answer.owner) | who(answer.connected) << 2 | initialising << 4 | ground << 5;
+    let lines = bits(&[answer.int0, answer.int1, answer.scl, answer.sda]);
+    let outcome = answer.outcome.number();
+    format!("{outcome:02X}{:02X}{bus:02X}{lines:02X}", answer.byte_read)
+}
