@@ -35,7 +35,8 @@ fn shelved(shelf: &str, script: &str) -> Shelved {
 /// Each kind of event with its name, and again as it is written.
 #[test]
 fn each_kind_has_its_name() {
-    let text = "at 71 command 0 03\nat 71 write 1 32\nat 71 read 0\nat 71 stop 1\nat 71 pair 01 81\n\
+    let text =
+        "at 71 command 0 03\nat 71 write 1 32\nat 71 read 0\nat 71 stop 1\nat 71 pair 01 81\n\
                 place 2 lines 1 0 1\ntick\nreset\nplace 15 pulse 0\ngeneral 1 06\nraw FF 00 00 00\n\
                 at 71 raw 00 00 00 01\nplace 2 raw 07 02 00 00\nraw 06 01 00 00\n";
     let events = read_named(text.as_bytes()).unwrap();
@@ -76,7 +77,10 @@ fn scripts_that_cannot_be_read_are_told() {
         for list in [false, true] {
             let made = made(CHASSIS, script, list);
             let said = made.refused.unwrap();
-            assert!(said.starts_with("a.script, ") && said.contains(expected), "{script:?}: {said}");
+            assert!(
+                said.starts_with("a.script, ") && said.contains(expected),
+                "{script:?}: {said}"
+            );
             assert_eq!(made.output, None);
         }
     }
@@ -86,7 +90,8 @@ fn scripts_that_cannot_be_read_are_told() {
 /// 17, in this order.
 #[test]
 fn shelves_that_are_none_are_told() {
-    let seventeen: String = (0..17).map(|place| format!("{:02X} PCA9641\n", 0x60 + place)).collect();
+    let seventeen: String =
+        (0..17).map(|place| format!("{:02X} PCA9641\n", 0x60 + place)).collect();
     let cases = [
         ("", "a.shelf, line 1: refusal 5: the shelf has no device"),
         ("# none\n\n", "a.shelf, line 3: refusal 5: the shelf has no device"),
@@ -107,19 +112,27 @@ fn shelves_that_are_none_are_told() {
         assert_eq!(made.output, None);
     }
     let sixteen: String = seventeen.lines().take(16).map(|line| format!("{line}\n")).collect();
-    assert_eq!(list(&sixteen, "at 6F stop 0\nplace 15 lines 1 0 1"), "0400000C  at 6F stop 0\n00000004  place 15 lines 1 0 1\n");
+    assert_eq!(
+        list(&sixteen, "at 6F stop 0\nplace 15 lines 1 0 1"),
+        "0400000C  at 6F stop 0\n00000004  place 15 lines 1 0 1\n"
+    );
 }
 
 /// An event that is not in the row is told with its line and changes nothing, and the others go on.
 #[test]
 fn what_is_not_in_the_row_is_told() {
-    let script = "at 71 command 0 01\nat 7F stop 0\nplace 4 pulse 0\nat 71 write 0 05\nat 71 stop 0\n";
+    let script =
+        "at 71 command 0 01\nat 7F stop 0\nplace 4 pulse 0\nat 71 write 0 05\nat 71 stop 0\n";
     let made = made(CHASSIS, script, false);
     let text = String::from_utf8(made.output.unwrap()).unwrap();
-    let said = "a.script, line 2, event 2: refusal 18: no device has address 7Fh (and 1 event more)";
+    let said =
+        "a.script, line 2, event 2: refusal 18: no device has address 7Fh (and 1 event more)";
     assert_eq!(made.refused.as_deref(), Some(said));
-    assert!(text.contains("\n    event 3, line 3, place 4 pulse 0: refusal 18: the shelf has no place 4\n"));
-    assert!(text.contains("\nplace 1, address 71h, PCA9641: controller 0 owns the bus and is connected\n"));
+    assert!(text.contains(
+        "\n    event 3, line 3, place 4 pulse 0: refusal 18: the shelf has no place 4\n"
+    ));
+    assert!(text
+        .contains("\nplace 1, address 71h, PCA9641: controller 0 owns the bus and is connected\n"));
     let lines = list(CHASSIS, script);
     let answers: Vec<&str> = lines.lines().map(|line| &line[..8]).collect();
     assert_eq!(answers, ["0000000C", "12000000", "12000000", "0000200C", "0000250C"]);
@@ -128,7 +141,8 @@ fn what_is_not_in_the_row_is_told() {
 /// Ticks and resets reach all, and an event for one leaves the others.
 #[test]
 fn each_place_has_its_own_events() {
-    let script = "at 72 command 0 01\nat 72 write 0 05\nat 72 stop 0\ntick 3\nplace 0 lines 1 0 1\nreset\n";
+    let script =
+        "at 72 command 0 01\nat 72 write 0 05\nat 72 stop 0\ntick 3\nplace 0 lines 1 0 1\nreset\n";
     let shelved = shelved(CHASSIS, script);
     let numbers = |place: usize| -> Vec<usize> {
         shelved.stories[place].steps.iter().map(|step| step.number).collect()
@@ -196,7 +210,7 @@ fn shelves_are_the_models() {
                     let answer = device.step(named.event.bytes());
                     let step = told[place].next().unwrap();
                     assert_eq!((step.number, step.answer), (number + 1, answer.into()));
-                    assert_eq!(step.scene.hung, device.bus_hung(), "event {}", number + 1);
+                    assert_eq!(step.scene.hung, device.is_hung(), "event {}", number + 1);
                     expected.get_or_insert(answer);
                 }
             }
@@ -207,4 +221,36 @@ fn shelves_are_the_models() {
         assert!(told.iter_mut().all(|steps| steps.next().is_none()));
     }
     assert!(seen.iter().all(|&times| times > 20), "{seen:?}");
+}
+
+/// The sample's files with some bytes changed: no panic, and what is refused is told in one line of a
+/// fair length, with its file and line.
+#[test]
+fn damaged_files_are_told() {
+    let sample = |name: &str| {
+        let path = format!("{}/../../traces/shelf/{name}", env!("CARGO_MANIFEST_DIR"));
+        std::fs::read(path).unwrap()
+    };
+    // The long waits are left out, so that many can be tried.
+    let short = |text: Vec<u8>| String::from_utf8(text).unwrap().replace("tick 451", "tick 4");
+    let good = [short(sample("chassis.shelf")), short(sample("hang.script"))];
+    let mut rng = Rng::new(17);
+    let mut refused = 0;
+    for _ in 0..1500 {
+        let mut files = good.clone().map(String::into_bytes);
+        for _ in 0..1 + rng.below(4) {
+            let file = &mut files[rng.below(2) as usize];
+            let at = rng.below(file.len() as u64) as usize;
+            file[at] = if rng.percent(70) { rng.pick(b"0179aAtp# \n") } else { rng.byte() };
+        }
+        let [shelf, script] = files;
+        let shelf = Input { name: "a.shelf".to_string(), bytes: shelf };
+        let script = Input { name: "a.script".to_string(), bytes: script };
+        if let Some(said) = over(&shelf, &script, rng.percent(50)).refused {
+            refused += 1;
+            let place = said.starts_with("a.shelf, line ") || said.starts_with("a.script, line ");
+            assert!(place && said.len() < 300 && !said.contains('\n'), "{said}");
+        }
+    }
+    assert!(refused > 300, "{refused}");
 }

@@ -80,7 +80,8 @@ fn run_both(shelf: &Input, script: &Input) -> Result<Shelved, String> {
     }
     let (slots, last) =
         read_shelf(&shelf.bytes).map_err(|unread| format!("{}, {unread}", shelf.name))?;
-    let events = read_named(&script.bytes).map_err(|unread| format!("{}, {unread}", script.name))?;
+    let events =
+        read_named(&script.bytes).map_err(|unread| format!("{}, {unread}", script.name))?;
     run_over(slots.clone(), &events)
         .map_err(|refusal| format!("{}, {}", shelf.name, file::refused(&slots, last, refusal)))
 }

@@ -49,8 +49,8 @@ const PART_FIRST: &str = "part PCA9641 or part TPT29641 before the first event: 
 const NO_PART: &str = "part PCA9641 or part TPT29641, which the script has nowhere: a script names its \
                        part, since a kind left out and read as a default is how the incident came about";
 const PART_ONCE: &str = "an event, since the part is there already";
-const NO_NAME: &str = "an event without a name: this script is for one device, and gunwaleish shelf \
-                       runs one for several";
+const NO_NAME: &str = "an event without a name: this script is for one device, and gunwaleish \
+                       shelf runs one for several";
 
 pub fn read_script(text: &[u8]) -> Result<Script, Unread> {
     let mut reading = Reading::default();

@@ -60,8 +60,10 @@ impl fmt::Display for Named {
 const SHELF_HAS_IT: &str = "an event: the shelf file has the address and the part of each device";
 const A_LINE: &str = "at, place, tick, reset, general or raw";
 const AN_EVENT: &str = "command, write, read, stop, pair, lines, pulse or raw after the name";
-const AN_ADDRESS: &str = "at and an address before it, such as at 71: on a shelf it is for one device";
-const A_PLACE: &str = "place and a number before it, such as place 0: on a shelf it is for one device";
+const AN_ADDRESS: &str =
+    "at and an address before it, such as at 71: on a shelf it is for one device";
+const A_PLACE: &str =
+    "place and a number before it, such as place 0: on a shelf it is for one device";
 const NO_NAME: &str = "no name before it, since it reaches all devices";
 const FEWER: &str = "the end: a script has 4,096 events at the most";
 

@@ -128,11 +128,7 @@ impl<'a> Words<'a> {
 
     /// The event that begins with this word, and how often it comes. If no event does, this was
     /// expected.
-    pub fn events(
-        &mut self,
-        word: &str,
-        expected: &'static str,
-    ) -> Result<(Event, usize), Unread> {
+    pub fn events(&mut self, word: &str, expected: &'static str) -> Result<(Event, usize), Unread> {
         let times = match word.to_ascii_lowercase().as_str() {
             "tick" => self.ticks()?,
             _ => 1,
@@ -169,4 +165,3 @@ fn shown(word: &str) -> String {
     };
     text.escape_debug().to_string()
 }
-

@@ -61,11 +61,7 @@ pub fn run_over(slots: Vec<Slot>, events: &[Named]) -> Result<Shelved, Refusal> 
 }
 
 /// What happens at a place.
-fn story_at(
-    place: usize,
-    slots: &[Slot],
-    answered: &[(Named, Answer)],
-) -> Result<Story, Refusal> {
+fn story_at(place: usize, slots: &[Slot], answered: &[(Named, Answer)]) -> Result<Story, Refusal> {
     let slot = slots[place];
     let here = |name: Name| match name {
         Name::Address(address) => address == slot.address,

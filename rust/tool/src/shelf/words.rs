@@ -91,7 +91,8 @@ pub fn listed(shelved: &Shelved) -> String {
 /// The four bytes of an answer, in hex.
 fn digits(answer: &Answer) -> String {
     let who = |master: Option<Master>| master.map_or(0, |m| m.number() + 1);
-    let bits = |flags: &[bool]| flags.iter().rev().fold(0, |byte, &flag| byte << 1 | u8::from(flag));
+    let bits =
+        |flags: &[bool]| flags.iter().rev().fold(0, |byte, &flag| byte << 1 | u8::from(flag));
     let ground = answer.ground.map_or(0, Ground::number);
     let initialising = u8::from(answer.initialising);
     let bus = who(answer.owner) | who(answer.connected) << 2 | initialising << 4 | ground << 5;

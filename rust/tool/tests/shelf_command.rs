@@ -1,0 +1,159 @@
+//! `gunwaleish shelf` as people call it: the samples of `traces/shelf/` with what is said of each, exit
+//! codes, and files in and out.
+
+use std::fs;
+use std::path::{Path, PathBuf};
+use std::process::{Command, Output};
+
+const TOOL: &str = env!("CARGO_BIN_EXE_gunwaleish");
+/// The tool's place in what people read.
+const BUILT: &str = "target/rust/release/gunwaleish";
+const CHASSIS: &str = "traces/shelf/chassis.shelf";
+const HANG: &str = "traces/shelf/hang.script";
+
+fn root() -> PathBuf {
+    Path::new(env!("CARGO_MANIFEST_DIR")).join("../..")
+}
+
+/// Runs the tool at the repository's root.
+fn run(arguments: &[&str]) -> Output {
+    Command::new(TOOL).args(arguments).current_dir(root()).output().unwrap()
+}
+
+/// Runs a line of a shell there, with the tool that was built for the test.
+fn shell(line: &str) -> Output {
+    let line = line.replace(BUILT, TOOL);
+    Command::new("sh").args(["-c", &line]).current_dir(root()).output().unwrap()
+}
+
+fn code(output: &Output) -> i32 {
+    output.status.code().unwrap()
+}
+
+fn said(output: &Output) -> String {
+    String::from_utf8(output.stderr.clone()).unwrap()
+}
+
+fn text(path: &str) -> String {
+    fs::read_to_string(root().join(path)).unwrap()
+}
+
+/// What the tool says of the sample in words, and as a list.
+#[test]
+fn the_sample_says_what_stands_beside_it() {
+    for (options, file) in [(&[][..], "hang.txt"), (&["--list"], "hang.listing")] {
+        let output = run(&[&["shelf", CHASSIS, HANG], options].concat());
+        assert_eq!((code(&output), said(&output).as_str()), (0, ""));
+        let found = String::from_utf8(output.stdout).unwrap();
+        assert!(found == text(&format!("traces/shelf/{file}")), "traces/shelf/{file}: {found}");
+    }
+}
+
+/// In the sample one bus hangs, and at the other three each controller has its turn.
+#[test]
+fn one_hangs_and_the_others_go_on() {
+    let whole = text("traces/shelf/hang.txt");
+    let (_, whole) = whole.split_once("\n\n").unwrap();
+    let at_the_end: Vec<&str> = whole.lines().take(4).collect();
+    let hung: Vec<bool> = at_the_end.iter().map(|line| line.contains("the bus is hung")).collect();
+    assert_eq!(hung, [false, true, false, false]);
+    let (_, places) = whole.split_once("\n\n").unwrap();
+    for place in 0..4 {
+        let (_, here) = places.split_once(&format!("place {place}, address 7{place}h")).unwrap();
+        let here = here.split("\nplace ").next().unwrap();
+        let granted = here.contains("controller 1 is granted the bus");
+        assert_eq!((here.contains("the bus is hung"), granted), (place == 1, place != 1));
+    }
+}
+
+/// Each command of the samples' page, what it says word for word, and its exit code, which stands
+/// before it; and every file has its row there.
+#[test]
+fn the_samples_say_what_their_page_has() {
+    let page = text("traces/shelf/README.md");
+    let command = format!("\n    {BUILT} shelf ");
+    let mut parts = page.split(&command);
+    let mut before = parts.next().unwrap();
+    let mut ran = 0;
+    for part in parts {
+        let (line, rest) = part.split_once("\n\n```\n").unwrap();
+        let (expected, _) = rest.split_once("```\n").unwrap();
+        let output = shell(&format!("{{ {BUILT} shelf {line}; }} 2>&1"));
+        let found = String::from_utf8(output.stdout.clone()).unwrap();
+        assert!(found == expected, "traces/shelf/README.md: {BUILT} shelf {line} says\n{found}");
+        let named = format!("The exit code is {}.\n", code(&output));
+        assert!(before.ends_with(&named), "{line}: {named}");
+        before = part;
+        ran += 1;
+    }
+    assert_eq!(ran, 4);
+    let entries = fs::read_dir(root().join("traces/shelf")).unwrap();
+    for name in entries.map(|entry| entry.unwrap().file_name().into_string().unwrap()) {
+        assert!(name == "README.md" || page.contains(&format!("`{name}`")), "{name}");
+    }
+}
+
+/// The commands of the page for people work, and the lines that it has are the tool's.
+#[test]
+fn the_pages_commands_work() {
+    let page = text("docs/SHELF.md");
+    let start = format!("    {BUILT} ");
+    let lines: Vec<&str> = page.lines().filter(|line| line.starts_with(&start)).collect();
+    assert_eq!(lines.len(), 2);
+    for line in lines {
+        let output = shell(line);
+        assert_eq!(code(&output), 0, "{line}: {}", said(&output));
+    }
+    let told = text("traces/shelf/hang.txt");
+    let quoted: Vec<&str> = page.lines().filter(|line| line.starts_with("place ")).collect();
+    assert_eq!(quoted.len(), 2);
+    assert!(quoted.iter().all(|line| told.contains(&format!("\n{line}\n"))), "{quoted:?}");
+}
+
+#[test]
+fn wrong_use_is_2() {
+    let cases: [(&[&str], &str); 6] = [
+        (&[], "shelf needs two files, the shelf and then the script, and has 0"),
+        (&[CHASSIS], "and has 1"),
+        (&[CHASSIS, HANG, HANG], "and has 3"),
+        (&["-", "-"], "standard input cannot be both the shelf and the script"),
+        (&[CHASSIS, "no-such.script"], "no-such.script cannot be read"),
+        (&[CHASSIS, HANG, "-o", CHASSIS], "chassis.shelf is an input, and is not written over"),
+    ];
+    for (arguments, expected) in cases {
+        let output = run(&[&["shelf"], arguments].concat());
+        assert_eq!((code(&output), output.stdout.len()), (2, 0), "{arguments:?}");
+        assert!(said(&output).contains(expected), "{arguments:?}: {}", said(&output));
+    }
+}
+
+/// Into a folder under the script's name, and either file out of standard input.
+#[test]
+fn outputs_go_where_they_should() {
+    let folder = std::env::temp_dir().join(format!("gunwaleish-shelf-{}", std::process::id()));
+    fs::create_dir_all(&folder).unwrap();
+    let to = folder.to_str().unwrap();
+    for (options, ending) in [(&[][..], "txt"), (&["--list"], "listing")] {
+        let output = run(&[&["shelf", CHASSIS, HANG, "-o", to], options].concat());
+        assert_eq!((code(&output), output.stdout.len()), (0, 0), "{}", said(&output));
+        let found = fs::read_to_string(folder.join(format!("hang.{ending}"))).unwrap();
+        assert_eq!(found, text(&format!("traces/shelf/hang.{ending}")));
+    }
+    fs::remove_dir_all(&folder).unwrap();
+    for line in [format!("- {HANG} --list < {CHASSIS}"), format!("{CHASSIS} - --list < {HANG}")] {
+        let output = shell(&format!("{BUILT} shelf {line}"));
+        assert_eq!(String::from_utf8(output.stdout).unwrap(), text("traces/shelf/hang.listing"));
+    }
+}
+
+/// A script for a shelf is none for one device, and the reason is told with its line.
+#[test]
+fn a_script_for_one_device_has_no_names() {
+    let why = "line 4: 'at', expected an event without a name: this script is for one device, and \
+               gunwaleish shelf runs one for several\n";
+    for arguments in [&["compose", HANG][..], &["orders", HANG, HANG]] {
+        let output = run(arguments);
+        assert_eq!((code(&output), output.stdout.len()), (1, 0));
+        assert!(said(&output).ends_with(why), "{}", said(&output));
+    }
+}
