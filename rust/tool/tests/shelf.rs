@@ -219,6 +219,11 @@ fn shelves_are_the_models() {
             assert_eq!(*answer, expected.unwrap_or([18, 0, 0, 0]).into());
         }
         assert!(told.iter_mut().all(|steps| steps.next().is_none()));
+        for (device, shown) in devices.iter_mut().zip(&shelved.shown) {
+            // Bytes that are no event change nothing, and their answer shows the device.
+            let [_, _, owner, lines] = device.step([0xFF, 0, 0, 0]);
+            assert_eq!(*shown, [0, 0, owner, lines].into());
+        }
     }
     assert!(seen.iter().all(|&times| times > 20), "{seen:?}");
 }

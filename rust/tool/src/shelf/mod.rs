@@ -34,6 +34,8 @@ pub struct Shelved {
     pub answered: Vec<(Named, Answer)>,
     /// What happens at each place. The events have their numbers in the script.
     pub stories: Vec<Story>,
+    /// The device at each place after the last event, as the shelf shows it.
+    pub shown: Vec<Answer>,
 }
 
 impl Shelved {
@@ -57,7 +59,8 @@ pub fn run_over(slots: Vec<Slot>, events: &[Named]) -> Result<Shelved, Refusal> 
     let answered: Vec<(Named, Answer)> = events.iter().map(step).collect();
     let stories = (0..slots.len()).map(|place| story_at(place, &slots, &answered));
     let stories = stories.collect::<Result<_, _>>()?;
-    Ok(Shelved { slots, answered, stories })
+    let shown = (0..slots.len()).map(|place| shelf.show(place as u8)).collect();
+    Ok(Shelved { slots, answered, stories, shown })
 }
 
 /// What happens at a place.

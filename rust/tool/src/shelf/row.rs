@@ -39,10 +39,13 @@ impl Shelf {
         }
     }
 
-    #[allow(dead_code)]
     pub fn show(&self, place: u8) -> Answer {
         match self.devices.get(usize::from(place)) {
-            Some((_, device)) => device.clone().step([0xFF, 0, 0, 0]),
+            Some((_, device)) => {
+                let mut shown = device.clone().step([0xFF, 0, 0, 0]);
+                shown.outcome = gunwaleish::Outcome::Done;
+                shown
+            }
             None => Answer::from([18, 0, 0, 0]),
         }
     }

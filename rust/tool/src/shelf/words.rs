@@ -6,7 +6,7 @@ use gunwaleish::{Answer, Ground, Master};
 use super::{Shelved, Slot};
 use crate::commands::explain;
 use crate::script::named::{Name, Named};
-use crate::story::{Scene, Story};
+use crate::story::Story;
 use crate::words::{count, part};
 
 /// The whole text. The names are those of the shelf file and of the script.
@@ -14,8 +14,8 @@ pub fn told(names: [&str; 2], shelved: &Shelved) -> String {
     let devices = count(shelved.slots.len(), "device");
     let events = count(shelved.answered.len(), "event");
     let mut text = format!("{}: {devices}; {}: {events}\n\n", names[0], names[1]);
-    for (place, slot, story) in places(shelved) {
-        text.push_str(&format!("{}: {}\n", heading(place, slot), at_the_end(story)));
+    for ((place, slot, story), shown) in places(shelved).zip(&shelved.shown) {
+        text.push_str(&format!("{}: {}\n", heading(place, slot), at_the_end(story, shown)));
     }
     text.push_str(&reached_nobody(shelved));
     for (place, slot, story) in places(shelved) {
@@ -39,24 +39,20 @@ fn heading(place: usize, slot: &Slot) -> String {
     format!("place {place}, address {:02X}h, {}", slot.address, slot.part)
 }
 
-/// How a device stands after the last event that reached it.
-fn at_the_end(story: &Story) -> String {
-    let Some(scene) = story.steps.last().map(|step| step.scene) else {
-        return "no event reaches it".to_string();
-    };
-    let mut said = vec![owner(&scene)];
-    let waits = Master::BOTH.into_iter().filter(|m| scene.waits[*m as usize]);
-    said.extend(waits.map(|m| format!("controller {m} waits")));
-    said.extend(scene.hung.then(|| "the bus is hung".to_string()));
-    said.join("; ")
-}
-
-fn owner(scene: &Scene) -> String {
-    match (scene.owner, scene.connected) {
+/// How a device stands at the end.
+fn at_the_end(story: &Story, shown: &Answer) -> String {
+    let owner = match (shown.owner, shown.connected) {
         (None, _) => "nobody owns the bus".to_string(),
         (Some(m), Some(_)) => format!("controller {m} owns the bus and is connected"),
         (Some(m), None) => format!("controller {m} owns the bus"),
+    };
+    let mut said = vec![owner];
+    if let Some(step) = story.steps.last() {
+        let waits = Master::BOTH.into_iter().filter(|m| step.scene.waits[*m as usize]);
+        said.extend(waits.map(|m| format!("controller {m} waits")));
+        said.extend(step.scene.hung.then(|| "the bus is hung".to_string()));
     }
+    said.join("; ")
 }
 
 /// The events that the shelf refused, a line each.
