@@ -8,6 +8,7 @@ use gunwaleish_tool::files::Input;
 use gunwaleish_tool::script::named::{read_named, Name, Named};
 use gunwaleish_tool::shelf::file::read_shelf;
 use gunwaleish_tool::shelf::{run_over, Shelved};
+use gunwaleish_tool::story::follow;
 use model::part::Kind;
 use model::rng::Rng;
 use model::traces::trace;
@@ -152,6 +153,27 @@ fn each_place_has_its_own_events() {
     assert_eq!(numbers(2), [1, 2, 3, 4, 5, 6, 8]);
     assert_eq!(shelved.stories[2].steps[2].scene.owner.unwrap().number(), 0);
     assert!(shelved.stories[2].steps[6].scene.owner.is_none());
+}
+
+/// A shelf of one device tells what `explain` tells of the same events.
+#[test]
+fn a_shelf_of_one_is_a_device() {
+    let (slots, _) = read_shelf(b"71 PCA9641").unwrap();
+    for name in ["m1", "box14-rt00", "box14-rt50", "hung-bus", "pair", "mail"] {
+        let path = format!("{}/../../traces/{name}.trace", env!("CARGO_MANIFEST_DIR"));
+        let trace = std::fs::read(path).unwrap();
+        let named = |event: Event| match event.bytes()[0] {
+            0..=4 => Named { line: 1, name: Name::Address(0x71), event },
+            5 | 7 => Named { line: 1, name: Name::Place(0), event },
+            _ => Named { line: 1, name: Name::All, event },
+        };
+        let run = gunwaleish::run(&trace).unwrap();
+        let events: Vec<Named> = run.events.iter().copied().map(named).collect();
+        let shelved = run_over(slots.clone(), &events).unwrap();
+        let answers: Vec<_> = shelved.answered.iter().map(|(_, answer)| *answer).collect();
+        assert_eq!(answers, run.answers, "{name}");
+        assert_eq!(shelved.stories[0].steps, follow(&trace).unwrap().steps, "{name}");
+    }
 }
 
 /// A random shelf and a random script over it, of the generators' events.
