@@ -1,6 +1,6 @@
 /* Lists a trace, says in words what part it is for, who owns the bus at its end and why its claim was won, steps its events one by one on an
- * image of the device, writes the trace again, takes its part away as in an old trace and has it converted, and shows straps both ways. With a
- * capture it says what that has for the device at 71h, and with two order sheets what they order, and who owns the bus at the end if the two
+ * image of the device, writes the trace again, takes its part away as in an old trace and has it converted, asks for the bus on a shelf of
+ * three arbiters, and shows straps both ways. With a capture it says what that has for the device at 71h, and with two order sheets what they order, and who owns the bus at the end if the two
  * controllers start up in any order.
  * Usage: example TRACE-FILE [CAPTURE-FILE [BOARD-SHEET HOUSE-SHEET]] */
 #include <stdio.h>
@@ -184,6 +184,35 @@ static void show_sheets(size_t board_length, size_t house_length) {
     show_orders("all as one script", ordered, sizeof ordered, ordered, 0, SIZE_MAX);
 }
 
+/* The owner that a packed answer shows. */
+static const char *owner_in(uint32_t answer) {
+    return owners[gunwaleish_owner(gunwaleish_answer(answer, GUNWALEISH_ANSWER_BUS))];
+}
+
+/* A shelf of three: master 0 asks for the bus of the one at 71h, which stands at place 1, and a TICK reaches all. */
+static void show_shelf(void) {
+    const uint8_t slots[6] = {0x70, GUNWALEISH_PCA9641, 0x71, GUNWALEISH_TPT29641, 0x72, GUNWALEISH_PCA9641};
+    uint8_t equal[6];
+    uint8_t row[3 * GUNWALEISH_RECORD_BYTES];
+    gunwaleish_shelf_fresh(slots, sizeof slots, row, sizeof row);
+    gunwaleish_shelf_step(0x71, 0, 0, 1, 0, row, sizeof row);
+    gunwaleish_shelf_step(0x71, 1, 0, 5, 0, row, sizeof row);
+    uint32_t stop = gunwaleish_shelf_step(0x71, 3, 0, 0, 0, row, sizeof row);
+    uint32_t tick = gunwaleish_shelf_step(0, 6, 0, 0, 0, row, sizeof row);
+    printf("a shelf of three, a STOP at 71h: owned by %s there; then a TICK, answered for place 0: by %s; CONTR at 71h is %02Xh\n", owner_in(stop),
+           owner_in(tick),
+           gunwaleish_register(gunwaleish_image_read(0, 1, row + GUNWALEISH_RECORD_BYTES + 1, GUNWALEISH_IMAGE_BYTES)));
+    for (uint8_t place = 0; place < 3; place++) {
+        printf("place %u: %s%s", place, owner_in(gunwaleish_shelf_show(place, row, sizeof row)), place < 2 ? "; " : "\n");
+    }
+    memcpy(equal, slots, sizeof equal);
+    equal[4] = 0x70;
+    printf("a STOP at 73h: refused, number %u; place 3: number %u; two at 70h: number %u\n",
+           gunwaleish_number(gunwaleish_shelf_step(0x73, 3, 0, 0, 0, row, sizeof row)),
+           gunwaleish_number(gunwaleish_shelf_show(3, row, sizeof row)),
+           gunwaleish_number(gunwaleish_shelf_fresh(equal, sizeof equal, row, sizeof row)));
+}
+
 /* Reads a file into a buffer. Gives 0 if it cannot be opened. */
 static int read_file(const char *name, uint8_t *bytes, size_t room, size_t *length) {
     FILE *file = fopen(name, "rb");
@@ -214,6 +243,7 @@ int main(int argc, char **argv) {
     if (argc > 3) {
         show_sheets(lengths[2], lengths[3]);
     }
+    show_shelf();
     show_address(1, 1, 1, 3);
     show_address(1, 0, 0, 0);
     show_pins(0x0F);

@@ -3,8 +3,8 @@
  * Link with libgunwaleish.a, which `tools/library` writes to target/staticlib/.
  *
  * What a caller owes, since C cannot say it: a pointer is never null, also with length 0; the bytes it points to are there for that
- * length; and the range that a call writes overlaps none that it reads, an image apart, which is one range for both. Any bytes are taken as a
- * trace, as events, as samples, as a sheet, as an image or as a script.
+ * length; and the range that a call writes overlaps none that it reads, an image and a row apart, which are one range for both. Any bytes are
+ * taken as a trace, as events, as samples, as a sheet, as an image, as a row, as slots or as a script.
  */
 #ifndef GUNWALEISH_H
 #define GUNWALEISH_H
@@ -17,8 +17,8 @@ extern "C" {
 #endif
 
 /* The numbers of documents 01 and 02. 0 to 4 are outcomes of one event, the others refuse a whole call; so does 3, for a kind of part other
- * than 0 and 1 and for an order sheet. Where a number says one thing of a trace and another of an order sheet or of a start-up script, it has
- * a name for each. A call that is not refused has 0. */
+ * than 0 and 1 and for an order sheet. Where a number says one thing of a trace and another of an order sheet, of a start-up script or of a
+ * shelf's row, it has a name for each. A call that is not refused has 0. */
 enum gunwaleish_numbers {
     GUNWALEISH_DONE = 0,                   /* done, accepted */
     GUNWALEISH_NOT_ACKNOWLEDGED = 1,       /* the byte was not acknowledged */
@@ -30,13 +30,16 @@ enum gunwaleish_numbers {
     GUNWALEISH_OUT_OF_SEQUENCE = 4,        /* the event cannot come now */
     GUNWALEISH_TRACE_CUT = 5,              /* bytes are missing at the end, or event bytes do not come in fours */
     GUNWALEISH_SHEET_CUT = 5,              /* of an order sheet: under 15 bytes */
+    GUNWALEISH_EMPTY_ROW = 5,              /* of a shelf: its row has no record */
     GUNWALEISH_TOO_MANY_EVENTS = 6,        /* more than 4,096 events */
     GUNWALEISH_LONG_SCRIPT = 6,            /* of a start-up script: more than six events */
+    GUNWALEISH_LONG_ROW = 6,               /* of a shelf: its row has more than 16 records */
     GUNWALEISH_BYTES_AFTER_END = 7,        /* bytes after the trace's end */
     GUNWALEISH_BYTES_AFTER_SHEET = 7,      /* bytes after an order sheet's end */
     GUNWALEISH_NO_SUCH_STRAPPING = 8,      /* a pin code above 3, or a strapping without an address */
     GUNWALEISH_TOO_LITTLE_ROOM = 9,        /* the buffer is too short */
     GUNWALEISH_OTHER_LENGTH = 9,           /* of an image: the buffer has not 38 bytes, but fewer or more */
+    GUNWALEISH_OTHER_ROW_LENGTH = 9,       /* of a shelf: the row's bytes are not 39 for each record, or the slots' not two for each */
     GUNWALEISH_WRONG_COUNT = 10,           /* the first byte, the count of pins, is not 4, or the count of the kind of part is not 1 */
     GUNWALEISH_WRONG_BOX_COUNT = 10,       /* of an order sheet: the count of a section is not 2 */
     GUNWALEISH_ADDRESS_OUTSIDE = 11,       /* the address is not one of 08h to 77h */
@@ -44,7 +47,9 @@ enum gunwaleish_numbers {
     GUNWALEISH_TOO_MANY_SAMPLES = 13,      /* more than 32,768 samples */
     GUNWALEISH_EMPTY_BOX = 14,             /* a box is ticked neither on the board sheet nor on the house sheet */
     GUNWALEISH_NO_SUCH_BOX = 15,           /* an order sheet has no such section or controller */
-    GUNWALEISH_IMAGE_OUT_OF_RANGE = 16     /* a field of an image is outside the range that a run from power-up gives it */
+    GUNWALEISH_IMAGE_OUT_OF_RANGE = 16,    /* a field of an image is outside the range that a run from power-up gives it */
+    GUNWALEISH_EQUAL_ADDRESSES = 17,       /* two records of a row have the same address */
+    GUNWALEISH_NOT_IN_ROW = 18             /* the address or place that is named is not in the row */
 };
 
 /* The kinds of part. A TPT29641 differs in two things: its idle timer ends a grant at 151 idle ticks, not at 101, and its write pointer
@@ -92,6 +97,11 @@ enum gunwaleish_sheets {
 
 /* The bytes of a device's image, which docs/IMAGE.md lays out. */
 #define GUNWALEISH_IMAGE_BYTES 38
+
+/* A record of a shelf's row: a byte for its address, and the image of its device. The most records of a row, and their bytes. */
+#define GUNWALEISH_RECORD_BYTES (1 + GUNWALEISH_IMAGE_BYTES)
+#define GUNWALEISH_MOST_RECORDS 16
+#define GUNWALEISH_MOST_ROW (GUNWALEISH_MOST_RECORDS * GUNWALEISH_RECORD_BYTES)
 
 /* The most events of a start-up script, their bytes, and the orders of two such scripts. */
 #define GUNWALEISH_MOST_SCRIPT 6
@@ -185,6 +195,25 @@ uint32_t gunwaleish_image_step(uint8_t kind, uint8_t x, uint8_t y, uint8_t z, ui
  * 9, 16, or 3 for a master above 1 or a register above 7. */
 uint32_t gunwaleish_image_read(uint8_t master, uint8_t register_number, const uint8_t *image, size_t image_len);
 
+/* A shelf is a row of 1 to 16 records in a buffer of the caller's, each its address and the image of its device, 39 bytes, with no two
+ * addresses the same. Places count from 0. Make it with gunwaleish_shelf_fresh. A refusal leaves the buffer as it was. Refusals, in this order: 9
+ * if the buffer's length is no multiple of 39, 16 if a field of an image is outside its range, 5 an empty row, 6 above 16 records, 17 two
+ * equal addresses, 18 the name is not in the row. They answer the number, 00, 00, 00. The calls never leave a row that is refused with 16. */
+
+/* Makes a row of fresh devices, whatever stood in the buffer. Each place is a slot of two bytes, its address and its kind of part. Gives the
+ * number. Refusals, in this order: 9 if the slots are not in twos or the row has not 39 bytes for each, 5, 6, 17, 3 for a kind that is neither 0
+ * nor 1. An address is a name: any byte is one. */
+uint32_t gunwaleish_shelf_fresh(const uint8_t *slots, size_t slots_len, uint8_t *row, size_t row_len);
+
+/* Steps the devices that an event reaches. For COMMAND, WRITE, READ, STOP and PAIR the name is an address; for LINES and PULSE it is a place; TICK,
+ * RESET and GENERAL CALL reach all, and for these and for an unknown kind the name is not looked at. Gives the four answer bytes of the device
+ * that is reached, and of place 0 where all are, the first byte lowest; gunwaleish_answer takes them apart. */
+uint32_t gunwaleish_shelf_step(uint8_t name, uint8_t kind, uint8_t x, uint8_t y, uint8_t z, uint8_t *row, size_t row_len);
+
+/* The device at a place as it stands, without an event: the four answer bytes, with outcome 0 and no byte read. Its registers are read with
+ * gunwaleish_image_read out of the image at row + 39 * place + 1. */
+uint32_t gunwaleish_shelf_show(uint8_t place, const uint8_t *row, size_t row_len);
+
 /* Tries two start-up scripts, four bytes an event, in all the orders that keep each script's own order, each on a PCA9641 fresh from power-up,
  * and writes for each the third answer byte after its last event, of which gunwaleish_owner, gunwaleish_switch and gunwaleish_ground give the
  * parts. At each point script 0's next event is tried first, and then script 1's: with a 0 for an event of script 0 and a 1 for one of script
@@ -248,7 +277,7 @@ static inline size_t gunwaleish_ordered(uint64_t packed) {
     return (size_t)(packed >> 8);
 }
 
-/* One byte of the answer that gunwaleish_image_step gave, by its place, a GUNWALEISH_ANSWER_ of the above. There are four. */
+/* One byte of the answer that gunwaleish_image_step, gunwaleish_shelf_step or gunwaleish_shelf_show gave, by its place, a GUNWALEISH_ANSWER_ of the above. There are four. */
 static inline uint8_t gunwaleish_answer(uint32_t packed, unsigned place) {
     return (uint8_t)(place > 3 ? 0 : packed >> (8 * place) & 0xff);
 }

@@ -12,6 +12,9 @@ use Rattle.gunwaleish.proofs.gunwaleish_sheet_events.Reads as gunwaleis
 use Rattle.gunwaleish.proofs.gunwaleish_image_fresh.Reads as gunwaleish-image-fresh
 use Rattle.gunwaleish.proofs.gunwaleish_image_step.Reads as gunwaleish-image-step
 use Rattle.gunwaleish.proofs.gunwaleish_image_read.Reads as gunwaleish-image-read
+use Rattle.gunwaleish.proofs.gunwaleish_shelf_step.Reads as gunwaleish-shelf-step
+use Rattle.gunwaleish.proofs.gunwaleish_shelf_show.Reads as gunwaleish-shelf-show
+use Rattle.gunwaleish.proofs.gunwaleish_shelf_fresh.Reads as gunwaleish-shelf-fresh
 use Rattle.gunwaleish.proofs.gunwaleish_list_orders.Reads as gunwaleish-list-orders
 use Rattle.gunwaleish.proofs.gunwaleish_address_of.Reads as gunwaleish-address-of
 use Rattle.gunwaleish.proofs.gunwaleish_pins_of.Reads as gunwaleish-pins-of
@@ -45,6 +48,15 @@ gunwaleish-image-step-once κ a x y s t p q = (once (p .0) (q .0), once (p .1) (
 
 pub gunwaleish-image-read-once : OneResult gunwaleish-image-read.Post
 gunwaleish-image-read-once κ a x y s t p q = once p q
+
+pub gunwaleish-shelf-step-once : OneLeft (λ κ s. now (s .1 .1 .1 .1 .1 .0)) gunwaleish-shelf-step.Post
+gunwaleish-shelf-step-once κ a x y s t p q = (once (p .0) (q .0), once (p .1) (q .1))
+
+pub gunwaleish-shelf-show-once : OneResult gunwaleish-shelf-show.Post
+gunwaleish-shelf-show-once κ a x y s t p q = once p q
+
+pub gunwaleish-shelf-fresh-once : OneLeft (λ κ s. now (s .1 .0)) gunwaleish-shelf-fresh.Post
+gunwaleish-shelf-fresh-once κ a x y s t p q = (once (p .0) (q .0), once (p .1) (q .1))
 
 pub gunwaleish-list-orders-once : OneLeft (λ κ s. now (s .1 .1 .1 .0)) gunwaleish-list-orders.Post
 gunwaleish-list-orders-once κ a x y s t p q = (once (p .0) (q .0), once (p .1) (q .1))

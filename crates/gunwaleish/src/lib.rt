@@ -1,5 +1,5 @@
-// The library for Rust and C: traces, captures, order sheets, images, orders of scripts and straps over numbers and byte slices. A slice passes
-// as a pointer and then a length.
+// The library for Rust and C: traces, captures, order sheets, images, shelves, orders of scripts and straps over numbers and byte slices. A slice
+// passes as a pointer and then a length.
 ghost use Prim.Native.Nat.{_<_};
 ghost use mathlib.Core.Path.{_≡_};
 ghost use lib.ListN.{length};
@@ -12,10 +12,13 @@ ghost use Rattle.text.specs.Written.{textAfter};
 ghost use Rattle.capture.specs.Import.{imported, importedBuffer};
 ghost use Rattle.layout.specs.Images.{imageAnswer, imageAfter, freshNumber, freshAfter, shown};
 ghost use Rattle.orders.specs.Call.{ordersListed, ordersBuffer};
+ghost use Rattle.rowimage.specs.Calls.{rowAnswer, rowBuffer, rowShown};
+ghost use Rattle.rowimage.specs.Slots.{freshRowNumber, freshRowBuffer};
 ghost use Rattle.sheets.specs.Sheets.{placeOf};
 ghost use Rattle.sheets.specs.Orders.{ordered, orderedBuffer};
 ghost use Rattle.arbiter.specs.declared.Strapping.the-variants.{Straps};
 ghost use Rattle.gunwaleish.specs.Packed.{packedReport, packedWritten, packedImport, packedBox, packedOrder, packedAnswer, packedShown, packedListed, packedAddress, packedPins};
+use arbiter::Answer;
 use arbiter::Pins;
 use arbiter::Raw;
 use arbiter::Strapped;
@@ -26,6 +29,9 @@ use imaging::fresh_image;
 use imaging::step_image;
 use importing::import_capture;
 use orders::list_orders;
+use rowimage::show_row;
+use rowimage::slots::fresh_row;
+use rowimage::step_row;
 use sheets::Place;
 use sheets::lookup::place_of;
 use sheets::orders::order_events;
@@ -129,6 +135,15 @@ fn byte_low(x: u8) -> u32
     x as u32
 }
 
+fn packed_answer(a: Answer) -> u32
+    ensures { λ r. ⌜ r ≡ packedAnswer a ⌝ }
+{
+    byte_low(a.outcome)
+        + 256 * byte_low(a.read)
+        + 65536 * byte_low(a.owner)
+        + 16777216 * byte_low(a.lines)
+}
+
 // A fresh image of this kind of part.
 #[no_mangle]
 pub extern "C" fn gunwaleish_image_fresh(kind: u8, image: &mut [u8]) -> u32
@@ -143,10 +158,7 @@ pub extern "C" fn gunwaleish_image_step(kind: u8, x: u8, y: u8, z: u8, image: &m
     ensures { λ r. ⌜ (r ≡ packedAnswer (imageAnswer (now (image .entry)) (record { kind = kind; x = x; y = y; z = z }))) × (now (image .exit) ≡ imageAfter (now (image .entry)) (record { kind = kind; x = x; y = y; z = z })) ⌝ }
 {
     let a = step_image(image, Raw { kind, x, y, z });
-    byte_low(a.outcome)
-        + 256 * byte_low(a.read)
-        + 65536 * byte_low(a.owner)
-        + 16777216 * byte_low(a.lines)
+    packed_answer(a)
 }
 
 // What a master reads of a register of an image, without an event.
@@ -156,6 +168,40 @@ pub extern "C" fn gunwaleish_image_read(master: u8, register: u8, image: &[u8]) 
 {
     let s = read_register(master, register, image);
     byte_low(s.number) + 256 * byte_low(s.byte)
+}
+
+// ---- a shelf's row in a lent buffer
+
+// One event on the devices of a row, by its four bytes and the address or place that it names.
+#[no_mangle]
+pub extern "C" fn gunwaleish_shelf_step(
+    name: u8,
+    kind: u8,
+    x: u8,
+    y: u8,
+    z: u8,
+    row: &mut [u8],
+) -> u32
+    ensures { λ r. ⌜ (r ≡ packedAnswer (rowAnswer (now (row .entry)) name (record { kind = kind; x = x; y = y; z = z }))) × (now (row .exit) ≡ rowBuffer (now (row .entry)) name (record { kind = kind; x = x; y = y; z = z })) ⌝ }
+{
+    let a = step_row(row, name, Raw { kind, x, y, z });
+    packed_answer(a)
+}
+
+// The device at a place as it stands, without an event.
+#[no_mangle]
+pub extern "C" fn gunwaleish_shelf_show(place: u8, row: &[u8]) -> u32
+    ensures { λ r. ⌜ r ≡ packedAnswer (rowShown place (now (row .entry))) ⌝ }
+{
+    packed_answer(show_row(row, place))
+}
+
+// A fresh row, from an address and a kind of part for each place.
+#[no_mangle]
+pub extern "C" fn gunwaleish_shelf_fresh(slots: &[u8], row: &mut [u8]) -> u32
+    ensures { λ r. ⌜ (r ≡ freshRowNumber (now (slots .entry)) (now (row .entry))) × (now (row .exit) ≡ freshRowBuffer (now (slots .entry)) (now (row .entry))) ⌝ }
+{
+    fresh_row(slots, row) as u32
 }
 
 // The byte of each order of two scripts into a lent buffer, until the limit.

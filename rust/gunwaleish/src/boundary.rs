@@ -72,6 +72,22 @@ extern "C" {
         image_len: usize,
     ) -> u32;
     fn gunwaleish_image_read(master: u8, register: u8, image: *const u8, image_len: usize) -> u32;
+    fn gunwaleish_shelf_step(
+        name: u8,
+        kind: u8,
+        x: u8,
+        y: u8,
+        z: u8,
+        row: *mut u8,
+        row_len: usize,
+    ) -> u32;
+    fn gunwaleish_shelf_show(place: u8, row: *const u8, row_len: usize) -> u32;
+    fn gunwaleish_shelf_fresh(
+        slots: *const u8,
+        slots_len: usize,
+        row: *mut u8,
+        row_len: usize,
+    ) -> u32;
     fn gunwaleish_list_orders(
         script0: *const u8,
         script0_len: usize,
@@ -175,6 +191,27 @@ pub fn image_step(event: [u8; 4], image: &mut [u8]) -> u32 {
 pub fn image_read(master: u8, register: u8, image: &[u8]) -> u32 {
     // SAFETY: see the head of this file.
     unsafe { gunwaleish_image_read(master, register, image.as_ptr(), image.len()) }
+}
+
+/// The four answer bytes, the first lowest. The buffer has the row after the event.
+pub fn shelf_step(name: u8, event: [u8; 4], row: &mut [u8]) -> u32 {
+    let [kind, x, y, z] = event;
+    // SAFETY: see the head of this file.
+    unsafe { gunwaleish_shelf_step(name, kind, x, y, z, row.as_mut_ptr(), row.len()) }
+}
+
+/// The four answer bytes of the device at a place, the first lowest.
+pub fn shelf_show(place: u8, row: &[u8]) -> u32 {
+    // SAFETY: see the head of this file.
+    unsafe { gunwaleish_shelf_show(place, row.as_ptr(), row.len()) }
+}
+
+/// The number. The buffer has the row of fresh devices, an address and a kind of part each, or is as
+/// it was.
+pub fn shelf_fresh(slots: &[u8], row: &mut [u8]) -> u32 {
+    let (slots, slots_len) = (slots.as_ptr(), slots.len());
+    // SAFETY: see the head of this file.
+    unsafe { gunwaleish_shelf_fresh(slots, slots_len, row.as_mut_ptr(), row.len()) }
 }
 
 /// The number, then the count of listed orders, packed as 1 and 256.

@@ -34,6 +34,8 @@
 //! A `Device` stands between its events and is stepped one by one. It is the image of 38 bytes that a
 //! microcontroller keeps, so it can be kept as bytes too.
 //!
+//! A `Shelf` is a row of up to 16 such devices with their addresses, on the same two upstream buses.
+//!
 //! Before both controllers' start-up scripts are packaged, `list_orders` tries them in all the orders
 //! that keep each script's own order, and says for each how the bus stands at its end.
 //!
@@ -51,6 +53,7 @@ mod pins;
 mod refusal;
 mod run;
 mod sheet;
+mod shelf;
 mod writing;
 
 pub use answer::{Answer, Bus, Ground, Outcome};
@@ -65,6 +68,7 @@ pub use run::{run, run_trace, Report, Run};
 pub use sheet::{
     sheet_box, sheet_events, sheet_events_into, Found, Section, Sheet, SHEET_EVENTS, SHEET_LENGTH,
 };
+pub use shelf::{Shelf, MOST_RECORDS, RECORD_LENGTH};
 pub use writing::{convert_trace, convert_trace_into, write_trace, write_trace_into};
 
 /// The most events a trace may have.

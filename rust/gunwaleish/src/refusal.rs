@@ -3,8 +3,8 @@
 use std::fmt;
 
 /// A refusal of a whole call. The library keeps to the documents' numbers, and so does `number`.
-/// Where a number says one thing of a trace and another of an order sheet, an image or a start-up
-/// script, it has a name for each.
+/// Where a number says one thing of a trace and another of an order sheet, an image, a start-up
+/// script or a shelf, it has a name for each.
 /// Later calls bring numbers of their own.
 #[derive(Clone, Copy, Debug, PartialEq, Eq, Hash)]
 #[non_exhaustive]
@@ -52,6 +52,16 @@ pub enum Refusal {
     OtherLength,
     /// 16: a field of an image is outside the range that a run from power-up gives it.
     ImageOutOfRange,
+    /// 5: a shelf has no record.
+    EmptyRow,
+    /// 6: a shelf has more than 16 records.
+    LongRow,
+    /// 9: the bytes of a shelf's row are not 39 for each record.
+    OtherRowLength,
+    /// 17: two records of a shelf have the same address.
+    EqualAddresses,
+    /// 18: the address or place that is named is not in the shelf's row.
+    NotInRow,
     /// A number that no document has here. The proved library never gives one. It
     /// stands here so that nothing has to panic if some other library is linked in its place.
     Unknown(u8),
@@ -75,6 +85,8 @@ impl Refusal {
             14 => Refusal::EmptyBox,
             15 => Refusal::NoSuchBox,
             16 => Refusal::ImageOutOfRange,
+            17 => Refusal::EqualAddresses,
+            18 => Refusal::NotInRow,
             other => Refusal::Unknown(other),
         })
     }
@@ -98,6 +110,16 @@ impl Refusal {
         }
     }
 
+    /// The refusal of this number by a call with a shelf's row. 0 is no refusal.
+    pub(crate) fn of_row(number: u8) -> Option<Refusal> {
+        match number {
+            5 => Some(Refusal::EmptyRow),
+            6 => Some(Refusal::LongRow),
+            9 => Some(Refusal::OtherRowLength),
+            _ => Refusal::of(number),
+        }
+    }
+
     /// The refusal of this number by a call with start-up scripts. 0 is no refusal.
     pub(crate) fn of_scripts(number: u8) -> Option<Refusal> {
         match number {
@@ -110,11 +132,11 @@ impl Refusal {
     pub fn number(self) -> u8 {
         match self {
             Refusal::NoSuchPart | Refusal::BadBox => 3,
-            Refusal::TraceCut | Refusal::SheetCut => 5,
-            Refusal::TooManyEvents | Refusal::LongScript => 6,
+            Refusal::TraceCut | Refusal::SheetCut | Refusal::EmptyRow => 5,
+            Refusal::TooManyEvents | Refusal::LongScript | Refusal::LongRow => 6,
             Refusal::BytesAfterEnd | Refusal::BytesAfterSheet => 7,
             Refusal::NoSuchStrapping => 8,
-            Refusal::TooLittleRoom | Refusal::OtherLength => 9,
+            Refusal::TooLittleRoom | Refusal::OtherLength | Refusal::OtherRowLength => 9,
             Refusal::WrongCount | Refusal::WrongBoxCount => 10,
             Refusal::AddressOutside => 11,
             Refusal::ByteCut => 12,
@@ -122,6 +144,8 @@ impl Refusal {
             Refusal::EmptyBox => 14,
             Refusal::NoSuchBox => 15,
             Refusal::ImageOutOfRange => 16,
+            Refusal::EqualAddresses => 17,
+            Refusal::NotInRow => 18,
             Refusal::Unknown(number) => number,
         }
     }
@@ -155,6 +179,11 @@ impl fmt::Display for Refusal {
             Refusal::ImageOutOfRange => {
                 "a field of the image has a value that no run from power-up gives it"
             }
+            Refusal::EmptyRow => "the shelf has no record",
+            Refusal::LongRow => "the shelf has more than 16 records",
+            Refusal::OtherRowLength => "a shelf's row has 39 bytes for each record",
+            Refusal::EqualAddresses => "two records of the shelf have the same address",
+            Refusal::NotInRow => "the address or place is not in the shelf's row",
             Refusal::Unknown(_) => "the library gave a number that no document has here",
         };
         write!(f, "refusal {}: {line}", self.number())
