@@ -7,13 +7,10 @@
 //!
 //! The address is in hex, and what stands after `#` is a comment. The part has no default.
 
-use gunwaleish::Refusal;
+use gunwaleish::{Refusal, MOST_RECORDS};
 
 use super::Slot;
 use crate::script::{each_line, Unread, Words};
-
-/// The most devices of a shelf.
-pub const MOST_DEVICES: usize = 16;
 
 /// The devices that stand in a shelf file, and its last line.
 pub fn read_shelf(text: &[u8]) -> Result<(Vec<Slot>, usize), Unread> {
@@ -33,17 +30,21 @@ fn take_line(words: &mut Words, slots: &mut Vec<Slot>) -> Result<(), Unread> {
 
 /// Why the shelf is refused, with the line of its file.
 pub fn refused(slots: &[Slot], last: usize, refusal: Refusal) -> String {
-    let number = refusal.number();
-    let (line, why) = match number {
-        5 => (last, "the shelf has no device".to_string()),
-        6 => {
-            let line = slots.get(MOST_DEVICES).map_or(last, |slot| slot.line);
-            (line, format!("the shelf has {} devices, and 16 are the most", slots.len()))
+    let (line, why) = match refusal {
+        Refusal::EmptyRow => (last, "the shelf has no device".to_string()),
+        Refusal::LongRow => {
+            let line = slots.get(MOST_RECORDS).map_or(last, |slot| slot.line);
+            (
+                line,
+                format!("the shelf has {} devices, and {MOST_RECORDS} are the most", slots.len()),
+            )
         }
-        17 => equal(slots).unwrap_or((last, "two devices have the same address".to_string())),
+        Refusal::EqualAddresses => {
+            equal(slots).unwrap_or((last, "two devices have the same address".to_string()))
+        }
         _ => return refusal.to_string(),
     };
-    format!("line {line}: refusal {number}: {why}")
+    format!("line {line}: refusal {}: {why}", refusal.number())
 }
 
 /// The first device whose address stands there before it.

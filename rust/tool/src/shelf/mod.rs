@@ -6,14 +6,12 @@
 //! tells it.
 
 pub mod file;
-mod row;
 pub mod words;
 
-use gunwaleish::{run, write_trace, Answer, Part, Pins, Refusal};
+use gunwaleish::{run, write_trace, Answer, Part, Pins, Refusal, Shelf};
 
 use crate::script::named::{Name, Named};
 use crate::story::{follow_run, Story};
-use row::Shelf;
 
 /// A place of the row: its address, its part, and its line in the shelf file.
 #[derive(Clone, Copy, Debug, PartialEq, Eq)]
