@@ -11,12 +11,14 @@ use crate::figures::Figures;
 use crate::imaging::image_calls;
 use crate::importing::importer_calls;
 use crate::ordering::sheet_calls;
+use crate::shelving::shelf_calls;
 use crate::starting::order_calls;
 use crate::writing::writer_calls;
 
 /// Compares one round of cases: some 55 good traces with 16,000 events and ten times as many
 /// damaged ones, some 100 calls of the writer, 60 of the converter, 90 of the importer, 190 with
-/// order sheets, 3,000 steps on images and 9 with start-up scripts.
+/// order sheets, 3,000 steps on images, 9 calls with start-up scripts and 400
+/// with shelves.
 pub fn round(seed: u64, figures: &mut Figures) {
     let mut rng = Rng::new(seed);
     for length in lengths(&mut rng) {
@@ -35,6 +37,7 @@ pub fn round(seed: u64, figures: &mut Figures) {
     sheet_calls(&mut rng, figures);
     image_calls(&mut rng, figures);
     order_calls(&mut rng, figures);
+    shelf_calls(&mut rng, figures);
 }
 
 /// Many short traces and a few long ones. A bus hangs only in those of 700 events and more.

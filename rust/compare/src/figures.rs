@@ -4,11 +4,8 @@ use std::collections::BTreeMap;
 use std::fmt;
 
 use model::happenings::{kinds_of, Happenings};
-use model::images::image_sights;
 use model::part::BOTH_KINDS;
-use model::scripts::{Scripts, ORDER_SIGHTS};
-use model::sheets::SHEET_SIGHTS;
-use model::sightings::SIGHTS;
+use model::scripts::Scripts;
 use model::trace::hex;
 use model::{read_trace, TraceResult};
 
@@ -17,21 +14,9 @@ use crate::converting::check_convert;
 use crate::importing::check_import;
 use crate::ordering::{check_box, check_sheet_events};
 use crate::starting::check_orders;
+use crate::wanted::{sights, CALLS};
 use crate::writing::{check_write, check_write_again};
 
-/// The calls that answer a number, each with the numbers that have to occur.
-const CALLS: &[(&str, &[u8])] = &[
-    ("run", &[0, 3, 5, 6, 7, 8, 9, 10]),
-    ("write", &[0, 3, 5, 6, 8, 9]),
-    ("convert", &[0, 5, 6, 7, 8, 9, 10]),
-    ("import", &[0, 9, 11, 12, 13]),
-    ("look up", &[0, 3, 5, 7, 10, 14, 15]),
-    ("sheet events", &[0, 3, 5, 7, 9, 10, 14]),
-    ("image step", &[0, 1, 2, 3, 4, 9, 16]),
-    ("image read", &[0, 3, 9, 16]),
-    ("image fresh", &[0, 3, 9]),
-    ("list orders", &[0, 5, 6, 9]),
-];
 /// So many mismatches are told in full. The rest are only counted.
 const TOLD: usize = 3;
 /// An input up to this length is told in hex. A longer one is kept as a file.
@@ -47,7 +32,7 @@ pub struct Figures {
     orders: u64,
     /// What happened in runs, one for each kind of part.
     happenings: [Happenings; 2],
-    /// What was seen in captures, on order sheets, in images and in orders of scripts.
+    /// What was seen in all other calls.
     pub(crate) sights: Happenings,
     mismatches: u64,
     told: Vec<String>,
@@ -234,8 +219,8 @@ impl Figures {
         self.mismatches == 0
     }
 
-    /// Every kind of happening in runs, for each kind of part, and every sight in captures, on order
-    /// sheets, in images and in orders of scripts, each with its count.
+    /// Every kind of happening in runs, for each kind of part, and every sight in all other calls, each
+    /// with its count.
     fn occurred(&self) -> Vec<(String, u64)> {
         let mut all = vec![];
         for (part, happenings) in BOTH_KINDS.into_iter().zip(&self.happenings) {
@@ -243,10 +228,7 @@ impl Figures {
                 kinds_of(part).map(|name| (format!("{part:?}: {name}"), happenings.count(name))),
             );
         }
-        let mut sights: Vec<String> =
-            SIGHTS.iter().chain(SHEET_SIGHTS).chain(ORDER_SIGHTS).map(|name| name.to_string()).collect();
-        sights.extend(image_sights());
-        all.extend(sights.into_iter().map(|name| (name.clone(), self.sights.count(&name))));
+        all.extend(sights().into_iter().map(|name| (name.clone(), self.sights.count(&name))));
         all
     }
 

@@ -58,7 +58,7 @@ fn part_of(kind: Kind) -> Part {
 }
 
 /// The first field that differs, by its name.
-fn images_differ(model: &[u8], library: &[u8]) -> Difference {
+pub(crate) fn images_differ(model: &[u8], library: &[u8]) -> Difference {
     if model.len() != IMAGE_LENGTH {
         return format!("{} is written, which has to stay", hex(model));
     }

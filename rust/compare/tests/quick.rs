@@ -6,6 +6,7 @@ use std::io::Write;
 use compare::fixed::*;
 use compare::imaging::{images_byte_by_byte, images_of_every_length};
 use compare::ordering::{sheets_one_by_one, sheets_side_by_side};
+use compare::shelving::{names_on_rows, rows_of_every_length};
 use compare::starting::{limits_of_orders, orders_of_every_length};
 use compare::{clock_seed, round, seed_or, Figures};
 use model::traces::seed_of;
@@ -112,4 +113,14 @@ fn start_up_scripts_of_every_length() {
 #[test]
 fn limits_of_their_orders() {
     check_all(limits_of_orders);
+}
+
+#[test]
+fn every_name_on_a_row() {
+    check_all(names_on_rows);
+}
+
+#[test]
+fn rows_of_any_length() {
+    check_all(rows_of_every_length);
 }
