@@ -170,7 +170,7 @@ fn a_shelf_of_one_is_a_device() {
         let run = gunwaleish::run(&trace).unwrap();
         let events: Vec<Named> = run.events.iter().copied().map(named).collect();
         let shelved = run_over(slots.clone(), &events).unwrap();
-        let answers: Vec<_> = shelved.answered.iter().map(|(_, answer)| *answer).collect();
+        let answers: Vec<_> = shelved.answered.iter().map(|(_, answer)| answer.unwrap()).collect();
         assert_eq!(answers, run.answers, "{name}");
         assert_eq!(shelved.stories[0].steps, follow(&trace).unwrap().steps, "{name}");
     }
@@ -238,7 +238,10 @@ fn shelves_are_the_models() {
             }
             seen[usize::from(expected.is_none())] += 1;
             seen[2] += usize::from(named.name == Name::All);
-            assert_eq!(*answer, expected.unwrap_or([18, 0, 0, 0]).into());
+            assert_eq!(
+                answer.map_err(|refusal| refusal.number()),
+                expected.map(Into::into).ok_or(18)
+            );
         }
         assert!(told.iter_mut().all(|steps| steps.next().is_none()));
         for (device, shown) in devices.iter_mut().zip(&shelved.shown) {

@@ -21,15 +21,15 @@ pub struct Slot {
     pub line: usize,
 }
 
-/// The refusal of an event whose address or place is not in the row.
-pub const NOT_IN_THE_ROW: u8 = 18;
+/// An event with its answer, which is that of the device that it names, or of place 0; or refused by the
+/// shelf, since its address or place is not in the row.
+pub type Answered = (Named, Result<Answer, Refusal>);
 
 /// A script that was run over a shelf.
 #[derive(Clone, Debug, PartialEq, Eq)]
 pub struct Shelved {
     pub slots: Vec<Slot>,
-    /// Each event with its answer, which is that of the device that it names, or of place 0.
-    pub answered: Vec<(Named, Answer)>,
+    pub answered: Vec<Answered>,
     /// What happens at each place. The events have their numbers in the script.
     pub stories: Vec<Story>,
     /// The device at each place after the last event, as the shelf shows it.
@@ -39,14 +39,9 @@ pub struct Shelved {
 impl Shelved {
     /// The events that the shelf refuses, each with its number in the script.
     pub fn refused(&self) -> impl Iterator<Item = (usize, &Named)> {
-        let numbered = self.answered.iter().enumerate();
-        let refused = numbered.filter(|(_, (_, answer))| is_refused(answer));
-        refused.map(|(place, (named, _))| (place + 1, named))
+        let refused = self.answered.iter().zip(1..).filter(|((_, answer), _)| answer.is_err());
+        refused.map(|((named, _), number)| (number, named))
     }
-}
-
-fn is_refused(answer: &Answer) -> bool {
-    answer.outcome.number() == NOT_IN_THE_ROW
 }
 
 /// Runs a script over a shelf of fresh devices.
@@ -54,15 +49,15 @@ pub fn run_over(slots: Vec<Slot>, events: &[Named]) -> Result<Shelved, Refusal> 
     let row: Vec<(u8, Part)> = slots.iter().map(|slot| (slot.address, slot.part)).collect();
     let mut shelf = Shelf::new(&row)?;
     let step = |named: &Named| (*named, shelf.step(named.name.number(), named.event));
-    let answered: Vec<(Named, Answer)> = events.iter().map(step).collect();
+    let answered: Vec<Answered> = events.iter().map(step).collect();
     let stories = (0..slots.len()).map(|place| story_at(place, &slots, &answered));
     let stories = stories.collect::<Result<_, _>>()?;
-    let shown = (0..slots.len()).map(|place| shelf.show(place as u8)).collect();
+    let shown = (0..slots.len()).map(|place| shelf.show(place as u8)).collect::<Result<_, _>>()?;
     Ok(Shelved { slots, answered, stories, shown })
 }
 
 /// What happens at a place.
-fn story_at(place: usize, slots: &[Slot], answered: &[(Named, Answer)]) -> Result<Story, Refusal> {
+fn story_at(place: usize, slots: &[Slot], answered: &[Answered]) -> Result<Story, Refusal> {
     let slot = slots[place];
     let here = |name: Name| match name {
         Name::Address(address) => address == slot.address,

@@ -3,7 +3,7 @@
 
 use gunwaleish::{Answer, Ground, Master};
 
-use super::{Shelved, Slot};
+use super::{Answered, Shelved, Slot};
 use crate::commands::explain;
 use crate::script::named::{Name, Named};
 use crate::story::Story;
@@ -80,7 +80,10 @@ pub fn why(named: &Named) -> String {
 
 /// Each event on a line: its answer as a listing has it, and then the event as a script has it.
 pub fn listed(shelved: &Shelved) -> String {
-    let line = |(named, answer): &(Named, Answer)| format!("{}  {named}\n", digits(answer));
+    let line = |(named, answer): &Answered| match answer {
+        Ok(answer) => format!("{}  {named}\n", digits(answer)),
+        Err(refusal) => format!("{:02X}000000  {named}\n", refusal.number()),
+    };
     shelved.answered.iter().map(line).collect()
 }
 
