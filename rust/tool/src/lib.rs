@@ -64,8 +64,8 @@ pub fn overview() -> String {
          such a folder.\n\
          Controller 0 and controller 1 are document 01's masters 0 and 1.\n\n\
          gunwaleish COMMAND --help tells more, with an example. --version gives the version.\n\n\
-         Exit code: 0 done; 1 a trace, script, capture or order sheet is refused, standard error\n\
-         says why and where; 2 wrong use, or a file that cannot be read or written.\n",
+         Exit code: 0 done; 1 a trace, script, shelf, capture or order sheet is refused, standard\n\
+         error says why and where; 2 wrong use, or a file that cannot be read or written.\n",
     );
     text
 }
