@@ -10,14 +10,12 @@
 //! - `imaging`: the flat image of a device on both sides.
 //! - `starting`: all orders of two start-up scripts on both sides.
 //! - `shelving`: a shelf of several arbiters on both sides.
-//! - `calls`: calls of the library that the crate `gunwaleish` does not have.
 //! - `words`: events and answers in words, for what differs.
 //! - `cases`: random calls, good and damaged, in rounds.
 //! - `fixed`: calls that are few enough to try them all.
 //! - `wanted`: the numbers and sights that have to occur.
 //! - `figures`: how many there were, what happened in them, and what never did.
 
-pub mod calls;
 pub mod cases;
 pub mod check;
 pub mod converting;

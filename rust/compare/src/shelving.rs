@@ -11,7 +11,6 @@ use model::shelves::*;
 use model::trace::hex;
 use model::{image_of, row_of, Device, Record, Shelf};
 
-use crate::calls;
 use crate::check::{pattern, Difference};
 use crate::figures::Figures;
 use crate::imaging::images_differ;
@@ -29,7 +28,7 @@ pub fn check_shelf_run(shelf: &Shelf, events: &[Named]) -> Result<Vec<(u8, Vec<u
     for (count, &(name, event)) in events.iter().enumerate() {
         let at = || format!("event {} of {}, {}", count + 1, events.len(), named(name, event));
         let answer = shelf.step(name, event);
-        same_answer(answer, calls::shelf_step(name, event, &mut row)).map_err(|e| at() + &e)?;
+        same_answer(answer, boundary::shelf_step(name, event, &mut row)).map_err(|e| at() + &e)?;
         same_row(&row_of(&shelf), &row).map_err(|e| format!("{}: {e}", at()))?;
         let reached = match naming_of(event[0]) {
             Naming::All => 0..alone.len(),
@@ -83,7 +82,7 @@ pub fn check_shelf_step(name: u8, event: [u8; 4], row: &[u8]) -> Result<u8, Diff
     let mut expected = row.to_vec();
     let answer = model::shelf_step(name, event, &mut expected);
     let mut buffer = row.to_vec();
-    let packed = calls::shelf_step(name, event, &mut buffer);
+    let packed = boundary::shelf_step(name, event, &mut buffer);
     same_answer(answer, packed).map_err(|e| named(name, event) + &e)?;
     same_row(&expected, &buffer).map_err(|e| format!("{}: {e}", named(name, event)))?;
     Ok(answer[0])
@@ -92,7 +91,7 @@ pub fn check_shelf_step(name: u8, event: [u8; 4], row: &[u8]) -> Result<u8, Diff
 /// Shows a place of any buffer. Gives the first answer byte.
 pub fn check_shelf_show(place: u8, row: &[u8]) -> Result<u8, Difference> {
     let answer = model::shelf_show(place, row);
-    same_answer(answer, calls::shelf_show(place, row)).map_err(|e| format!("place {place}{e}"))?;
+    same_answer(answer, boundary::shelf_show(place, row)).map_err(|e| format!("place {place}{e}"))?;
     Ok(answer[0])
 }
 
@@ -100,7 +99,7 @@ pub fn check_shelf_show(place: u8, row: &[u8]) -> Result<u8, Difference> {
 pub fn check_shelf_fresh(slots: &[u8], row: &[u8]) -> Result<u8, Difference> {
     let (mut expected, mut buffer) = (row.to_vec(), row.to_vec());
     let number = model::shelf_fresh(slots, &mut expected);
-    let said = calls::shelf_fresh(slots, &mut buffer);
+    let said = boundary::shelf_fresh(slots, &mut buffer);
     if said != u32::from(number) {
         return Err(format!("fresh row in {}: model {number}, library {said}", row.len()));
     }
