@@ -1,0 +1,12 @@
+pub mod Bits
+pub mod Parts
+pub mod Box
+pub mod Said
+pub mod Lists
+pub mod Status
+pub mod Told
+pub mod Using
+pub mod Sender
+pub mod Reading
+pub mod Runs
+pub mod Assurance
