@@ -77,6 +77,15 @@ fn mail_goes_both_ways() {
     assert_eq!(bytes_read("mail"), [0x20, 0x34, 0x12, 0x10, 0xCD, 0xAB]);
 }
 
+/// Four words are read, in the order in which they filled their boxes, and the dropped ones nowhere.
+#[test]
+fn takeover_words_come_once() {
+    let bytes = [[0x34, 0x12], [0xF0, 0xDE], [0xBC, 0x9A], [0x22, 0x44]].concat();
+    let mut read = bytes_read("takeover");
+    assert_eq!(read.remove(2), 0x10, "mail emptied");
+    assert_eq!(read, bytes);
+}
+
 /// Both ask, both let go, both ask, and so once more. STATUS bit 0 of the first two losers in turn,
 /// then LOCK_GRANT of the second winner. Equal priorities twice, then master 1's own.
 #[test]

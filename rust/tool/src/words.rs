@@ -93,6 +93,18 @@ pub fn meaning(step: &Step) -> Option<String> {
     }
 }
 
+/// That a full mailbox drops the event's byte, or a byte of the PAIR.
+pub fn dropped(step: &Step) -> Option<String> {
+    let why = "dropped: the box is full";
+    match (step.dropped, step.event) {
+        ([false, false], _) => None,
+        ([true, true], _) => Some(format!("both {}", why.replace("box is", "boxes are"))),
+        ([true, false], Event::Pair { .. }) => Some(format!("0: {why}")),
+        ([false, true], Event::Pair { .. }) => Some(format!("1: {why}")),
+        _ => Some(why.to_string()),
+    }
+}
+
 fn level(high: bool) -> &'static str {
     if high {
         "high"

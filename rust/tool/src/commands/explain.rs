@@ -16,8 +16,8 @@ pub const COMMAND: Command = Command {
     help: "The first lines name the part and what its idle timer and its write pointer do. A line has\n\
            the event's number, the ticks passed, what came, what was answered, then who owns the\n\
            bus, who is connected, who waits, which interrupt outputs are asserted and the levels of\n\
-           SCL and SDA, all after the event; then the names of the byte's bits, and what changed, a\n\
-           claim with its ground.\n\
+           SCL and SDA, all after the event; then the names of the byte's bits, whether a full\n\
+           mailbox drops it, and what changed, a claim with its ground.\n\
            What a controller does begins with its number. Ticks in which nothing changes share a\n\
            line.",
     options: &[],
@@ -114,10 +114,11 @@ fn line(steps: &[Step]) -> Option<Line> {
     })
 }
 
-/// What the byte's bits are called, in brackets, and what changed.
+/// What the byte's bits are called, in brackets, that it is dropped, and what changed.
 fn remarks(step: &Step) -> Vec<String> {
     let names = words::meaning(step).map(|names| format!("({names})"));
-    names.into_iter().chain(step.changes.iter().map(words::change)).collect()
+    let byte = names.into_iter().chain(words::dropped(step));
+    byte.chain(step.changes.iter().map(words::change)).collect()
 }
 
 /// Who owns, who is connected, who waits, which outputs are asserted, and the lines.

@@ -1,13 +1,14 @@
 //! A run, followed event by event: what can be seen of the device, and what changed.
 //!
-//! Owner, switch, the ground of a claim, outputs and lines stand in the library's answers. Three
+//! Owner, switch, the ground of a claim, outputs and lines stand in the library's answers. Four
 //! things do not: who waits, which `written` derives from what was written and answered; who claims
-//! before its grant, which `claim` derives from that; and whether the bus is hung, which `hung` asks
-//! the library.
+//! before its grant, which `claim` derives from that; whether a full mailbox drops a byte, which
+//! `mail` derives as `written` does; and whether the bus is hung, which `hung` asks the library.
 
 mod changes;
 mod claim;
 mod hung;
+mod mail;
 mod part;
 mod written;
 
@@ -60,6 +61,8 @@ pub struct Step {
     /// What each master had written before this event, and after it.
     pub before: [Written; 2],
     pub after: [Written; 2],
+    /// A byte that this master wrote was dropped, since its partner's mailbox is full.
+    pub dropped: [bool; 2],
     /// What can be seen after it.
     pub scene: Scene,
     /// What changed in it.
@@ -106,6 +109,7 @@ pub fn follow(trace: &[u8]) -> Result<Story, Refusal> {
 pub fn follow_run(run: Run) -> Story {
     let hung = hung::flags(&run);
     let mut written = [Written::new(run.part); 2];
+    let mut boxes = mail::Boxes::default();
     let mut scene = POWER_UP;
     let mut last = None;
     let mut tick = 0;
@@ -123,6 +127,7 @@ pub fn follow_run(run: Run) -> Story {
             answer,
             before,
             after: written,
+            dropped: boxes.take(event, answer, &before),
             scene: now,
             changes: vec![],
         };
