@@ -1,0 +1,4 @@
+pub mod Counts
+pub mod Tick
+pub mod Ticks
+pub mod Unique
