@@ -1,0 +1,13 @@
+pub mod Numbers
+pub mod Ticks
+pub mod Tallied
+pub mod Rounds
+pub mod Quiet
+pub mod Own
+pub mod Runs
+pub mod Sound
+pub mod Order
+pub mod Joined
+pub mod Examples
+pub mod Buffers
+pub mod Unique

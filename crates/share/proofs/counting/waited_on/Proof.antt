@@ -1,0 +1,20 @@
+-- `share::counting::waited_on` meets its contract.
+-- Assumes nothing.
+use borrow.Author.Needs.{needs}
+use Rattle.share.specs.Walk.{waitedOn}
+use Rattle.share.proofs.counting.waited_on.Statement.{statement}
+use Rattle.share.proofs.counting.waited_on.Tie as tie
+
+add-result : tie.Need-add-result
+add-result c = search needs
+
+returns : tie.Need-returns
+unfolding waitedOn
+returns c = simp (c .if1 .taken)
+
+returns-2 : tie.Need-returns-2
+unfolding waitedOn
+returns-2 c = simp (c .if1 .left)
+
+pub waited-on-spec : {M : Type 1} → statement M
+waited-on-spec = tie.close (tie.spec add-result returns returns-2)

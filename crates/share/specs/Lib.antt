@@ -1,0 +1,7 @@
+pub mod Numbers
+pub mod States
+pub mod Share
+pub mod Walk
+pub mod Laws
+pub mod Examples
+pub mod Lent
