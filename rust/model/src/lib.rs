@@ -22,6 +22,8 @@
 //! - `image`, `image_fields`: the device as 38 bytes, and a step on them (document 02, #108).
 //! - `orders`: all orders of two start-up scripts (document 02, #109).
 //! - `shelf`, `row`: several devices with addresses, as records and as bytes (document 02, #110).
+//! - `share`, `report`: the ticks that each controller owned, was connected and waited (document 02,
+//!   #112).
 //! - `rng`, `phrases`, `waits`, `traces`, `damage`: random cases for the tests.
 //! - `happenings`, `hanging`, `second_part`, `grounds`, `kinds`: what happens in them.
 //! - `pen`, `captures`, `capture_damage`, `sightings`: random captures, and what is seen in them.
@@ -29,7 +31,9 @@
 //! - `images`: random images, good and damaged, and what is seen in them.
 //! - `scripts`: random pairs of start-up scripts, and what is seen in their orders.
 //! - `shelves`, `shelf_sights`: random shelves and runs on them, and what is seen in them.
+//! - `shares`: random totals and traces to add, and what is seen in them.
 //! - `stored`: the traces that the repository keeps as one set.
+//! - `stored_share`: the inputs of the bus share report that it keeps.
 
 pub mod bytes;
 pub mod capture;
@@ -51,10 +55,13 @@ pub mod orders;
 pub mod part;
 pub mod pen;
 pub mod phrases;
+pub mod report;
 pub mod rng;
 pub mod row;
 pub mod scripts;
 pub mod second_part;
+pub mod share;
+pub mod shares;
 pub mod sheet;
 pub mod sheets;
 pub mod shelf;
@@ -63,6 +70,7 @@ pub mod shelves;
 pub mod sightings;
 pub mod step;
 pub mod stored;
+pub mod stored_share;
 pub mod straps;
 pub mod trace;
 pub mod traces;
@@ -75,7 +83,9 @@ pub use device::{Device, Switch};
 pub use image::{image_fresh, image_of, image_read, image_step, read_image};
 pub use orders::{list_orders, Listed};
 pub use part::Kind;
+pub use report::share_report;
 pub use row::{read_row, row_of, shelf_fresh, shelf_show, shelf_step};
+pub use share::{share_add, Totals};
 pub use sheet::{look_up, sheet_events};
 pub use shelf::{Record, Shelf};
 pub use straps::{address_of, pins_of};

@@ -5,6 +5,7 @@
 //! this list, so they cannot drift apart.
 
 use crate::damage::{damage, Damage, ALL_DAMAGES};
+use crate::report::input_of;
 use crate::rng::Rng;
 use crate::trace::{listing, MOST_EVENTS};
 use crate::traces::{seed_of, trace, trace_of};
@@ -64,14 +65,7 @@ fn any_bytes(place: u64) -> Vec<u8> {
 
 /// The input: the length in two bytes, low first, then the trace.
 pub fn input() -> Vec<u8> {
-    let mut bytes = vec![];
-    for trace in stored_traces() {
-        // No trace of the set is longer than two bytes can tell.
-        let length = u16::try_from(trace.len()).expect("a stored trace has at most 65535 bytes");
-        bytes.extend(length.to_le_bytes());
-        bytes.extend(trace);
-    }
-    bytes
+    input_of(&stored_traces())
 }
 
 /// The output: every listing, in the same order.

@@ -7,7 +7,9 @@ use model::happenings::Happenings;
 use model::listing;
 use model::part::BOTH_KINDS;
 use model::read_trace;
+use model::report::totals_of_input;
 use model::stored::{input, output, stored_traces};
+use model::stored_share::cases;
 
 /// A file of the stored set.
 fn file(name: &str) -> PathBuf {
@@ -52,5 +54,33 @@ fn stored_set_hangs_the_bus() {
     let kinds = ["hung by SCL", "hung by SDA", "SDA low for 501 ticks, not hung: the clock runs"];
     for kind in kinds {
         assert!(happenings.count(kind) > 0, "no {kind}");
+    }
+}
+
+/// The inputs of the bus share report have shares for both controllers, every refusal, and ends of
+/// every kind.
+#[test]
+fn stored_shares_have_every_kind() {
+    let case = |name: &str| cases().into_iter().find(|case| case.name == name).expect(name);
+    for name in ["accepted", "mixed"] {
+        let (totals, past) = totals_of_input(&case(name).input);
+        assert!(totals.numbers()[..11].iter().all(|number| *number > 0), "{totals:?}");
+        assert!(!past);
+    }
+    for name in ["refused", "mixed"] {
+        let (totals, _) = totals_of_input(&case(name).input);
+        assert!(totals.refused.iter().all(|count| *count > 0), "{totals:?}");
+    }
+    let accepted = case("accepted").output();
+    for name in ["cut-in-a-trace", "cut-after-a-length", "cut-in-a-length"] {
+        assert_eq!(case(name).output(), accepted);
+        assert_eq!(totals_of_input(&case(name).input).0.refused, [0, 1, 0, 0, 0, 0]);
+    }
+    for name in ["empty", "length-of-0", "refused"] {
+        assert_eq!(case(name).output(), "0 0 0 0\n1 0 0 0\n");
+    }
+    let most = case("most").output();
+    for name in ["past", "past-and-cut", "past-in-a-length"] {
+        assert_eq!(case(name).output(), format!("{most}R6\n"));
     }
 }
