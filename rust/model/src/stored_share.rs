@@ -35,12 +35,16 @@ pub fn cases() -> Vec<Case> {
     let case = |name, parts: &[&[u8]]| Case { name, input: parts.concat() };
     let accepted = input_of(&good);
     let mixed = input_of(&stored_traces());
+    // As long as a length can say, with all but its beginning after the end of a good trace.
+    let mut long = good[good.len() - 1].clone();
+    long.resize(usize::from(u16::MAX), 0);
     let most = input_of(&vec![vec![]; MOST_TRACES as usize - 1]);
     vec![
         case("accepted", &[&accepted]),
         case("refused", &[&input_of(&refused_traces())]),
         // Accepted and refused traces, a length of 0 among them.
         case("mixed", &[&mixed]),
+        case("long", &[&input_of(&[first.clone(), long, first.clone()])]),
         case("cut-in-a-trace", &[&accepted, &length, &cut]),
         case("cut-after-a-length", &[&accepted, &length]),
         case("cut-in-a-length", &[&accepted, &length[..1]]),

@@ -79,6 +79,8 @@ fn stored_shares_have_every_kind() {
     for name in ["empty", "length-of-0", "refused"] {
         assert_eq!(case(name).output(), "0 0 0 0\n1 0 0 0\n");
     }
+    let (long, _) = totals_of_input(&case("long").input);
+    assert_eq!((long.traces, long.refused), (3, [0, 0, 0, 1, 0, 0]));
     let most = case("most").output();
     for name in ["past", "past-and-cut", "past-in-a-length"] {
         assert_eq!(case(name).output(), format!("{most}R6\n"));
