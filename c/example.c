@@ -1,7 +1,7 @@
 /* Lists a trace, says in words what part it is for, who owns the bus at its end and why its claim was won, steps its events one by one on an
  * image of the device, writes the trace again, takes its part away as in an old trace and has it converted, asks for the bus on a shelf of
- * three arbiters, and shows straps both ways. With a capture it says what that has for the device at 71h, and with two order sheets what they order, and who owns the bus at the end if the two
- * controllers start up in any order.
+ * three arbiters, counts the bus share of some traces, and shows straps both ways. With a capture it says what that has for the device at 71h, and
+ * with two order sheets what they order, and who owns the bus at the end if the two controllers start up in any order.
  * Usage: example TRACE-FILE [CAPTURE-FILE [BOARD-SHEET HOUSE-SHEET]] */
 #include <stdio.h>
 #include <string.h>
@@ -213,6 +213,29 @@ static void show_shelf(void) {
            gunwaleish_number(gunwaleish_shelf_fresh(equal, sizeof equal, row, sizeof row)));
 }
 
+/* Two TICKs after each of which the bus is owned by nobody. */
+static const uint8_t two_ticks[8] = {6, 0, 0, 0, 6, 0, 0, 0};
+
+/* The bus share of the trace and of two TICKs, each counted by itself, then joined; a trace that is refused; and one too many. */
+static void show_share(size_t length) {
+    uint64_t totals[GUNWALEISH_TOTALS] = {0};
+    uint64_t other[GUNWALEISH_TOTALS] = {0};
+    uint64_t made = gunwaleish_write_trace(0, 0, 0, 0, GUNWALEISH_PCA9641, two_ticks, sizeof two_ticks, written, sizeof written);
+    gunwaleish_share_add(trace, length, totals, GUNWALEISH_TOTALS);
+    gunwaleish_share_add(written, gunwaleish_length(made), other, GUNWALEISH_TOTALS);
+    unsigned cut = gunwaleish_number(gunwaleish_share_add(written, gunwaleish_length(made) - 1, other, GUNWALEISH_TOTALS));
+    gunwaleish_share_join(other, GUNWALEISH_TOTALS, totals, GUNWALEISH_TOTALS);
+    printf("bus share of %llu traces with %llu ticks: master 0 owned %llu, master 1 %llu, nobody %llu; cut short, number %u: %llu\n",
+           (unsigned long long)totals[GUNWALEISH_TOTAL_TRACES], (unsigned long long)totals[GUNWALEISH_TOTAL_TICKS],
+           (unsigned long long)totals[GUNWALEISH_TOTAL_OWNED_0], (unsigned long long)totals[GUNWALEISH_TOTAL_OWNED_1],
+           (unsigned long long)totals[GUNWALEISH_TOTAL_OWNED_BY_NONE], cut, (unsigned long long)totals[GUNWALEISH_TOTAL_REFUSED_5]);
+    totals[GUNWALEISH_TOTAL_TRACES] = GUNWALEISH_MOST_TRACES;
+    unsigned past = gunwaleish_number(gunwaleish_share_add(trace, length, totals, GUNWALEISH_TOTALS));
+    unsigned joined = gunwaleish_number(gunwaleish_share_join(other, GUNWALEISH_TOTALS, totals, GUNWALEISH_TOTALS));
+    unsigned shorter = gunwaleish_number(gunwaleish_share_add(trace, length, totals, GUNWALEISH_TOTALS - 1));
+    printf("a trace past 65,535: refused, number %u; joined past them: number %u; totals that are one short: number %u\n", past, joined, shorter);
+}
+
 /* Reads a file into a buffer. Gives 0 if it cannot be opened. */
 static int read_file(const char *name, uint8_t *bytes, size_t room, size_t *length) {
     FILE *file = fopen(name, "rb");
@@ -244,6 +267,7 @@ int main(int argc, char **argv) {
         show_sheets(lengths[2], lengths[3]);
     }
     show_shelf();
+    show_share(lengths[0]);
     show_address(1, 1, 1, 3);
     show_address(1, 0, 0, 0);
     show_pins(0x0F);

@@ -3,8 +3,9 @@
  * Link with libgunwaleish.a, which `tools/library` writes to target/staticlib/.
  *
  * What a caller owes, since C cannot say it: a pointer is never null, also with length 0; the bytes it points to are there for that
- * length; and the range that a call writes overlaps none that it reads, an image and a row apart, which are one range for both. Any bytes are
- * taken as a trace, as events, as samples, as a sheet, as an image, as a row, as slots or as a script.
+ * length; and the range that a call writes overlaps none that it reads, an image, a row and totals apart, which are one range for both. Any bytes
+ * are taken as a trace, as events, as samples, as a sheet, as an image, as a row, as slots or as a script, and any numbers as totals. A pointer to
+ * numbers counts in numbers, and is aligned as C has it.
  */
 #ifndef GUNWALEISH_H
 #define GUNWALEISH_H
@@ -17,8 +18,8 @@ extern "C" {
 #endif
 
 /* The numbers of documents 01 and 02. 0 to 4 are outcomes of one event, the others refuse a whole call; so does 3, for a kind of part other
- * than 0 and 1 and for an order sheet. Where a number says one thing of a trace and another of an order sheet, of a start-up script or of a
- * shelf's row, it has a name for each. A call that is not refused has 0. */
+ * than 0 and 1 and for an order sheet. Where a number says one thing of a trace and another of an order sheet, of a start-up script, of a
+ * shelf's row or of totals, it has a name for each. A call that is not refused has 0. */
 enum gunwaleish_numbers {
     GUNWALEISH_DONE = 0,                   /* done, accepted */
     GUNWALEISH_NOT_ACKNOWLEDGED = 1,       /* the byte was not acknowledged */
@@ -34,12 +35,14 @@ enum gunwaleish_numbers {
     GUNWALEISH_TOO_MANY_EVENTS = 6,        /* more than 4,096 events */
     GUNWALEISH_LONG_SCRIPT = 6,            /* of a start-up script: more than six events */
     GUNWALEISH_LONG_ROW = 6,               /* of a shelf: its row has more than 16 records */
+    GUNWALEISH_TOO_MANY_TRACES = 6,        /* of totals: there are 65,535 traces in them, or two of them have more together */
     GUNWALEISH_BYTES_AFTER_END = 7,        /* bytes after the trace's end */
     GUNWALEISH_BYTES_AFTER_SHEET = 7,      /* bytes after an order sheet's end */
     GUNWALEISH_NO_SUCH_STRAPPING = 8,      /* a pin code above 3, or a strapping without an address */
     GUNWALEISH_TOO_LITTLE_ROOM = 9,        /* the buffer is too short */
     GUNWALEISH_OTHER_LENGTH = 9,           /* of an image: the buffer has not 38 bytes, but fewer or more */
     GUNWALEISH_OTHER_ROW_LENGTH = 9,       /* of a shelf: the row's bytes are not 39 for each record, or the slots' not two for each */
+    GUNWALEISH_OTHER_TOTALS_LENGTH = 9,    /* of totals: the buffer has not 17 numbers, but fewer or more */
     GUNWALEISH_WRONG_COUNT = 10,           /* the first byte, the count of pins, is not 4, or the count of the kind of part is not 1 */
     GUNWALEISH_WRONG_BOX_COUNT = 10,       /* of an order sheet: the count of a section is not 2 */
     GUNWALEISH_ADDRESS_OUTSIDE = 11,       /* the address is not one of 08h to 77h */
@@ -107,6 +110,31 @@ enum gunwaleish_sheets {
 #define GUNWALEISH_MOST_SCRIPT 6
 #define GUNWALEISH_MOST_SCRIPT_BYTES (4 * GUNWALEISH_MOST_SCRIPT)
 #define GUNWALEISH_MOST_ORDERS 924
+
+/* The totals of the bus share are so many numbers of 64 bits, over so many traces at most. */
+#define GUNWALEISH_TOTALS 17
+#define GUNWALEISH_MOST_TRACES 65535
+
+/* What each of them is, by its place. Ticks are accepted TICKs, and each counts for the state after it. */
+enum gunwaleish_totals {
+    GUNWALEISH_TOTAL_TRACES = 0,           /* all traces, the refused ones among them */
+    GUNWALEISH_TOTAL_TICKS = 1,            /* owned by 0, owned by 1 and owned by none add up to them */
+    GUNWALEISH_TOTAL_OWNED_0 = 2,
+    GUNWALEISH_TOTAL_OWNED_1 = 3,
+    GUNWALEISH_TOTAL_OWNED_BY_NONE = 4,
+    GUNWALEISH_TOTAL_CONNECTED_0 = 5,      /* its switch is closed */
+    GUNWALEISH_TOTAL_CONNECTED_1 = 6,
+    GUNWALEISH_TOTAL_WAITED_0 = 7,         /* its request stands, and it is not granted */
+    GUNWALEISH_TOTAL_WAITED_1 = 8,
+    GUNWALEISH_TOTAL_LONGEST_0 = 9,        /* its longest wait, in ticks after each of which it waited, in one trace */
+    GUNWALEISH_TOTAL_LONGEST_1 = 10,
+    GUNWALEISH_TOTAL_REFUSED_3 = 11,       /* the traces that were refused, by their number */
+    GUNWALEISH_TOTAL_REFUSED_5 = 12,
+    GUNWALEISH_TOTAL_REFUSED_6 = 13,
+    GUNWALEISH_TOTAL_REFUSED_7 = 14,
+    GUNWALEISH_TOTAL_REFUSED_8 = 15,
+    GUNWALEISH_TOTAL_REFUSED_10 = 16
+};
 
 /* The four bytes of an answer, by their places. */
 #define GUNWALEISH_ANSWER_OUTCOME 0
@@ -223,6 +251,18 @@ uint32_t gunwaleish_shelf_show(uint8_t place, const uint8_t *row, size_t row_len
  * listed stay. The two scripts are only read, and may be the same. */
 uint64_t gunwaleish_list_orders(const uint8_t *script0, size_t script0_len, const uint8_t *script1, size_t script1_len, size_t limit,
                                 uint8_t *listed, size_t listed_len);
+
+/* The bus share over many traces is 17 totals in a buffer of the caller's, all 0 at first. Any numbers are taken: a sum of made-up ones stops at the
+ * top of 64 bits, which no sum over traces reaches. A buffer with another count of numbers is refused with 9 and stays as it was. */
+
+/* Adds a trace, which runs from power-up: the ticks that each controller owned the bus, was connected and waited. Gives 0, or the number of a
+ * trace that is refused: it adds one to the traces and one to those refused with its number, and nothing else. With 65,535 traces in the totals it
+ * is 6, whatever the trace, and the totals are kept. */
+uint32_t gunwaleish_share_add(const uint8_t *trace, size_t trace_len, uint64_t *totals, size_t totals_len);
+
+/* Joins the totals of other traces to these, so that traces can be counted in several places, in several threads too: the totals are then those of
+ * all the traces counted in one, in whatever order. Gives 0, or 6 if that is more than 65,535 traces, and the totals are kept. */
+uint32_t gunwaleish_share_join(const uint64_t *other, size_t other_len, uint64_t *totals, size_t totals_len);
 
 /* The address of a strapping; pin codes are 0 VSS, 1 VDD, 2 pull-down, 3 pull-up. Packed: number + 256 * address; number 0 or 8. */
 uint32_t gunwaleish_address_of(uint8_t ad3, uint8_t ad2, uint8_t ad1, uint8_t ad0);

@@ -2,9 +2,9 @@
 //! the library's packed number as it is. The functions at the crate's root take it apart.
 //!
 //! This is the only file with `unsafe`. Every call is sound for the same four reasons. A Rust
-//! slice passes as its pointer and its length, as the library asks. The pointer of a Rust slice
-//! is never null, also that of an empty one. A `&[u8]` and a `&mut [u8]` never overlap; two
-//! `&[u8]` may, since they are only read. And the library is proved to read and write inside the
+//! slice passes as its pointer and its length, in elements, as the library asks. The pointer of a
+//! Rust slice is never null and is aligned, also that of an empty one. A `&[T]` and a `&mut [T]`
+//! never overlap; two `&[T]` may, since they are only read. And the library is proved to read and write inside the
 //! slices alone, to keep nothing of them, and to end.
 
 extern "C" {
@@ -87,6 +87,18 @@ extern "C" {
         slots_len: usize,
         row: *mut u8,
         row_len: usize,
+    ) -> u32;
+    fn gunwaleish_share_add(
+        trace: *const u8,
+        trace_len: usize,
+        totals: *mut u64,
+        totals_len: usize,
+    ) -> u32;
+    fn gunwaleish_share_join(
+        other: *const u64,
+        other_len: usize,
+        totals: *mut u64,
+        totals_len: usize,
     ) -> u32;
     fn gunwaleish_list_orders(
         script0: *const u8,
@@ -212,6 +224,20 @@ pub fn shelf_fresh(slots: &[u8], row: &mut [u8]) -> u32 {
     let (slots, slots_len) = (slots.as_ptr(), slots.len());
     // SAFETY: see the head of this file.
     unsafe { gunwaleish_shelf_fresh(slots, slots_len, row.as_mut_ptr(), row.len()) }
+}
+
+/// The number. The buffer has the totals with this trace, or is as it was.
+pub fn share_add(trace: &[u8], totals: &mut [u64]) -> u32 {
+    let (trace, trace_len) = (trace.as_ptr(), trace.len());
+    // SAFETY: see the head of this file.
+    unsafe { gunwaleish_share_add(trace, trace_len, totals.as_mut_ptr(), totals.len()) }
+}
+
+/// The number. The buffer has the totals with the others joined, or is as it was.
+pub fn share_join(other: &[u64], totals: &mut [u64]) -> u32 {
+    let (other, other_len) = (other.as_ptr(), other.len());
+    // SAFETY: see the head of this file.
+    unsafe { gunwaleish_share_join(other, other_len, totals.as_mut_ptr(), totals.len()) }
 }
 
 /// The number, then the count of listed orders, packed as 1 and 256.

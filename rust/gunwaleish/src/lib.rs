@@ -36,6 +36,9 @@
 //!
 //! A `Shelf` is a row of up to 16 such devices with their addresses, on the same two upstream buses.
 //!
+//! `Totals` is the bus share over many traces: for how many ticks each controller owned the bus, was
+//! connected, and waited.
+//!
 //! Before both controllers' start-up scripts are packaged, `list_orders` tries them in all the orders
 //! that keep each script's own order, and says for each how the bus stands at its end.
 //!
@@ -52,6 +55,7 @@ mod part;
 mod pins;
 mod refusal;
 mod run;
+mod share;
 mod sheet;
 mod shelf;
 mod writing;
@@ -65,6 +69,7 @@ pub use part::Part;
 pub use pins::Pins;
 pub use refusal::Refusal;
 pub use run::{run, run_trace, Report, Run};
+pub use share::{Totals, MOST_TRACES, TOTAL_COUNT};
 pub use sheet::{
     sheet_box, sheet_events, sheet_events_into, Found, Section, Sheet, SHEET_EVENTS, SHEET_LENGTH,
 };

@@ -4,7 +4,7 @@ use std::fmt;
 
 /// A refusal of a whole call. The library keeps to the documents' numbers, and so does `number`.
 /// Where a number says one thing of a trace and another of an order sheet, an image, a start-up
-/// script or a shelf, it has a name for each.
+/// script, a shelf or totals, it has a name for each.
 /// Later calls bring numbers of their own.
 #[derive(Clone, Copy, Debug, PartialEq, Eq, Hash)]
 #[non_exhaustive]
@@ -58,6 +58,8 @@ pub enum Refusal {
     LongRow,
     /// 9: the bytes of a shelf's row are not 39 for each record.
     OtherRowLength,
+    /// 6: totals of the bus share are over 65,535 traces, or two of them over more together.
+    TooManyTraces,
     /// 17: two records of a shelf have the same address.
     EqualAddresses,
     /// 18: the address or place that is named is not in the shelf's row.
@@ -133,7 +135,10 @@ impl Refusal {
         match self {
             Refusal::NoSuchPart | Refusal::BadBox => 3,
             Refusal::TraceCut | Refusal::SheetCut | Refusal::EmptyRow => 5,
-            Refusal::TooManyEvents | Refusal::LongScript | Refusal::LongRow => 6,
+            Refusal::TooManyEvents
+            | Refusal::LongScript
+            | Refusal::LongRow
+            | Refusal::TooManyTraces => 6,
             Refusal::BytesAfterEnd | Refusal::BytesAfterSheet => 7,
             Refusal::NoSuchStrapping => 8,
             Refusal::TooLittleRoom | Refusal::OtherLength | Refusal::OtherRowLength => 9,
@@ -181,6 +186,7 @@ impl fmt::Display for Refusal {
             }
             Refusal::EmptyRow => "the shelf has no record",
             Refusal::LongRow => "the shelf has more than 16 records",
+            Refusal::TooManyTraces => "the totals are over 65,535 traces, and no more fit",
             Refusal::OtherRowLength => "a shelf's row has 39 bytes for each record",
             Refusal::EqualAddresses => "two records of the shelf have the same address",
             Refusal::NotInRow => "the address or place is not in the shelf's row",
