@@ -11,14 +11,15 @@ use crate::figures::Figures;
 use crate::imaging::image_calls;
 use crate::importing::importer_calls;
 use crate::ordering::sheet_calls;
+use crate::sharing::share_calls;
 use crate::shelving::shelf_calls;
 use crate::starting::order_calls;
 use crate::writing::writer_calls;
 
 /// Compares one round of cases: some 55 good traces with 16,000 events and ten times as many
 /// damaged ones, some 100 calls of the writer, 60 of the converter, 90 of the importer, 190 with
-/// order sheets, 3,000 steps on images, 9 calls with start-up scripts and 400
-/// with shelves.
+/// order sheets, 3,000 steps on images, 9 calls with start-up scripts, 400 with
+/// shelves and 17 that add to totals.
 pub fn round(seed: u64, figures: &mut Figures) {
     let mut rng = Rng::new(seed);
     for length in lengths(&mut rng) {
@@ -38,6 +39,7 @@ pub fn round(seed: u64, figures: &mut Figures) {
     image_calls(&mut rng, figures);
     order_calls(&mut rng, figures);
     shelf_calls(&mut rng, figures);
+    share_calls(&mut rng, figures);
 }
 
 /// Many short traces and a few long ones. A bus hangs only in those of 700 events and more.

@@ -10,6 +10,7 @@
 //! - `imaging`: the flat image of a device on both sides.
 //! - `starting`: all orders of two start-up scripts on both sides.
 //! - `shelving`: a shelf of several arbiters on both sides.
+//! - `sharing`: the totals of the bus share report on both sides.
 //! - `words`: events and answers in words, for what differs.
 //! - `cases`: random calls, good and damaged, in rounds.
 //! - `fixed`: calls that are few enough to try them all.
@@ -24,6 +25,7 @@ pub mod fixed;
 pub mod imaging;
 pub mod importing;
 pub mod ordering;
+pub mod sharing;
 pub mod shelving;
 pub mod starting;
 pub mod wanted;

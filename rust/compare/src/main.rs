@@ -5,6 +5,7 @@ use std::thread;
 use compare::fixed::*;
 use compare::imaging::{images_byte_by_byte, images_of_every_length};
 use compare::ordering::{sheets_one_by_one, sheets_side_by_side};
+use compare::sharing::{shares_of_stored, totals_of_every_length};
 use compare::shelving::{names_on_rows, rows_of_every_length};
 use compare::starting::{limits_of_orders, orders_of_every_length};
 use compare::{clock_seed, round, seed_or, Figures};
@@ -40,6 +41,8 @@ fn main() {
     limits_of_orders(&mut figures);
     names_on_rows(&mut figures);
     rows_of_every_length(&mut figures);
+    shares_of_stored(&mut figures);
+    totals_of_every_length(&mut figures);
     print!("{figures}{}", figures.happenings());
     let never = figures.never();
     if !never.is_empty() {

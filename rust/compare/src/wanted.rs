@@ -2,6 +2,7 @@
 
 use model::images::image_sights;
 use model::scripts::ORDER_SIGHTS;
+use model::shares::SHARE_SIGHTS;
 use model::sheets::SHEET_SIGHTS;
 use model::shelf_sights::shelf_sights;
 use model::sightings::SIGHTS;
@@ -21,10 +22,11 @@ pub const CALLS: &[(&str, &[u8])] = &[
     ("shelf step", &[0, 1, 2, 3, 4, 5, 6, 9, 16, 17, 18]),
     ("shelf show", &[0, 5, 6, 9, 16, 17, 18]),
     ("shelf fresh", &[0, 3, 5, 6, 9, 17]),
+    ("share add", &[0, 3, 5, 6, 7, 8, 9, 10]),
 ];
 /// The names of all that has to be seen in calls other than runs.
 pub fn sights() -> Vec<String> {
-    let lists = [SIGHTS, SHEET_SIGHTS, ORDER_SIGHTS];
+    let lists = [SIGHTS, SHEET_SIGHTS, ORDER_SIGHTS, SHARE_SIGHTS];
     let mut names: Vec<String> = lists.concat().into_iter().map(str::to_string).collect();
     names.extend(image_sights());
     names.extend(shelf_sights());

@@ -6,6 +6,7 @@ use std::io::Write;
 use compare::fixed::*;
 use compare::imaging::{images_byte_by_byte, images_of_every_length};
 use compare::ordering::{sheets_one_by_one, sheets_side_by_side};
+use compare::sharing::{shares_of_stored, totals_of_every_length};
 use compare::shelving::{names_on_rows, rows_of_every_length};
 use compare::starting::{limits_of_orders, orders_of_every_length};
 use compare::{clock_seed, round, seed_or, Figures};
@@ -123,4 +124,14 @@ fn every_name_on_a_row() {
 #[test]
 fn rows_of_any_length() {
     check_all(rows_of_every_length);
+}
+
+#[test]
+fn shares_of_the_stored_traces() {
+    check_all(shares_of_stored);
+}
+
+#[test]
+fn totals_of_any_length() {
+    check_all(totals_of_every_length);
 }
