@@ -16,6 +16,8 @@ use Rattle.gunwaleish.proofs.gunwaleish_shelf_step.Reads as gunwaleish-
 use Rattle.gunwaleish.proofs.gunwaleish_shelf_show.Reads as gunwaleish-shelf-show
 use Rattle.gunwaleish.proofs.gunwaleish_shelf_fresh.Reads as gunwaleish-shelf-fresh
 use Rattle.gunwaleish.proofs.gunwaleish_list_orders.Reads as gunwaleish-list-orders
+use Rattle.gunwaleish.proofs.gunwaleish_share_add.Reads as gunwaleish-share-add
+use Rattle.gunwaleish.proofs.gunwaleish_share_join.Reads as gunwaleish-share-join
 use Rattle.gunwaleish.proofs.gunwaleish_address_of.Reads as gunwaleish-address-of
 use Rattle.gunwaleish.proofs.gunwaleish_pins_of.Reads as gunwaleish-pins-of
 
@@ -60,6 +62,12 @@ gunwaleish-shelf-fresh-once κ a x y s t p q = (once (p .0) (q .0), once (p .1) 
 
 pub gunwaleish-list-orders-once : OneLeft (λ κ s. now (s .1 .1 .1 .0)) gunwaleish-list-orders.Post
 gunwaleish-list-orders-once κ a x y s t p q = (once (p .0) (q .0), once (p .1) (q .1))
+
+pub gunwaleish-share-add-once : OneLeft (λ κ s. now (s .1 .0)) gunwaleish-share-add.Post
+gunwaleish-share-add-once κ a x y s t p q = (once (p .0) (q .0), once (p .1) (q .1))
+
+pub gunwaleish-share-join-once : OneLeft (λ κ s. now (s .1 .0)) gunwaleish-share-join.Post
+gunwaleish-share-join-once κ a x y s t p q = (once (p .0) (q .0), once (p .1) (q .1))
 
 pub gunwaleish-address-of-once : OneResult gunwaleish-address-of.Post
 gunwaleish-address-of-once κ a x y s t p q = once p q

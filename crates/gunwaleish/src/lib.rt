@@ -1,5 +1,5 @@
-// The library for Rust and C: traces, captures, order sheets, images, shelves, orders of scripts and straps over numbers and byte slices. A slice
-// passes as a pointer and then a length.
+// The library for Rust and C: traces, captures, order sheets, images, shelves, orders of scripts, totals of the bus share and straps over numbers
+// and slices. A slice passes as a pointer and then a length.
 ghost use Prim.Native.Nat.{_<_};
 ghost use mathlib.Core.Path.{_≡_};
 ghost use lib.ListN.{length};
@@ -16,6 +16,7 @@ ghost use Rattle.rowimage.specs.Calls.{rowAnswer, rowBuffer, rowShown};
 ghost use Rattle.rowimage.specs.Slots.{freshRowNumber, freshRowBuffer};
 ghost use Rattle.sheets.specs.Sheets.{placeOf};
 ghost use Rattle.sheets.specs.Orders.{ordered, orderedBuffer};
+ghost use Rattle.share.specs.Lent.{lentNumber, lentAfter, joinNumber, joinAfter};
 ghost use Rattle.arbiter.specs.declared.Strapping.the-variants.{Straps};
 ghost use Rattle.gunwaleish.specs.Packed.{packedReport, packedWritten, packedImport, packedBox, packedOrder, packedAnswer, packedShown, packedListed, packedAddress, packedPins};
 use arbiter::Answer;
@@ -32,6 +33,8 @@ use orders::list_orders;
 use rowimage::show_row;
 use rowimage::slots::fresh_row;
 use rowimage::step_row;
+use share::lent::add_totals;
+use share::lent::join_lent;
 use sheets::Place;
 use sheets::lookup::place_of;
 use sheets::orders::order_events;
@@ -216,6 +219,24 @@ pub extern "C" fn gunwaleish_list_orders(
 {
     let listed = list_orders(script0, script1, limit, out);
     byte(listed.number) + 256 * (listed.count as u64)
+}
+
+// ---- the bus share: 17 totals in a lent buffer
+
+// A trace added to the totals.
+#[no_mangle]
+pub extern "C" fn gunwaleish_share_add(trace: &[u8], totals: &mut [u64]) -> u32
+    ensures { λ r. ⌜ (r ≡ lentNumber (now (totals .entry)) (now (trace .entry))) × (now (totals .exit) ≡ lentAfter (now (totals .entry)) (now (trace .entry))) ⌝ }
+{
+    add_totals(totals, trace) as u32
+}
+
+// The totals of other traces joined to the totals.
+#[no_mangle]
+pub extern "C" fn gunwaleish_share_join(other: &[u64], totals: &mut [u64]) -> u32
+    ensures { λ r. ⌜ (r ≡ joinNumber (now (totals .entry)) (now (other .entry))) × (now (totals .exit) ≡ joinAfter (now (totals .entry)) (now (other .entry))) ⌝ }
+{
+    join_lent(totals, other) as u32
 }
 
 // The address of four pins.
