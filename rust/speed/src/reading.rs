@@ -1,6 +1,6 @@
 //! Whole traces for the plain stepper.
 
-use crate::registers::{Device, Kind};
+use crate::registers::{Device, Kind, LOCK_REQ};
 
 const MOST_EVENTS: usize = 4096;
 
@@ -55,4 +55,25 @@ fn address_of(pins: [u8; 4]) -> Option<u8> {
         (0, _) | (1, 0) => None,
         (class, _) => Some((class - 1) << 4 | ad3 << 3 | low),
     }
+}
+
+/// The ticks that each master owned the bus, was connected and waited, master 0's three first.
+pub fn shared_in(trace: &[u8]) -> Result<[u64; 6], u8> {
+    let (_, events, kind) = read(trace, usize::MAX)?;
+    let mut device = Device::fresh(kind);
+    let mut counts = [0; 6];
+    for event in events.chunks_exact(4) {
+        let event = [event[0], event[1], event[2], event[3]];
+        let [outcome, _, bus, _] = device.step(event);
+        if event == [6, 0, 0, 0] && outcome == 0 {
+            for (m, side) in device.sides.iter().enumerate() {
+                let owns = bus & 3 == m as u8 + 1;
+                let asks = side.contr & LOCK_REQ != 0;
+                counts[3 * m] += u64::from(owns);
+                counts[3 * m + 1] += u64::from(bus >> 2 & 3 == m as u8 + 1);
+                counts[3 * m + 2] += u64::from(asks && !owns);
+            }
+        }
+    }
+    Ok(counts)
 }
