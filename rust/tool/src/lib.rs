@@ -1,12 +1,13 @@
 //! The tool that people run: a subcommand reads traces (or scripts, or captures) and writes one
 //! thing of each, or reads two order sheets and says what they order, or tries two start-up scripts in
-//! all their orders, or runs a script over a shelf of several devices.
+//! all their orders, or runs a script over a shelf of several devices, or counts over many traces how
+//! the bus was shared.
 //!
 //! Every answer comes from the proved library. What is here is words and pictures: `story` follows
 //! a run and says what changed, `order` says what is on two sheets, `startup` how the orders of two
-//! scripts end, `shelf` what happens at each place of a shelf, `commands` has a file for each
-//! subcommand, and `arguments`, `files` and `each` are the way from the command line to the files and
-//! back.
+//! scripts end, `shelf` what happens at each place of a shelf, `share` how the bus was shared,
+//! `commands` has a file for each subcommand, and `arguments`, `files` and `each` are the way from the
+//! command line to the files and back.
 
 pub mod arguments;
 pub mod commands;
@@ -18,6 +19,7 @@ pub mod files;
 pub mod order;
 pub mod picture;
 pub mod script;
+pub mod share;
 pub mod shelf;
 pub mod startup;
 pub mod story;
@@ -59,9 +61,9 @@ pub fn overview() -> String {
         text.push_str(&format!("  {:<10} {}\n", command.name, command.summary));
     }
     text.push_str(
-        "\nWithout FILE, or with -, standard input is read; sheet, orders and shelf need two files. -o names\n\
-         the file to write, or a folder that is there; then each output has its input's name. Many files need\n\
-         such a folder.\n\
+        "\nWithout FILE, or with -, standard input is read; sheet, orders and shelf need two files, and share\n\
+         takes folders too. -o names the file to write, or a folder that is there; then each output has its\n\
+         input's name. Many files need such a folder.\n\
          Controller 0 and controller 1 are document 01's masters 0 and 1.\n\n\
          gunwaleish COMMAND --help tells more, with an example. --version gives the version.\n\n\
          Exit code: 0 done; 1 a trace, script, shelf, capture or order sheet is refused, standard\n\

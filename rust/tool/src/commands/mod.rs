@@ -8,6 +8,7 @@ pub mod import;
 pub mod list;
 pub mod orders;
 pub mod picture;
+pub mod share;
 pub mod sheet;
 pub mod shelf;
 pub mod wave;
@@ -35,6 +36,7 @@ pub const COMMANDS: &[Command] = &[
     sheet::COMMAND,
     orders::COMMAND,
     shelf::COMMAND,
+    share::COMMAND,
     list::COMMAND,
     explain::COMMAND,
     compose::COMMAND,
