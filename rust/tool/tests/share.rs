@@ -122,8 +122,11 @@ fn what_is_found_and_what_is_skipped() {
         };
         link("", "deep/circle");
         link("a.trace", "deep/again.trace");
+        link("nowhere", "deep/lost.trace");
         let all = found(&[folder.0.clone()]);
-        assert_eq!(all.files.len(), 4);
+        assert_eq!(all.files.len(), 5);
+        let (counted, unread) = of_files(&all.files, 2, &quiet()).unwrap();
+        assert_eq!((counted.totals.traces(), unread.len()), (4, 1));
         assert!(all.said[0].ends_with("not end in .trace, 1 link to folders"), "{:?}", all.said);
     }
 }
