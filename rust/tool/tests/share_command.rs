@@ -90,23 +90,19 @@ fn the_commands_say_what_the_page_has() {
         assert!(told(&output) == expected, "docs/SHARE.md: share {line} says\n{}", told(&output));
         ran += 1;
     }
-    assert_eq!(ran, 3);
+    assert_eq!(ran, 5);
 }
 
-/// The rows of box 14 are the tool's and the model's figures.
+/// The shares of box 14 are the model's figures too.
 #[test]
 fn the_page_has_the_shares_of_box_14() {
     let page = text("docs/SHARE.md");
     for name in ["rt00", "rt50", "idle", "idle-tpt29641"] {
         let path = format!("traces/box14-{name}.trace");
-        let mut totals = model::Totals::default();
-        assert_eq!(totals.add(&fs::read(root().join(&path)).unwrap()), 0);
-        let of = |m: usize| [totals.owned[m], totals.connected[m], totals.waited[m]];
-        let figures = [vec![totals.ticks], of(0).to_vec(), of(1).to_vec()].concat();
-        let figures: Vec<String> = figures.iter().map(|figure| figure.to_string()).collect();
-        let row = format!("\n| `{path}` | {} |\n", figures.join(" | "));
-        assert!(page.contains(&row), "docs/SHARE.md: {row}");
-        let lines = format!("0 {}\n1 {}\n", figures[1..4].join(" "), figures[4..].join(" "));
+        let trace = fs::read(root().join(&path)).unwrap();
+        let lines = model::share_report(&input_of(&[trace]));
+        let part = format!("\n    {BUILT} share {path}\n\n```\n{lines}```\n");
+        assert!(page.contains(&part), "docs/SHARE.md: {part}");
         let output = run(&[&path]);
         assert_eq!((code(&output), told(&output), said(&output)), (0, lines, String::new()));
     }

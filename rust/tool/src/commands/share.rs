@@ -32,8 +32,8 @@ pub const COMMAND: Command = Command {
            A refused trace adds nothing but one to the count of its number, and is told. A stream that\n\
            ends inside a length or a trace has one trace more, refused with 5; so is a length of 0.\n\
            The first 65,535 traces are counted, refused ones included; if there are more, R6 stands\n\
-           after the two lines.\n\n\
-           All processors work on it, or N threads; that and the order of the traces change no figure.\n\n\
+           after the two lines. All processors work on it, or N threads, which changes no figure; nor\n\
+           does the order of as many traces as are counted.\n\n\
            Exit code: 0 done, also with refused traces; 1 there are more than 65,535 traces; 2 wrong\n\
            use, or something cannot be read, which is told, or written; what can be read is counted.",
     options: &[("--stream", 0), ("--table", 0), ("--threads", 1)],
