@@ -5,11 +5,11 @@ use std::fs;
 use std::io::{self, Read};
 use std::path::PathBuf;
 
-use gunwaleish::Master;
+use gunwaleish::{Master, Totals};
 use gunwaleish_tool::share::find::find;
 use gunwaleish_tool::share::progress::Progress;
 use gunwaleish_tool::share::stream::of_stream;
-use gunwaleish_tool::share::{of_files, words, Counted, Totals, MOST_TRACES};
+use gunwaleish_tool::share::{of_files, words, Counted, MOST_TRACES};
 use gunwaleish_tool::{story, summary};
 use model::report::{input_of, totals_of_input};
 use model::rng::Rng;

@@ -9,22 +9,20 @@
 pub mod find;
 pub mod progress;
 pub mod stream;
-mod totals;
 pub mod words;
 
 use std::path::{Path, PathBuf};
 use std::sync::atomic::{AtomicUsize, Ordering};
 use std::thread;
 
-use gunwaleish::{Refusal, MOST_TRACE};
+use gunwaleish::{Refusal, Totals, MOST_TRACE};
 
 use crate::failure::Failure;
 use crate::files;
 use progress::Progress;
-pub use totals::Totals;
 
 /// So many traces are counted, refused ones included.
-pub const MOST_TRACES: usize = 65_535;
+pub const MOST_TRACES: usize = gunwaleish::MOST_TRACES as usize;
 
 /// What came of the traces.
 #[derive(Clone, Debug, Default, PartialEq, Eq)]

@@ -1,8 +1,8 @@
 //! The report as text: the two lines, or a table.
 
-use gunwaleish::{Master, Refusal};
+use gunwaleish::{Master, Refusal, Totals};
 
-use super::{Counted, Totals};
+use super::Counted;
 use crate::words::count;
 
 /// The numbers with which a trace is refused here.
