@@ -213,14 +213,14 @@ static void show_shelf(void) {
            gunwaleish_number(gunwaleish_shelf_fresh(equal, sizeof equal, row, sizeof row)));
 }
 
-/* Two TICKs after each of which the bus is owned by nobody. */
-static const uint8_t two_ticks[8] = {6, 0, 0, 0, 6, 0, 0, 0};
+/* Master 0 asks for the bus between two TICKs: nobody owns it at the first, and master 0 at the second. */
+static const uint8_t asking[20] = {6, 0, 0, 0, 0, 0, 1, 0, 1, 0, 5, 0, 3, 0, 0, 0, 6, 0, 0, 0};
 
-/* The bus share of the trace and of two TICKs, each counted by itself, then joined; a trace that is refused; and one too many. */
+/* The bus share of the trace and of the asking, each counted by itself, then joined; a trace that is refused; and one too many. */
 static void show_share(size_t length) {
     uint64_t totals[GUNWALEISH_TOTALS] = {0};
     uint64_t other[GUNWALEISH_TOTALS] = {0};
-    uint64_t made = gunwaleish_write_trace(0, 0, 0, 0, GUNWALEISH_PCA9641, two_ticks, sizeof two_ticks, written, sizeof written);
+    uint64_t made = gunwaleish_write_trace(0, 0, 0, 0, GUNWALEISH_PCA9641, asking, sizeof asking, written, sizeof written);
     gunwaleish_share_add(trace, length, totals, GUNWALEISH_TOTALS);
     gunwaleish_share_add(written, gunwaleish_length(made), other, GUNWALEISH_TOTALS);
     unsigned cut = gunwaleish_number(gunwaleish_share_add(written, gunwaleish_length(made) - 1, other, GUNWALEISH_TOTALS));
