@@ -1,5 +1,5 @@
 //! The bus share report (request #112): full traces added to totals by the proved library, and by a plain
-//! loop over the tuned stepper that counts the same, in one run by turns. `share [ROUNDS]`.
+//! loop over the tuned stepper that counts the same, in one run by turns. `share_rate [ROUNDS]`.
 
 use gunwaleish::{Master, Totals};
 use speed::mixes::{mixes, Mix};
@@ -11,7 +11,7 @@ fn main() {
         None => 60,
         Some(Ok(rounds)) if rounds > 0 => rounds,
         Some(_) => {
-            eprintln!("share [ROUNDS]: ROUNDS is a number from 1 on");
+            eprintln!("share_rate [ROUNDS]: ROUNDS is a number from 1 on");
             std::process::exit(2);
         }
     };

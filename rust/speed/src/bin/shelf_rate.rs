@@ -1,5 +1,5 @@
 //! The cost of an event that reaches all: a TICK over a shelf of 16 devices against a TICK on each
-//! of 16 single images, in one run by turns. `shelf [ROUNDS]`: the best round of so many counts.
+//! of 16 single images, in one run by turns. `shelf_rate [ROUNDS]`: the best round of so many counts.
 
 use gunwaleish::{Device, Part, Shelf};
 use std::time::Instant;
@@ -13,7 +13,7 @@ fn main() {
         None => 30,
         Some(Ok(rounds)) if rounds > 0 => rounds,
         Some(_) => {
-            eprintln!("shelf [ROUNDS]: ROUNDS is a number from 1 on");
+            eprintln!("shelf_rate [ROUNDS]: ROUNDS is a number from 1 on");
             std::process::exit(2);
         }
     };
