@@ -1,0 +1,12 @@
+pub mod Compared
+pub mod Onward
+pub mod Unique
+pub mod Ticking
+pub mod Levelled
+pub mod Held
+pub mod Potential
+pub mod Falls
+pub mod Loss
+pub mod Three
+pub mod BoundWitness
+pub mod Answers

@@ -1,0 +1,16 @@
+-- `advance::ticked_once` meets its contract.
+-- Assumes nothing.
+use borrow.Author.Needs.{needs}
+use Rattle.arbiter.specs.Steps.{step}
+use Rattle.advance.proofs.ticked_once.Statement.{statement}
+use Rattle.advance.proofs.ticked_once.Tie as tie
+
+run-one-requires : tie.Need-run-one-requires
+run-one-requires c κs = search needs
+
+returns : tie.Need-returns
+unfolding step
+returns c = simp (c .before .run-one .ensures)
+
+pub ticked-once-spec : {M : Type 1} → statement M
+ticked-once-spec = tie.close (tie.spec run-one-requires returns)

@@ -1,0 +1,3 @@
+pub mod Settles
+pub mod Faces
+pub mod Light
