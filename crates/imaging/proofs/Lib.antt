@@ -1,2 +1,3 @@
 pub mod Copied
+pub mod OnImages
 pub mod Unique

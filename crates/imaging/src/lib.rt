@@ -1,4 +1,6 @@
-// A device kept as an image in a lent buffer: a fresh one, and a step on it. Request #108.
+// A device kept as an image in a lent buffer: a fresh one, and a step on it (request #108), and an advance (request #113).
+pub mod advancing;
+
 ghost use Prim.Native.Nat.{_+_, _/_, _%_, _<_};
 ghost use mathlib.Core.Path.{_≡_};
 ghost use mathlib.Core.Bool.{true, false};
@@ -37,6 +39,12 @@ use image::read_image;
 use layout::IMAGE_LENGTH;
 use step::fresh;
 use traces::run_one;
+
+// What an advance tells: its number, and how many of its ticks changed anything but counts.
+pub struct Told {
+    pub number: u8,
+    pub reported: u32,
+}
 
 // ---- the numbers of an image
 
