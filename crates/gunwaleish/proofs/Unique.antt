@@ -11,6 +11,7 @@ use Rattle.gunwaleish.proofs.gunwaleish_sheet_box.Reads as gunwaleish-s
 use Rattle.gunwaleish.proofs.gunwaleish_sheet_events.Reads as gunwaleish-sheet-events
 use Rattle.gunwaleish.proofs.gunwaleish_image_fresh.Reads as gunwaleish-image-fresh
 use Rattle.gunwaleish.proofs.gunwaleish_image_step.Reads as gunwaleish-image-step
+use Rattle.gunwaleish.proofs.gunwaleish_image_advance.Reads as gunwaleish-image-advance
 use Rattle.gunwaleish.proofs.gunwaleish_image_read.Reads as gunwaleish-image-read
 use Rattle.gunwaleish.proofs.gunwaleish_shelf_step.Reads as gunwaleish-shelf-step
 use Rattle.gunwaleish.proofs.gunwaleish_shelf_show.Reads as gunwaleish-shelf-show
@@ -47,6 +48,9 @@ gunwaleish-image-fresh-once κ a x y s t p q = (once (p .0) (q .0), once (p .1) 
 
 pub gunwaleish-image-step-once : OneLeft (λ κ s. now (s .1 .1 .1 .1 .0)) gunwaleish-image-step.Post
 gunwaleish-image-step-once κ a x y s t p q = (once (p .0) (q .0), once (p .1) (q .1))
+
+pub gunwaleish-image-advance-once : OneLeft (λ κ s. now (s .1 .0)) gunwaleish-image-advance.Post
+gunwaleish-image-advance-once κ a x y s t p q = (once (p .0) (q .0), once (p .1) (q .1))
 
 pub gunwaleish-image-read-once : OneResult gunwaleish-image-read.Post
 gunwaleish-image-read-once κ a x y s t p q = once p q

@@ -16,6 +16,7 @@ use Rattle.sheets.specs.declared.Ordered.{Ordered}
 use Rattle.sheets.specs.declared.Place.{Place}
 use Rattle.sheets.specs.declared.Place.the-variants.{Board, House, Refused}
 use Rattle.layout.specs.declared.Shown.{Shown}
+use Rattle.imaging.specs.declared.Told.{Told}
 use Rattle.orders.specs.declared.Listed.{Listed}
 
 -- a report: the number, the address, from 65,536 on the count of events, and from 4,294,967,296 on the kind of part
@@ -51,6 +52,10 @@ packedAnswer a = a .outcome + 256 * a .read + 65536 * a .owner + 16777216 * a .l
 -- a register read of an image: the number, and from 256 on the byte (00h where it was refused)
 abbrev pub packedShown : Shown → ℕ
 packedShown s = s .number + 256 * s .byte
+
+-- an advance of an image: the number, and from 256 on how many of its ticks changed anything but counts
+abbrev pub packedTold : Told → ℕ
+packedTold t = t .number + 256 * t .reported
 
 -- a listing of orders: the number, and from 256 on how many were listed
 abbrev pub packedListed : Listed → ℕ

@@ -11,6 +11,7 @@ ghost use Rattle.arbiter.specs.Listing.{listing};
 ghost use Rattle.text.specs.Written.{textAfter};
 ghost use Rattle.capture.specs.Import.{imported, importedBuffer};
 ghost use Rattle.layout.specs.Images.{imageAnswer, imageAfter, freshNumber, freshAfter, shown};
+ghost use Rattle.imaging.specs.Advancing.{imageTold, imageAdvanced};
 ghost use Rattle.orders.specs.Call.{ordersListed, ordersBuffer};
 ghost use Rattle.rowimage.specs.Calls.{rowAnswer, rowBuffer, rowShown};
 ghost use Rattle.rowimage.specs.Slots.{freshRowNumber, freshRowBuffer};
@@ -18,7 +19,7 @@ ghost use Rattle.sheets.specs.Sheets.{placeOf};
 ghost use Rattle.sheets.specs.Orders.{ordered, orderedBuffer};
 ghost use Rattle.share.specs.Lent.{lentNumber, lentAfter, joinNumber, joinAfter};
 ghost use Rattle.arbiter.specs.declared.Strapping.the-variants.{Straps};
-ghost use Rattle.gunwaleish.specs.Packed.{packedReport, packedWritten, packedImport, packedBox, packedOrder, packedAnswer, packedShown, packedListed, packedAddress, packedPins};
+ghost use Rattle.gunwaleish.specs.Packed.{packedReport, packedWritten, packedImport, packedBox, packedOrder, packedAnswer, packedShown, packedTold, packedListed, packedAddress, packedPins};
 use arbiter::Answer;
 use arbiter::Pins;
 use arbiter::Raw;
@@ -26,6 +27,7 @@ use arbiter::Strapped;
 use arbiter::Strapping;
 use converter::convert_trace;
 use image::read_register;
+use imaging::advancing::advance_image;
 use imaging::fresh_image;
 use imaging::step_image;
 use importing::import_capture;
@@ -162,6 +164,15 @@ pub extern "C" fn gunwaleish_image_step(kind: u8, x: u8, y: u8, z: u8, image: &m
 {
     let a = step_image(image, Raw { kind, x, y, z });
     packed_answer(a)
+}
+
+// So many ticks on an image, at once.
+#[no_mangle]
+pub extern "C" fn gunwaleish_image_advance(ticks: u32, image: &mut [u8]) -> u32
+    ensures { λ r. ⌜ (r ≡ packedTold (imageTold ticks (now (image .entry)))) × (now (image .exit) ≡ imageAdvanced ticks (now (image .entry))) ⌝ }
+{
+    let told = advance_image(image, ticks);
+    byte_low(told.number) + 256 * told.reported
 }
 
 // What a master reads of a register of an image, without an event.

@@ -1,13 +1,14 @@
 -- An advance on an image: ticks keep the ranges, so the new record has an image; and it goes with as many TICK events on the image.
 -- Assumes nothing.
-use Prim.Native.Nat.{ℕ, zero, suc, _<_, _≤_}
+use Prim.Native.Nat.{ℕ, zero, suc, _+_, _<_, _≤_}
 use mathlib.Core.Path.{_≡_, refl, sym, ap, subst, _∙_}
-use mathlib.Core.Bool.{true}
+use mathlib.Core.Bool.{Bool, true, false}
 use mathlib.Core.List.{List, [], _∷_}
 use native.Mathlib.Omega.{arith}
 use lib.Dec.{ltb}
 use lib.ListN.{replicate}
-use borrow.Author.Tests.{lt-ltb, le-ltb}
+use borrow.Author.Tests.{ltb-false, lt-ltb, le-ltb}
+use Rattle.arbiter.specs.Words.{worth}
 use Rattle.arbiter.specs.Steps.{step, runFrom, run}
 use Rattle.arbiter.specs.declared.Kind.{Kind}
 use Rattle.arbiter.specs.declared.Device.{Device}
@@ -22,6 +23,7 @@ use Rattle.layout.proofs.Back.{read-back, laid-out-back}
 use Rattle.layout.proofs.Steps.{steps-alike}
 use Rattle.quiet.specs.Quiet.{tick, ticks}
 use Rattle.advance.specs.declared.Advanced.{Advanced}
+use Rattle.advance.specs.Changes.{changes}
 use Rattle.advance.specs.Advance.{changing, mostTicks, advancedWith, advanced}
 use Rattle.advance.proofs.Answers.{answers}
 use Rattle.imaging.specs.declared.Told.{Told}
@@ -95,6 +97,28 @@ past-advanced b n h past =
       told-good b n h ∙ ap toldOf e,
       left-good b n h ∙ ap (λ (a : Advanced). imageOf (a .device)) e ∙ laid-out-back b h,
     )
+
+-- ---- what is reported is among the ticks
+
+one-at-most : (b : Bool) → worth 1 b ≤ 1
+one-at-most true = omega arith
+one-at-most false = omega arith
+
+changing-few : (n : ℕ) (d : Device) → changing n d ≤ n
+unfolding changing
+changing-few zero d = omega arith
+changing-few (suc n) d =
+    let one = one-at-most (changes d (step d tick .device)) in
+    let rest = changing-few n (step d tick .device) in
+    omega (arith, one, rest)
+
+pub told-few : (n : ℕ) (b : List ℕ) → imageTold n b .reported ≤ mostTicks
+unfolding imageTold advanced
+told-few n b =
+    either (λ (t : Told). t .reported ≤ mostTicks) (isImage b)
+    (λ t. either (λ (a : Advanced). a .reported ≤ mostTicks) (ltb mostTicks n) (λ past. omega arith)
+    (λ f. let most = ltb-false mostTicks n f in let few = changing-few n (deviceIn b) in omega (arith, most, few)))
+    (λ f. omega arith)
 
 few-reported : (n : ℕ) (d : Device) → changing n d ≤ 6 → advanced n d .reported ≤ 6
 unfolding advanced
