@@ -24,6 +24,7 @@
 //! - `shelf`, `row`: several devices with addresses, as records and as bytes (document 02, #110).
 //! - `share`, `report`: the ticks that each controller owned, was connected and waited (document 02,
 //!   #112).
+//! - `advance`: as many TICK events as one call (document 02, #113).
 //! - `rng`, `phrases`, `waits`, `traces`, `damage`: random cases for the tests.
 //! - `happenings`, `hanging`, `second_part`, `grounds`, `kinds`: what happens in them.
 //! - `pen`, `captures`, `capture_damage`, `sightings`: random captures, and what is seen in them.
@@ -32,9 +33,12 @@
 //! - `scripts`: random pairs of start-up scripts, and what is seen in their orders.
 //! - `shelves`, `shelf_sights`: random shelves and runs on them, and what is seen in them.
 //! - `shares`: random totals and traces to add, and what is seen in them.
+//! - `advances`: random devices to advance, and what is seen when they are.
 //! - `stored`: the traces that the repository keeps as one set.
 //! - `stored_share`: the inputs of the bus share report that it keeps.
 
+pub mod advance;
+pub mod advances;
 pub mod bytes;
 pub mod capture;
 pub mod capture_damage;
@@ -77,6 +81,7 @@ pub mod traces;
 pub mod waits;
 pub mod writer;
 
+pub use advance::{image_advance, Advanced};
 pub use capture::{import_capture, Imported};
 pub use converter::convert_trace;
 pub use device::{Device, Switch};
