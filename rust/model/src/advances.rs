@@ -157,7 +157,9 @@ impl Happenings {
         self.note(same, "ticks that change nothing");
         self.note(!same && !changes, "ticks that change counts alone");
         let mut note = |condition: bool, what: &str| {
-            self.note(condition, &format!("tick of an advance: {what}"));
+            if condition {
+                self.note(true, &format!("tick of an advance: {what}"));
+            }
         };
         let (was, is) = (before.owner(), after.owner());
         if let Some(grant) = before.grant.as_ref().filter(|_| was != is) {
