@@ -18,11 +18,11 @@ pub const ENDS: [u32; 16] =
 
 /// A number of ticks. Long ones are few, since the model steps through each.
 pub fn any_ticks(rng: &mut Rng) -> u32 {
-    match rng.below(40) {
+    match rng.below(80) {
         0 => rng.pick(&[MOST_TICKS - 1, MOST_TICKS]),
         1 => rng.pick(&[MOST_TICKS + 1, u32::MAX, u32::MAX - 1, 1 << 16, 1 << 31]),
         2 => rng.below(5000) as u32,
-        3..=12 => rng.below(700) as u32,
+        3..=22 => rng.below(700) as u32,
         _ => rng.pick(&ENDS),
     }
 }
@@ -186,10 +186,17 @@ impl Happenings {
         note(hangs && after.sda_low_count == SDA_HUNG_TICKS, "hung by SDA");
         let asserted = |device: &Device| [0, 1].map(|m| device.interrupt_asserted(m));
         note(hangs && asserted(before) != asserted(after), "hung asserts an output");
-        let reserve = before.reserve_count == 1 && is.is_some() && !changes;
+        if !changes {
+            self.see_no_change(before, after);
+        }
+    }
+
+    /// Looks at what ends in a tick and changes nothing but counts.
+    fn see_no_change(&mut self, before: &Device, after: &Device) {
+        let reserve = before.reserve_count == 1 && after.owner().is_some();
         self.note(reserve, "reserve runs out on a bus not idle, no change");
         let counts = [before, after].map(|device| device.sda_low_count == SDA_HUNG_TICKS);
-        let other = before.is_hung() && counts == [false, true] && !changes;
+        let other = before.is_hung() && counts == [false, true];
         self.note(other, "hung already as the other count ends, no change");
     }
 }
