@@ -6,6 +6,7 @@ use model::straps::pins_of;
 use model::trace::MOST_EVENTS;
 use model::traces::{old_trace_of, trace, trace_of};
 
+use crate::advancing::advance_calls;
 use crate::converting::converter_calls;
 use crate::figures::Figures;
 use crate::imaging::image_calls;
@@ -18,8 +19,8 @@ use crate::writing::writer_calls;
 
 /// Compares one round of cases: some 55 good traces with 16,000 events and ten times as many
 /// damaged ones, some 100 calls of the writer, 60 of the converter, 90 of the importer, 190 with
-/// order sheets, 3,000 steps on images, 9 calls with start-up scripts, 400 with
-/// shelves and 17 that add to totals.
+/// order sheets, 3,000 steps on images, 9 calls with start-up scripts, 400 with shelves, 17 that
+/// add to totals and 18 advances.
 pub fn round(seed: u64, figures: &mut Figures) {
     let mut rng = Rng::new(seed);
     for length in lengths(&mut rng) {
@@ -40,6 +41,7 @@ pub fn round(seed: u64, figures: &mut Figures) {
     order_calls(&mut rng, figures);
     shelf_calls(&mut rng, figures);
     share_calls(&mut rng, figures);
+    advance_calls(&mut rng, figures);
 }
 
 /// Many short traces and a few long ones. A bus hangs only in those of 700 events and more.

@@ -30,6 +30,8 @@ pub struct Figures {
     events: u64,
     listings: u64,
     orders: u64,
+    /// The most ticks of an advance that changed something, from an image that a run has reached.
+    pub(crate) most_changing: u32,
     /// What happened in runs, one for each kind of part.
     happenings: [Happenings; 2],
     /// What was seen in all other calls.
@@ -185,6 +187,7 @@ impl Figures {
         self.events += other.events;
         self.listings += other.listings;
         self.orders += other.orders;
+        self.most_changing = self.most_changing.max(other.most_changing);
         for (mine, others) in self.happenings.iter_mut().zip(&other.happenings) {
             mine.add(others);
         }
@@ -245,13 +248,14 @@ impl fmt::Display for Figures {
         let calls: Vec<String> = CALLS.iter().map(|(call, _)| self.calls(call)).collect();
         writeln!(
             f,
-            "seed {}, by number: {}; {} events run, {} listings, {} orders listed, {kinds} of {} kinds \
-             of happening, {} mismatches",
+            "seed {}, by number: {}; {} events run, {} listings, {} orders listed, at most {} changing \
+             ticks in an advance, {kinds} of {} kinds of happening, {} mismatches",
             self.seed,
             calls.join(", "),
             self.events,
             self.listings,
             self.orders,
+            self.most_changing,
             occurred.len(),
             self.mismatches
         )?;

@@ -211,7 +211,7 @@ pub fn images_byte_by_byte(figures: &mut Figures) {
 }
 
 /// Fresh images, and some out of runs: with and without an owner, initialising, held, hung.
-fn good_images() -> Vec<Image> {
+pub(crate) fn good_images() -> Vec<Image> {
     let mut images = vec![];
     for kind in BOTH_KINDS {
         let mut device = model::Device::power_up_of(kind);

@@ -11,12 +11,14 @@
 //! - `starting`: all orders of two start-up scripts on both sides.
 //! - `shelving`: a shelf of several arbiters on both sides.
 //! - `sharing`: the totals of the bus share report on both sides.
+//! - `advancing`: advances over quiet time on both sides.
 //! - `words`: events and answers in words, for what differs.
 //! - `cases`: random calls, good and damaged, in rounds.
 //! - `fixed`: calls that are few enough to try them all.
 //! - `wanted`: the numbers and sights that have to occur.
 //! - `figures`: how many there were, what happened in them, and what never did.
 
+pub mod advancing;
 pub mod cases;
 pub mod check;
 pub mod converting;

@@ -2,6 +2,7 @@
 
 use std::thread;
 
+use compare::advancing::advances_about_ends;
 use compare::fixed::*;
 use compare::imaging::{images_byte_by_byte, images_of_every_length};
 use compare::ordering::{sheets_one_by_one, sheets_side_by_side};
@@ -43,6 +44,7 @@ fn main() {
     rows_of_every_length(&mut figures);
     shares_of_stored(&mut figures);
     totals_of_every_length(&mut figures);
+    advances_about_ends(&mut figures);
     print!("{figures}{}", figures.happenings());
     let never = figures.never();
     if !never.is_empty() {

@@ -1,5 +1,6 @@
 //! What has to occur in a comparison: the numbers that each call answers, and what is seen in calls.
 
+use model::advances::ADVANCE_SIGHTS;
 use model::images::image_sights;
 use model::scripts::ORDER_SIGHTS;
 use model::shares::SHARE_SIGHTS;
@@ -23,10 +24,11 @@ pub const CALLS: &[(&str, &[u8])] = &[
     ("shelf show", &[0, 5, 6, 9, 16, 17, 18]),
     ("shelf fresh", &[0, 3, 5, 6, 9, 17]),
     ("share add", &[0, 3, 5, 6, 7, 8, 9, 10]),
+    ("image advance", &[0, 3, 9, 16]),
 ];
 /// The names of all that has to be seen in calls other than runs.
 pub fn sights() -> Vec<String> {
-    let lists = [SIGHTS, SHEET_SIGHTS, ORDER_SIGHTS, SHARE_SIGHTS];
+    let lists = [SIGHTS, SHEET_SIGHTS, ORDER_SIGHTS, SHARE_SIGHTS, ADVANCE_SIGHTS];
     let mut names: Vec<String> = lists.concat().into_iter().map(str::to_string).collect();
     names.extend(image_sights());
     names.extend(shelf_sights());

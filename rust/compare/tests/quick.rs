@@ -3,6 +3,7 @@
 
 use std::io::Write;
 
+use compare::advancing::advances_about_ends;
 use compare::fixed::*;
 use compare::imaging::{images_byte_by_byte, images_of_every_length};
 use compare::ordering::{sheets_one_by_one, sheets_side_by_side};
@@ -134,4 +135,9 @@ fn shares_of_the_stored_traces() {
 #[test]
 fn totals_of_any_length() {
     check_all(totals_of_every_length);
+}
+
+#[test]
+fn advances_about_the_ends_of_counts() {
+    check_all(advances_about_ends);
 }
