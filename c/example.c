@@ -51,7 +51,7 @@ static uint32_t packed(const uint8_t *four) {
     return four[0] | (uint32_t)four[1] << 8 | (uint32_t)four[2] << 16 | (uint32_t)four[3] << 24;
 }
 
-/* The same events, one by one, on a device that stands as an image: the same answers. Then what a damaged image is answered. */
+/* The same events, one by one, on a device that stands as an image: the same answers. Then a minute of ticks, and what a damaged image is answered. */
 static void show_image(const uint8_t *event, size_t events, uint8_t kind) {
     uint8_t image[GUNWALEISH_IMAGE_BYTES];
     size_t same = 0;
@@ -62,6 +62,10 @@ static void show_image(const uint8_t *event, size_t events, uint8_t kind) {
     }
     printf("stepped on an image of %zu bytes: %zu of %zu answers the same; STATUS of master 1 is %02Xh\n", sizeof image, same, events,
            gunwaleish_register(gunwaleish_image_read(1, 2, image, sizeof image)));
+    uint32_t minute = gunwaleish_image_advance(60000, image, sizeof image);
+    printf("a minute later, at once: number %u, %u ticks changed more than counts; a tick past the most: number %u\n",
+           gunwaleish_number(minute), (unsigned)gunwaleish_changing(minute),
+           gunwaleish_number(gunwaleish_image_advance(GUNWALEISH_MOST_TICKS + 1, image, sizeof image)));
     unsigned shorter = gunwaleish_number(gunwaleish_image_step(6, 0, 0, 0, image, sizeof image - 1));
     image[GUNWALEISH_IMAGE_BYTES - 1] = 2;
     unsigned damaged = gunwaleish_number(gunwaleish_image_step(6, 0, 0, 0, image, sizeof image));

@@ -28,6 +28,7 @@ enum gunwaleish_numbers {
     GUNWALEISH_NO_SUCH_PART = 3,           /* of a whole call: the kind of part is neither 0 nor 1 */
     GUNWALEISH_NO_SUCH_REGISTER = 3,       /* of a register read out of an image: a master above 1 or a register above 7 */
     GUNWALEISH_BAD_BOX = 3,                /* of an order sheet: a tick or value out of range, or a value in a box that is not ticked */
+    GUNWALEISH_TOO_MANY_TICKS = 3,         /* of an advance: more than 65,535 ticks */
     GUNWALEISH_OUT_OF_SEQUENCE = 4,        /* the event cannot come now */
     GUNWALEISH_TRACE_CUT = 5,              /* bytes are missing at the end, or event bytes do not come in fours */
     GUNWALEISH_SHEET_CUT = 5,              /* of an order sheet: under 15 bytes */
@@ -98,8 +99,9 @@ enum gunwaleish_sheets {
 #define GUNWALEISH_MOST_CAPTURED 3640
 #define GUNWALEISH_MOST_CAPTURED_BYTES (4 * GUNWALEISH_MOST_CAPTURED)
 
-/* The bytes of a device's image, which docs/IMAGE.md lays out. */
+/* The bytes of a device's image, which docs/IMAGE.md lays out, and the most ticks of one advance of it. */
 #define GUNWALEISH_IMAGE_BYTES 38
+#define GUNWALEISH_MOST_TICKS 65535
 
 /* A record of a shelf's row: a byte for its address, and the image of its device. The most records of a row, and their bytes. */
 #define GUNWALEISH_RECORD_BYTES (1 + GUNWALEISH_IMAGE_BYTES)
@@ -219,6 +221,11 @@ uint32_t gunwaleish_image_fresh(uint8_t kind, uint8_t *image, size_t image_len);
  * buffer has the new image. 9 and 16 answer the number, 00, 00, 00. An event refused with 2, 3 or 4 leaves the image and shows the device. */
 uint32_t gunwaleish_image_step(uint8_t kind, uint8_t x, uint8_t y, uint8_t z, uint8_t *image, size_t image_len);
 
+/* Takes so many ticks at once: the image is as after as many TICK events. Packed: number + 256 * how many of the ticks changed anything but counts,
+ * which are reserve, hold, idle and both low counts; from any state that a run reaches these are at most six. Number 0, 9, 16, or 3 past 65,535
+ * ticks, with 0 above it and the image as it was. No ticks change nothing. */
+uint32_t gunwaleish_image_advance(uint32_t ticks, uint8_t *image, size_t image_len);
+
 /* What the master reads of its register, without an event: no mailbox is emptied, and no pointer moves. Packed: number + 256 * the byte; number 0,
  * 9, 16, or 3 for a master above 1 or a register above 7. */
 uint32_t gunwaleish_image_read(uint8_t master, uint8_t register_number, const uint8_t *image, size_t image_len);
@@ -320,6 +327,11 @@ static inline size_t gunwaleish_ordered(uint64_t packed) {
 /* One byte of the answer that gunwaleish_image_step, gunwaleish_shelf_step or gunwaleish_shelf_show gave, by its place, a GUNWALEISH_ANSWER_ of the above. There are four. */
 static inline uint8_t gunwaleish_answer(uint32_t packed, unsigned place) {
     return (uint8_t)(place > 3 ? 0 : packed >> (8 * place) & 0xff);
+}
+
+/* How many ticks changed anything but counts, out of what gunwaleish_image_advance gave. */
+static inline uint32_t gunwaleish_changing(uint32_t packed) {
+    return packed >> 8;
 }
 
 /* The byte out of what gunwaleish_image_read gave. */

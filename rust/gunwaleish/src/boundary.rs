@@ -71,6 +71,7 @@ extern "C" {
         image: *mut u8,
         image_len: usize,
     ) -> u32;
+    fn gunwaleish_image_advance(ticks: u32, image: *mut u8, image_len: usize) -> u32;
     fn gunwaleish_image_read(master: u8, register: u8, image: *const u8, image_len: usize) -> u32;
     fn gunwaleish_shelf_step(
         name: u8,
@@ -197,6 +198,13 @@ pub fn image_step(event: [u8; 4], image: &mut [u8]) -> u32 {
     let [kind, x, y, z] = event;
     // SAFETY: see the head of this file.
     unsafe { gunwaleish_image_step(kind, x, y, z, image.as_mut_ptr(), image.len()) }
+}
+
+/// The number, then how many of the ticks changed anything but counts, packed as 1 and 256. The
+/// buffer has the image after the ticks, or is as it was.
+pub fn image_advance(ticks: u32, image: &mut [u8]) -> u32 {
+    // SAFETY: see the head of this file.
+    unsafe { gunwaleish_image_advance(ticks, image.as_mut_ptr(), image.len()) }
 }
 
 /// The number, then the byte, packed as 1 and 256.

@@ -1,10 +1,13 @@
-//! A standing device, kept as its image. Document 02, #108.
+//! A standing device, kept as its image. Document 02, #108; its advance over quiet time, #113.
 //!
 //! The image has 38 bytes, and `docs/IMAGE.md` tells what each of them is and what it may be.
 
 use std::fmt;
 
 use crate::{boundary, Answer, Master, Part, Refusal};
+
+/// The most ticks of one advance.
+pub const MOST_TICKS: u32 = 65_535;
 
 /// The bytes of a device's image.
 pub const IMAGE_LENGTH: usize = 38;
@@ -92,6 +95,10 @@ impl fmt::Display for Register {
 /// assert_eq!(again.step(Event::Tick), device.step(Event::Tick));
 /// assert_eq!(again, device);
 ///
+/// // A minute passes at once. The master holds the bus without a reserve, and nothing changes but counts.
+/// assert_eq!(device.advance(60_000)?, 0);
+/// assert_eq!(device.step(Event::Tick).owner, Some(Master::Zero));
+///
 /// // What is no image is refused, and so is one with a field that no run gives.
 /// assert_eq!(Device::from_image(&kept[1..]), Err(Refusal::OtherLength));
 /// let mut damaged = kept;
@@ -131,6 +138,17 @@ impl Device {
     /// 2, 3 or 4, changes nothing, and its answer shows the device.
     pub fn step(&mut self, event: impl Into<[u8; 4]>) -> Answer {
         boundary::image_step(event.into(), &mut self.image).to_le_bytes().into()
+    }
+
+    /// Takes so many ticks at once, as many TICK events would leave it, and gives how many of them
+    /// changed anything but counts: at most six, from any state that a run reaches. Refused with 3,
+    /// `TooManyTicks`, past 65,535, and nothing changes.
+    pub fn advance(&mut self, ticks: u32) -> Result<u32, Refusal> {
+        let packed = boundary::image_advance(ticks, &mut self.image);
+        match packed as u8 {
+            3 => Err(Refusal::TooManyTicks),
+            number => Refusal::of_image(number).map_or(Ok(packed >> 8), Err),
+        }
     }
 
     /// What the master reads of its register, without an event: no mailbox is emptied, and no pointer

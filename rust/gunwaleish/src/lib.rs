@@ -32,7 +32,8 @@
 //! refused, and never becomes a value.
 //!
 //! A `Device` stands between its events and is stepped one by one. It is the image of 38 bytes that a
-//! microcontroller keeps, so it can be kept as bytes too.
+//! microcontroller keeps, so it can be kept as bytes too. Over quiet time it advances by many ticks at
+//! once.
 //!
 //! A `Shelf` is a row of up to 16 such devices with their addresses, on the same two upstream buses.
 //!
@@ -62,7 +63,7 @@ mod writing;
 
 pub use answer::{Answer, Bus, Ground, Outcome};
 pub use capture::{import_capture, import_capture_into, MOST_CAPTURED, MOST_SAMPLES};
-pub use device::{Device, Register, IMAGE_LENGTH};
+pub use device::{Device, Register, IMAGE_LENGTH, MOST_TICKS};
 pub use event::{Event, Master};
 pub use orders::{list_orders, list_orders_into, MOST_ORDERS, MOST_SCRIPT};
 pub use part::Part;

@@ -58,6 +58,8 @@ pub enum Refusal {
     LongRow,
     /// 9: the bytes of a shelf's row are not 39 for each record.
     OtherRowLength,
+    /// 3: an advance is by more than 65,535 ticks.
+    TooManyTicks,
     /// 6: totals of the bus share are over 65,535 traces, or two of them over more together.
     TooManyTraces,
     /// 17: two records of a shelf have the same address.
@@ -133,7 +135,7 @@ impl Refusal {
     /// The document's number.
     pub fn number(self) -> u8 {
         match self {
-            Refusal::NoSuchPart | Refusal::BadBox => 3,
+            Refusal::NoSuchPart | Refusal::BadBox | Refusal::TooManyTicks => 3,
             Refusal::TraceCut | Refusal::SheetCut | Refusal::EmptyRow => 5,
             Refusal::TooManyEvents
             | Refusal::LongScript
@@ -186,6 +188,7 @@ impl fmt::Display for Refusal {
             }
             Refusal::EmptyRow => "the shelf has no record",
             Refusal::LongRow => "the shelf has more than 16 records",
+            Refusal::TooManyTicks => "an advance goes 65,535 ticks at most",
             Refusal::TooManyTraces => "the totals are over 65,535 traces, and no more fit",
             Refusal::OtherRowLength => "a shelf's row has 39 bytes for each record",
             Refusal::EqualAddresses => "two records of the shelf have the same address",
