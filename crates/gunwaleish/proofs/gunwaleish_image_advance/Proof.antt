@@ -19,12 +19,12 @@ byte-low-requires c κs = search needs
 
 mul-result : tie.Need-mul-result
 mul-result c =
-    let few = subst (λ (t : Told). t .reported ≤ mostTicks) (sym (c .before .before .before .advance-image .ensures .0)) (told-few _ _) in
+    let few = subst (λ (t : Told). t .reported ≤ mostTicks) (sym (c .before .before .before .before .advance-image .ensures .0)) (told-few _ _) in
     omega (arith, few)
 
 add-result : tie.Need-add-result
 add-result c =
-    let few = subst (λ (t : Told). t .reported ≤ mostTicks) (sym (c .before .before .before .advance-image .ensures .0)) (told-few _ _) in
+    let few = subst (λ (t : Told). t .reported ≤ mostTicks) (sym (c .before .before .before .before .advance-image .ensures .0)) (told-few _ _) in
     omega (arith, few)
 
 same-length : tie.Need-same-length
@@ -32,8 +32,8 @@ same-length c = search needs
 
 returns : tie.Need-returns
 returns c =
-    let got = c .before .before .before .advance-image .ensures in
-    (simp (c .byte-low .ensures .0) (ap packedTold (got .0)), got .1)
+    let got = c .before .before .before .before .advance-image .ensures in
+    (simp (c .before .byte-low .ensures .0) (ap packedTold (got .0)), got .1)
 
 pub gunwaleish-image-advance-spec : {M : Type 1} → statement M
 gunwaleish-image-advance-spec =
