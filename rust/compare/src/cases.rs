@@ -20,7 +20,7 @@ use crate::writing::writer_calls;
 /// Compares one round of cases: some 55 good traces with 16,000 events and ten times as many
 /// damaged ones, some 100 calls of the writer, 60 of the converter, 90 of the importer, 190 with
 /// order sheets, 3,000 steps on images, 9 calls with start-up scripts, 400 with shelves, 17 that
-/// add to totals and 18 advances.
+/// add to totals, 7 that join them and 18 advances.
 pub fn round(seed: u64, figures: &mut Figures) {
     let mut rng = Rng::new(seed);
     for length in lengths(&mut rng) {

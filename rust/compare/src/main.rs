@@ -6,7 +6,7 @@ use compare::advancing::advances_about_ends;
 use compare::fixed::*;
 use compare::imaging::{images_byte_by_byte, images_of_every_length};
 use compare::ordering::{sheets_one_by_one, sheets_side_by_side};
-use compare::sharing::{shares_of_stored, totals_of_every_length};
+use compare::sharing::{joins_about_the_most, shares_of_stored, totals_of_every_length};
 use compare::shelving::{names_on_rows, rows_of_every_length};
 use compare::starting::{limits_of_orders, orders_of_every_length};
 use compare::{clock_seed, round, seed_or, Figures};
@@ -44,6 +44,7 @@ fn main() {
     rows_of_every_length(&mut figures);
     shares_of_stored(&mut figures);
     totals_of_every_length(&mut figures);
+    joins_about_the_most(&mut figures);
     advances_about_ends(&mut figures);
     print!("{figures}{}", figures.happenings());
     let never = figures.never();

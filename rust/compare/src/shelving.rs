@@ -91,7 +91,8 @@ pub fn check_shelf_step(name: u8, event: [u8; 4], row: &[u8]) -> Result<u8, Diff
 /// Shows a place of any buffer. Gives the first answer byte.
 pub fn check_shelf_show(place: u8, row: &[u8]) -> Result<u8, Difference> {
     let answer = model::shelf_show(place, row);
-    same_answer(answer, boundary::shelf_show(place, row)).map_err(|e| format!("place {place}{e}"))?;
+    same_answer(answer, boundary::shelf_show(place, row))
+        .map_err(|e| format!("place {place}{e}"))?;
     Ok(answer[0])
 }
 

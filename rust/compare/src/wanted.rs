@@ -24,6 +24,7 @@ pub const CALLS: &[(&str, &[u8])] = &[
     ("shelf show", &[0, 5, 6, 9, 16, 17, 18]),
     ("shelf fresh", &[0, 3, 5, 6, 9, 17]),
     ("share add", &[0, 3, 5, 6, 7, 8, 9, 10]),
+    ("share join", &[0, 6, 9]),
     ("image advance", &[0, 3, 9, 16]),
 ];
 /// The names of all that has to be seen in calls other than runs.

@@ -7,7 +7,7 @@ use compare::advancing::advances_about_ends;
 use compare::fixed::*;
 use compare::imaging::{images_byte_by_byte, images_of_every_length};
 use compare::ordering::{sheets_one_by_one, sheets_side_by_side};
-use compare::sharing::{shares_of_stored, totals_of_every_length};
+use compare::sharing::{joins_about_the_most, shares_of_stored, totals_of_every_length};
 use compare::shelving::{names_on_rows, rows_of_every_length};
 use compare::starting::{limits_of_orders, orders_of_every_length};
 use compare::{clock_seed, round, seed_or, Figures};
@@ -135,6 +135,11 @@ fn shares_of_the_stored_traces() {
 #[test]
 fn totals_of_any_length() {
     check_all(totals_of_every_length);
+}
+
+#[test]
+fn totals_joined_about_the_most() {
+    check_all(joins_about_the_most);
 }
 
 #[test]

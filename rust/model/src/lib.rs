@@ -90,7 +90,7 @@ pub use orders::{list_orders, Listed};
 pub use part::Kind;
 pub use report::share_report;
 pub use row::{read_row, row_of, shelf_fresh, shelf_show, shelf_step};
-pub use share::{share_add, Totals};
+pub use share::{share_add, share_join, Totals};
 pub use sheet::{look_up, sheet_events};
 pub use shelf::{Record, Shelf};
 pub use straps::{address_of, pins_of};

@@ -108,6 +108,15 @@ impl Totals {
         }
     }
 
+    /// Joins the totals of other traces. Gives 0, or 6 past the most traces, and nothing is counted.
+    pub fn join(&mut self, other: &Totals) -> u8 {
+        if u128::from(self.traces) + u128::from(other.traces) > u128::from(MOST_TRACES) {
+            return TOO_MANY_TRACES;
+        }
+        self.sum(other);
+        0
+    }
+
     /// Sums, each of which stops at the top of 64 bits; of the longest waits the longer one.
     fn sum(&mut self, other: &Totals) {
         let mut numbers = self.numbers();
@@ -157,6 +166,19 @@ pub fn share_add(trace: &[u8], totals: &mut [u64]) -> u8 {
     };
     let mut sums = Totals::of(numbers);
     let number = sums.add(trace);
+    totals.copy_from_slice(&sums.numbers());
+    number
+}
+
+/// Joins the totals of other traces to totals in a lent row of numbers. Gives 9 if either row has
+/// another length, and the totals stay as they are.
+pub fn share_join(other: &[u64], totals: &mut [u64]) -> u8 {
+    let rows = (<[u64; NUMBERS]>::try_from(other), <[u64; NUMBERS]>::try_from(&*totals));
+    let (Ok(other), Ok(numbers)) = rows else {
+        return 9;
+    };
+    let mut sums = Totals::of(numbers);
+    let number = sums.join(&Totals::of(other));
     totals.copy_from_slice(&sums.numbers());
     number
 }

@@ -300,3 +300,18 @@ fn random_additions_reach_everything() {
     let unnamed: Vec<_> = sights.counted().filter(|name| !SHARE_SIGHTS.contains(name)).collect();
     assert!(unnamed.is_empty(), "without a name: {unnamed:?}");
 }
+
+/// Traces counted in two places and joined are counted as in one; past the most, totals are kept.
+#[test]
+fn joined_totals_are_those_of_all() {
+    let rng = &mut Rng::new(112);
+    let traces: Vec<Vec<u8>> = (0..40).map(|_| any_trace(rng)).collect();
+    let mut joined = totals(&traces[..17]);
+    assert_eq!(joined.join(&totals(&traces[17..])), 0);
+    assert_eq!(joined, totals(&traces));
+    let full = Totals { traces: MOST_TRACES - 39, ..Totals::default() };
+    let kept = joined.clone();
+    assert_eq!((joined.join(&full), &joined), (6, &kept));
+    let last = Totals { traces: MOST_TRACES - 40, ..Totals::default() };
+    assert_eq!((joined.join(&last), joined.traces), (0, MOST_TRACES));
+}
