@@ -41,7 +41,9 @@ fn write(device: &mut Device, master: Master, register: u8, value: u8) {
 fn settled() -> Device {
     let mut device = Device::fresh(Part::Pca9641);
     write(&mut device, Master::Zero, 1, 0x05);
-    (0..200).for_each(|_| drop(device.step(TICK)));
+    for _ in 0..200 {
+        device.step(TICK);
+    }
     device
 }
 
