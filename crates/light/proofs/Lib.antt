@@ -1,3 +1,5 @@
 pub mod Settles
 pub mod Faces
 pub mod Light
+pub mod Short
+pub mod Unique

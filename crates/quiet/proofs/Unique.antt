@@ -8,6 +8,7 @@ use Rattle.quiet.proofs.idle_ticks.Reads as idle-ticks
 use Rattle.quiet.proofs.owner_ticks.Reads as owner-ticks
 use Rattle.quiet.proofs.is_calm.Reads as is-calm
 use Rattle.quiet.proofs.quiet_ticks.Reads as quiet-ticks
+use Rattle.quiet.proofs.settled_ticks.Reads as settled-ticks
 use Rattle.quiet.proofs.after_ticks.Reads as after-ticks
 
 pub hold-ticks-once : OneResult hold-ticks.Post
@@ -30,6 +31,9 @@ is-calm-once κ a x y s t p q = once p q
 
 pub quiet-ticks-once : OneResult quiet-ticks.Post
 quiet-ticks-once κ a x y s t p q = once p q
+
+pub settled-ticks-once : OneResult settled-ticks.Post
+settled-ticks-once κ a x y s t p q = once p q
 
 pub after-ticks-once : OneResult after-ticks.Post
 after-ticks-once κ a x y s t p q = once p q

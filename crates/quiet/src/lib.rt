@@ -150,6 +150,20 @@ fn counts_left(d: Device) -> u16
     )
 }
 
+// The same for a device that is known to be settled, where it is all that is asked. The trace loop alone calls it: a function as large as this
+// is inlined only where a single place calls it, and uninlined the loop takes a quarter more instructions.
+pub fn settled_ticks(d: Device) -> u16
+    ensures { λ r. ⌜ r ≡ countsLeft d ⌝ }
+{
+    least_of(
+        least_of(hold_ticks(d.bus.hold), turn_ticks(turn_of(d.arb), d)),
+        least_of(
+            scl_ticks(scl_high(d.bus), d.bus.lowscl),
+            sda_ticks(sda_high(d.bus), d.bus.lowsda),
+        ),
+    )
+}
+
 // So many TICKs from here on change nothing but counts: each is answered 0, 0 and the last two bytes of now.
 pub fn quiet_ticks(d: Device) -> u16
     ensures { λ r. ⌜ r ≡ quietTicks d ⌝ }

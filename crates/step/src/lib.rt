@@ -167,7 +167,8 @@ fn lines_byte(d: Device) -> u8
         + worth_of(8, sda_high(d.bus))
 }
 
-fn answered(number: u8, byte: u8, d: Device) -> Answer
+// The four bytes of an answer, with the device as it is after the step.
+pub fn answered(number: u8, byte: u8, d: Device) -> Answer
     ensures { λ r. ⌜ r ≡ answer number byte d ⌝ }
 {
     Answer {
@@ -180,7 +181,8 @@ fn answered(number: u8, byte: u8, d: Device) -> Answer
 
 // ---- a step
 
-fn finish(e: Event, before: Bus, f: Effect) -> Effect
+// Parts 2 to 7 after an event's own effect, and nothing after one out of sequence.
+pub fn finish(e: Event, before: Bus, f: Effect) -> Effect
     ensures { λ r. ⌜ r ≡ finished e before f ⌝ }
 {
     if f.outcome == outcome_number(Outcome::OutOfSequence) {

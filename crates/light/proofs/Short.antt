@@ -1,0 +1,159 @@
+-- A step with its parts left out is the step, where the device is settled as told and the last two bytes are its own.
+-- Assumes nothing.
+use Prim.Native.Nat.{ℕ}
+use mathlib.Core.Path.{_≡_, refl, sym, ap, ap₂, _∙_}
+use mathlib.Core.Bool.{Bool, true, false, not, _&&_, _||_, false≢true}
+use mathlib.Core.Logic.{_⊎_, inl, inr}
+use native.Mathlib.Omega.{arith}
+use denote.Enum.Declared.{tagOf}
+use lib.Dec.{eqb}
+use Rattle.arbiter.proofs.Decoded.{the-type}
+use Rattle.arbiter.specs.Words.{if_then_else_}
+use Rattle.arbiter.specs.Events.{decode, decodedNumber, inSequence, acknowledged, outcome, outcomeNumber}
+use Rattle.arbiter.specs.Effects.{effect}
+use Rattle.arbiter.specs.Steps.{parts, byteRead, ownerByte, linesByte, answer, taken, refused, stepEvent, stepDecoded, step}
+use Rattle.arbiter.specs.declared.Device.{Device}
+use Rattle.arbiter.specs.declared.Event.{Event}
+use Rattle.arbiter.specs.declared.Decoded.{Decoded}
+use Rattle.arbiter.specs.declared.Decoded.the-variants.{Reads, UnknownKind, BadField}
+use Rattle.arbiter.specs.declared.Outcome.{Outcome}
+use Rattle.arbiter.specs.declared.Outcome.the-variants.{Done, NotAcknowledged, OutOfSequence}
+use Rattle.arbiter.specs.declared.Answer.{Answer}
+use Rattle.arbiter.specs.declared.Stepped.{Stepped}
+use Rattle.effects.specs.declared.Effect.{Effect}
+use Rattle.effects.specs.Effect.{did, effectOf}
+use Rattle.step.specs.Carried.{finished, moved}
+use Rattle.step.proofs.Laws.{moved-law}
+use Rattle.light.specs.Light.{Settled, isLight}
+use Rattle.light.specs.Short.{kept, ended, told, shortEvent, shortDecoded, shortStep, ShortIsStep, AnswerShows}
+use Rattle.light.proofs.Light.{light-alone}
+
+-- ---- the last two bytes
+
+both-bytes : (number byte : ℕ) (owner lines owner′ lines′ : ℕ) → owner ≡ owner′ → lines ≡ lines′ → kept number byte owner lines ≡ kept number byte owner′ lines′
+both-bytes number byte owner lines owner′ lines′ o l = ap₂ (kept number byte) o l
+
+module _ (owner lines : ℕ) (d : Device) (o : owner ≡ ownerByte d) (l : lines ≡ linesByte d) where
+  -- nothing happened: the bytes are still the device's
+  unmoved : (number : ℕ) → ended owner lines (did d number 0) ≡ refused number d
+  unfolding refused
+  unmoved number = ap (λ (a : Answer). record { device = d; answer = a }) (both-bytes number 0 owner lines _ _ o l)
+
+  abbrev lit : Event → Stepped
+  lit e = ended owner lines (did (effect e d) (outcomeNumber (outcome e d)) (byteRead e d))
+
+  light-taken : (e : Event) → Settled d → isLight e d ≡ true → lit e ≡ taken e d
+  unfolding taken
+  light-taken e h t =
+      let alone = light-alone e d h t in
+      let byOwner : owner ≡ ownerByte (parts e d) = o ∙ sym (alone .1) ∙ ap ownerByte (sym (alone .0)) in
+      let byLines : lines ≡ linesByte (parts e d) = l ∙ sym (alone .2) ∙ ap linesByte (sym (alone .0)) in
+      ap₂ (λ (x : Device) (a : Answer). record { device = x; answer = a }) (sym (alone .0)) (both-bytes (outcomeNumber (outcome e d)) (byteRead e d) owner lines _ _ byOwner byLines)
+
+  short-event : (settled : Bool) (e : Event) → (settled ≡ true → Settled d) → shortEvent settled owner lines e d ≡ stepEvent e d
+  unfolding shortEvent stepEvent effectOf
+  short-event settled e h = go settled (isLight e d) (inSequence e d) h (λ q. q)
+    where
+      ways : Bool → Stepped
+      ways seq = ended owner lines (if seq then did (effect e d) (outcomeNumber (outcome e d)) (byteRead e d) else did d (outcomeNumber OutOfSequence) 0)
+
+      go : (settled light seq : Bool) → (settled ≡ true → Settled d) → (light ≡ true → isLight e d ≡ true)
+          → (if settled && light || not seq then ways seq else taken e d) ≡ (if seq then taken e d else refused (outcomeNumber OutOfSequence) d)
+      go true true true s t = light-taken e (s refl) (t refl)
+      go true true false s t = unmoved (outcomeNumber OutOfSequence)
+      go true false true s t = refl
+      go true false false s t = unmoved (outcomeNumber OutOfSequence)
+      go false light true s t = refl
+      go false light false s t = unmoved (outcomeNumber OutOfSequence)
+
+  short-decoded : (settled : Bool) (x : Decoded) → (settled ≡ true → Settled d) → shortDecoded settled owner lines x d ≡ stepDecoded x d
+  unfolding shortDecoded stepDecoded
+  short-decoded settled (Reads e) h = short-event settled e h
+  short-decoded settled UnknownKind h = unmoved (decodedNumber UnknownKind)
+  short-decoded settled BadField h = unmoved (decodedNumber BadField)
+
+pub short-is-step : ShortIsStep
+unfolding shortStep step
+short-is-step settled owner lines d r h o l = short-decoded owner lines d o l settled (decode r) h
+
+-- ---- an answer shows the device after its step
+
+abbrev Shows : Stepped → Type 0
+Shows s = (s .answer .owner ≡ ownerByte (s .device)) × (s .answer .lines ≡ linesByte (s .device))
+
+shows-event : (e : Event) (d : Device) → Shows (stepEvent e d)
+unfolding stepEvent taken refused
+shows-event e d = go (inSequence e d)
+  where
+    go : (seq : Bool) → Shows (if seq then taken e d else refused (outcomeNumber OutOfSequence) d)
+    go true = (refl, refl)
+    go false = (refl, refl)
+
+shows-decoded : (x : Decoded) (d : Device) → Shows (stepDecoded x d)
+unfolding stepDecoded refused
+shows-decoded (Reads e) d = shows-event e d
+shows-decoded UnknownKind d = (refl, refl)
+shows-decoded BadField d = (refl, refl)
+
+pub answer-shows : AnswerShows
+unfolding step
+answer-shows d r = shows-decoded (decode r) d
+
+-- ---- the code's ways through an event: ended with its effect, or through the other parts
+
+abbrev toldBy : Bool → Bool → Outcome
+toldBy seq ack = if seq then (if ack then Done else NotAcknowledged) else OutOfSequence
+
+out-of-sequence : (e : Event) (d : Device) → eqb (effectOf e d .outcome) (outcomeNumber OutOfSequence) ≡ not (inSequence e d)
+unfolding effectOf outcome
+out-of-sequence e d = go (inSequence e d) (acknowledged e d)
+  where
+    ways : Bool → Bool → Effect
+    ways seq ack = if seq then did (effect e d) (outcomeNumber (toldBy seq ack)) (byteRead e d) else did d (outcomeNumber OutOfSequence) 0
+
+    go : (seq ack : Bool) → eqb (ways seq ack .outcome) (outcomeNumber OutOfSequence) ≡ not seq
+    go true true = refl
+    go true false = refl
+    go false ack = refl
+
+right-false : (x y : Bool) → x || y ≡ false → y ≡ false
+right-false true y h = absurd (false≢true (sym h))
+right-false false y h = h
+
+module _ (settled : Bool) (owner lines : ℕ) (e : Event) (d : Device) where
+  abbrev ends : Bool
+  ends = settled && isLight e d || eqb (effectOf e d .outcome) (outcomeNumber OutOfSequence)
+
+  by-test : (t : Bool) → ends ≡ t → settled && isLight e d || not (inSequence e d) ≡ t
+  by-test t h = ap (λ (x : Bool). settled && isLight e d || x) (sym (out-of-sequence e d)) ∙ h
+
+  pub short-ended : ends ≡ true → ended owner lines (effectOf e d) ≡ shortEvent settled owner lines e d
+  unfolding shortEvent
+  short-ended h = sym (ap (λ (t : Bool). if t then ended owner lines (effectOf e d) else taken e d) (by-test true h))
+
+  told-moved : not (inSequence e d) ≡ false → told (moved (Reads e) d) ≡ taken e d
+  unfolding moved taken
+  told-moved h = go (inSequence e d) h
+    where
+      ways : Bool → Effect
+      ways seq = if seq then did (parts e d) (outcomeNumber (outcome e d)) (byteRead e d) else did d (outcomeNumber OutOfSequence) 0
+
+      go : (seq : Bool) → not seq ≡ false → told (ways seq) ≡ taken e d
+      go true h = refl
+      go false h = absurd (false≢true (sym h))
+
+  pub short-taken : ends ≡ false → told (finished e (d .bus) (effectOf e d)) ≡ shortEvent settled owner lines e d
+  unfolding shortEvent
+  short-taken h =
+      ap told (moved-law e d)
+      ∙ told-moved (right-false (settled && isLight e d) (not (inSequence e d)) (by-test false h))
+      ∙ sym (ap (λ (t : Bool). if t then ended owner lines (effectOf e d) else taken e d) (by-test false h))
+
+-- four bytes that do not read as an event
+pub short-refused : (settled : Bool) (owner lines : ℕ) (x : Decoded) (d : Device) → (tagOf the-type x ≡ 1) ⊎ (tagOf the-type x ≡ 2)
+    → ended owner lines (did d (decodedNumber x) 0) ≡ shortDecoded settled owner lines x d
+unfolding shortDecoded
+short-refused settled owner lines (Reads e) d (inl h) = let z : _≡_ {A = ℕ} 0 1 = h in absurd (omega arith)
+short-refused settled owner lines (Reads e) d (inr h) = let z : _≡_ {A = ℕ} 0 2 = h in absurd (omega arith)
+short-refused settled owner lines UnknownKind d h = refl
+short-refused settled owner lines BadField d h = refl
