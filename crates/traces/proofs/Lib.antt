@@ -1,4 +1,5 @@
 pub mod Runs
+pub mod Batch
 pub mod One
 pub mod Reading
 pub mod Unique

@@ -1,11 +1,16 @@
 // A trace: read from its bytes, or refused by number, and run event by event into a lent answer buffer.
-ghost use Prim.Native.Nat.{ℕ, _*_, _≤_};
+ghost use Prim.Native.Nat.{ℕ, _+_, _-_, _*_, _≤_, _<_};
 ghost use mathlib.Core.Path.{_≡_};
+ghost use mathlib.Core.Bool.{true};
 ghost use mathlib.Core.List.{List, _++_};
 ghost use lib.ListN.{length, drop};
 ghost use Rattle.arbiter.specs.Steps.{step, runFrom, answersFrom};
 ghost use Rattle.arbiter.specs.Traces.{eventBytes, rawsIn, kindNumber, readKind, readCounted, readTrace, refusalNumber, readNumber, bytesOf, report, bufferAfter, ran, bufferRan};
+ghost use Rattle.light.specs.Light.{Settled};
+ghost use Rattle.light.specs.Short.{kept};
+ghost use Rattle.quiet.specs.Counts.{least};
 ghost use Rattle.traces.specs.Bodies.{kindRead, ranWith, reportWith, headOf};
+ghost use Rattle.traces.specs.Ticks.{isTickRaw, ticksAhead, AllTicks, withSame};
 use arbiter::Answer;
 use arbiter::Device;
 use arbiter::Kind;
@@ -34,8 +39,11 @@ use format::kind_of;
 use format::pins_in;
 use format::put_answer;
 use format::whole_bytes;
+use light::step_settled;
+use quiet::after_ticks;
+use quiet::settled_ticks;
+use step::answered;
 use step::fresh;
-use step::step_device;
 use straps::address_of;
 
 // A report with the kind of its device alone, by its number.
@@ -120,25 +128,93 @@ pub fn read_trace(t: &[u8], room: usize) -> TraceRead
 
 // ---- running
 
-// The one place here that steps a device: a function as large as a step is inlined only where a single place calls it.
-fn step_one(d: Device, r: Raw) -> Stepped
-    ensures { λ s. ⌜ s ≡ step d r ⌝ }
+fn wide(x: u8) -> u32
+    ensures { λ r. ⌜ (r ≡ x) × (r < 256) ⌝ }
 {
-    step_device(d, r)
+    x as u32
 }
 
-// The first n events of these bytes, each answered at its place.
-fn play(from: Device, events: &[u8], answers: &mut [u8], n: usize) -> Device
-    requires { ⌜ (eventBytes * n ≤ length (now events)) × (eventBytes * n ≤ length (now answers)) ⌝ }
+// The four bytes as one number, low first: one load and one test in machine code.
+fn is_tick(r: Raw) -> bool
+    ensures { λ t. ⌜ t ≡ isTickRaw r ⌝ }
+{
+    wide(r.kind) + 256 * wide(r.x) + 65536 * wide(r.y) + 16777216 * wide(r.z) == 6
+}
+
+fn ticks_ahead(settled: bool, r: Raw, d: Device) -> u16
+    ensures { λ k. ⌜ k ≡ ticksAhead settled r d ⌝ }
+{
+    if settled & is_tick(r) {
+        settled_ticks(d)
+    } else {
+        0
+    }
+}
+
+fn least_of(x: usize, y: usize) -> usize
+    ensures { λ r. ⌜ r ≡ least x y ⌝ }
+{
+    if x < y { x } else { y }
+}
+
+fn quiet_answer(owner: u8, lines: u8) -> Answer
+    ensures { λ r. ⌜ r ≡ kept 0 0 owner lines ⌝ }
+{
+    Answer {
+        outcome: 0,
+        read: 0,
+        owner,
+        lines,
+    }
+}
+
+// Event i and the TICKs right after it, up to event last, answered alike: the event that they end at.
+fn play_ticks(events: &[u8], answers: &mut [u8], i: usize, last: usize, a: Answer) -> usize
+    requires { ⌜ i < last ⌝ }
+    ensures { λ r. ⌜ (i < r) × (r ≤ last) × AllTicks (i + 1) r (now (events .entry)) × (now (answers .exit) ≡ withSame (now (answers .entry)) i (r - i) a) ⌝ }
+{
+    put_answer(answers, i, a);
+    let mut at: usize = i + 1;
+    while at < last {
+        if is_tick(event_at(events, at)) {
+            put_answer(answers, at, a);
+            at += 1;
+        } else {
+            return at;
+        }
+    }
+    at
+}
+
+// The first n events of these bytes, each answered at its place. From a device that is settled, TICKs that move nothing but counts are taken
+// together, and light events end with their own effect. This is the one place here that steps a device: a function as large as a step is
+// inlined only where a single place calls it.
+fn play(settled: bool, from: Device, events: &[u8], answers: &mut [u8], n: usize) -> Device
+    requires { ⌜ (eventBytes * n ≤ length (now events)) × (eventBytes * n ≤ length (now answers)) × (settled ≡ true → Settled from) ⌝ }
     ensures { λ r. ⌜ (r ≡ runFrom from (rawsIn n (now (events .entry)))) × (now (answers .exit) ≡ bytesOf (answersFrom from (rawsIn n (now (events .entry)))) ++ drop (eventBytes * n) (now (answers .entry))) ⌝ }
 {
+    let first = answered(0, 0, from);
+    let mut owner = first.owner;
+    let mut lines = first.lines;
     let mut d = from;
     let mut i: usize = 0;
     while i < n {
-        let s = step_one(d, event_at(events, i));
-        put_answer(answers, i, s.answer);
-        d = s.device;
-        i += 1;
+        let r = event_at(events, i);
+        let k = ticks_ahead(settled, r, d);
+        if k == 0 {
+            let s = step_settled(settled, owner, lines, d, r);
+            let a = s.answer;
+            put_answer(answers, i, a);
+            d = s.device;
+            owner = a.owner;
+            lines = a.lines;
+            i += 1;
+        } else {
+            let last = i + least_of(k as usize, n - i);
+            let j = play_ticks(events, answers, i, last, quiet_answer(owner, lines));
+            d = after_ticks((j - i) as u16, d);
+            i = j;
+        }
     }
     d
 }
@@ -153,9 +229,9 @@ fn ran_with(number: u8, events: usize, device: Device) -> Ran
     }
 }
 
-// Raw events from any device, each answered in the lent buffer: the count of them and the device after them. Bytes that are not in fours,
-// and a buffer without room for the answers, are refused by number and leave device and buffer as they were.
-pub fn run_events(d: Device, events: &[u8], answers: &mut [u8]) -> Ran
+// Raw events from a device, which is settled if `settled` says so.
+fn run_from(settled: bool, d: Device, events: &[u8], answers: &mut [u8]) -> Ran
+    requires { ⌜ (settled ≡ true → Settled d) ⌝ }
     ensures { λ r. ⌜ (r ≡ ran d (now (events .entry)) (now (answers .entry))) × (now (answers .exit) ≡ bufferRan d (now (events .entry)) (now (answers .entry))) ⌝ }
 {
     let n = events.len() / EVENT_BYTES;
@@ -165,11 +241,19 @@ pub fn run_events(d: Device, events: &[u8], answers: &mut [u8]) -> Ran
         }
         // The part of the buffer that the answers fill: so each answer's place is known to be there without a test.
         let end = EVENT_BYTES * n;
-        let last = play(d, events, &mut answers[..end], n);
+        let last = play(settled, d, events, &mut answers[..end], n);
         ran_with(0, n, last)
     } else {
         ran_with(5, 0, d)
     }
+}
+
+// Raw events from any device, each answered in the lent buffer: the count of them and the device after them. Bytes that are not in fours,
+// and a buffer without room for the answers, are refused by number and leave device and buffer as they were.
+pub fn run_events(d: Device, events: &[u8], answers: &mut [u8]) -> Ran
+    ensures { λ r. ⌜ (r ≡ ran d (now (events .entry)) (now (answers .entry))) × (now (answers .exit) ≡ bufferRan d (now (events .entry)) (now (answers .entry))) ⌝ }
+{
+    run_from(false, d, events, answers)
 }
 
 // One event from any device. It goes through the loop over events, with a count of one: a step of its own would be a second place that calls
@@ -229,7 +313,7 @@ pub fn run_trace(t: &[u8], out: &mut [u8]) -> Report
             reported(number, 0, 0, fresh(Kind::Pca9641))
         }
         TraceRead::Accepted(address, _, kind) => {
-            let r = run_events(fresh(kind), events_in(t), out);
+            let r = run_from(true, fresh(kind), events_in(t), out);
             reported(r.number, address, r.events, r.device)
         }
     }

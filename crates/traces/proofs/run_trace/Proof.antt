@@ -1,7 +1,9 @@
--- `traces::run_trace` meets its contract: the events of an accepted trace are run, a refused one leaves everything as it was.
+-- `traces::run_trace` meets its contract: the events of an accepted trace are run from power-up, where a device is settled; a refused one leaves everything as it was.
 -- Assumes nothing.
 use borrow.Author.Needs.{needs}
-use mathlib.Core.Path.{sym, _∙_}
+use mathlib.Core.Path.{sym, subst, _∙_}
+use Rattle.light.specs.Light.{Settled}
+use Rattle.light.proofs.Settles.{settled-at-power-up}
 use Rattle.traces.proofs.Reading.{played-report, played-buffer, refused-report, refused-buffer}
 use Rattle.traces.proofs.run_trace.Statement.{statement}
 use Rattle.traces.proofs.run_trace.Tie as tie
@@ -30,8 +32,8 @@ fresh-requires-2 c κs = search needs
 events-in-requires : tie.Need-events-in-requires
 events-in-requires c κs = search needs
 
-run-events-requires : tie.Need-run-events-requires
-run-events-requires c κs = search needs
+run-from-requires : tie.Need-run-from-requires
+run-from-requires c κs = λ h. subst Settled (sym (c .before .before .fresh2 .ensures)) (settled-at-power-up _)
 
 reported-requires-2 : tie.Need-reported-requires-2
 reported-requires-2 c κs = search needs
@@ -54,8 +56,8 @@ returns-2 c =
     let told = part .before .before .before in
     let h = sym (told .before .before .read-trace .ensures .0) ∙ told .read2 .given .1 in
     let new = part .before .fresh2 .ensures in (
-      c .reported2 .ensures ∙ played-report _ _ _ _ _ h _ _ _ new (part .events-in .ensures) (ran .run-events .ensures .0),
-      ran .run-events .ensures .1 ∙ played-buffer _ _ _ _ _ h _ _ new (part .events-in .ensures),
+      c .reported2 .ensures ∙ played-report _ _ _ _ _ h _ _ _ new (part .events-in .ensures) (ran .run-from .ensures .0),
+      ran .run-from .ensures .1 ∙ played-buffer _ _ _ _ _ h _ _ new (part .events-in .ensures),
     )
 
 pub run-trace-spec : {M : Type 1} → statement M
@@ -70,7 +72,7 @@ run-trace-spec =
     enum-known-read-2
     fresh-requires-2
     events-in-requires
-    run-events-requires
+    run-from-requires
     reported-requires-2
     returns
     same-length

@@ -1,0 +1,79 @@
+-- `traces::run_from` meets its contract: refused for its bytes, refused for the room, or run to the end.
+-- Assumes nothing.
+use mathlib.Core.Path.{_≡_, sym, ap, subst, _∙_}
+use Prim.Native.Nat.{ℕ, _*_, _≤_}
+use native.Mathlib.Nat.{le-refl}
+use native.Mathlib.Omega.{arith}
+use lib.ListN.{length}
+use lib.Seq.{length-take-le}
+use borrow.Author.Needs.{needs}
+use Rattle.arbiter.specs.Traces.{eventBytes, eventCount}
+use Rattle.traces.specs.Bodies.{ranWith}
+use Rattle.traces.proofs.Runs.{odd-ran, short-ran, all-ran, part-answered}
+use Rattle.traces.proofs.run_from.Statement.{statement}
+use Rattle.traces.proofs.run_from.Tie as tie
+
+ran-with-requires : tie.Need-ran-with-requires
+ran-with-requires c κs = search needs
+
+returns : tie.Need-returns
+returns c =
+    let left = short-ran _ _ _ (c .before .before .if1 .taken) (c .before .if2 .taken) in
+    (c .ran-with .ensures ∙ left .0, left .1)
+
+mul-end : tie.Need-mul-end
+mul-end c = search needs
+
+slice-relend-prefix-play : tie.Need-slice-relend-prefix-play
+slice-relend-prefix-play c = search needs
+
+slice-aggregate-play : tie.Need-slice-aggregate-play
+slice-aggregate-play c = sym (length-take-le _ _ (omega arith))
+
+play-requires : tie.Need-play-requires
+play-requires c κs =
+    let start = c .before .before .before .before .before .args in
+    let n = eventCount (start .events .now) in
+    let fits : eventBytes * n ≤ length (start .answers .now) = omega arith in
+    (omega arith, subst (λ (k : ℕ). eventBytes * n ≤ k) (sym (length-take-le _ _ fits)) (le-refl _), c .before .before .before .before .before .pre)
+
+ran-with-requires-2 : tie.Need-ran-with-requires-2
+ran-with-requires-2 c κs = search needs
+
+ran-with-requires-3 : tie.Need-ran-with-requires-3
+ran-with-requires-3 c κs = search needs
+
+same-length : tie.Need-same-length
+same-length c = search needs
+
+returns-2 : tie.Need-returns-2
+returns-2 c =
+    let played = c .before .before .before in
+    let start = played .before .before .before .before .before .before .args in
+    let n = eventCount (start .events .now) in
+    let whole : length (start .events .now) ≡ eventBytes * n = omega (arith, played .before .before .before .if1 .taken) in
+    let fits : eventBytes * n ≤ length (start .answers .now) = omega (arith, played .before .before .if2 .left) in (
+      c .ran-with2 .ensures ∙ ap (ranWith 0 n) (played .play .ensures .0) ∙ all-ran _ _ _ n whole fits,
+      part-answered _ _ _ n whole fits _ (played .play .ensures .1),
+    )
+
+returns-3 : tie.Need-returns-3
+returns-3 c =
+    let left = odd-ran _ _ _ (c .before .if1 .left) in
+    (c .ran-with3 .ensures ∙ left .0, left .1)
+
+pub run-from-spec : {M : Type 1} → statement M
+run-from-spec =
+    tie.close
+    (tie.spec
+    ran-with-requires
+    returns
+    mul-end
+    slice-relend-prefix-play
+    slice-aggregate-play
+    play-requires
+    ran-with-requires-2
+    ran-with-requires-3
+    same-length
+    returns-2
+    returns-3)
