@@ -155,13 +155,11 @@ fn counts_left(d: Device) -> u16
 pub fn settled_ticks(d: Device) -> u16
     ensures { λ r. ⌜ r ≡ countsLeft d ⌝ }
 {
-    least_of(
-        least_of(hold_ticks(d.bus.hold), turn_ticks(turn_of(d.arb), d)),
-        least_of(
-            scl_ticks(scl_high(d.bus), d.bus.lowscl),
-            sda_ticks(sda_high(d.bus), d.bus.lowsda),
-        ),
-    )
+    let hold = hold_ticks(d.bus.hold);
+    let turn = turn_ticks(turn_of(d.arb), d);
+    let scl = scl_ticks(scl_high(d.bus), d.bus.lowscl);
+    let sda = sda_ticks(sda_high(d.bus), d.bus.lowsda);
+    least_of(least_of(hold, turn), least_of(scl, sda))
 }
 
 // So many TICKs from here on change nothing but counts: each is answered 0, 0 and the last two bytes of now.

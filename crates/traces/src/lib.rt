@@ -7,7 +7,7 @@ ghost use lib.ListN.{length, drop};
 ghost use Rattle.arbiter.specs.Steps.{step, runFrom, answersFrom};
 ghost use Rattle.arbiter.specs.Traces.{eventBytes, rawsIn, kindNumber, readKind, readCounted, readTrace, refusalNumber, readNumber, bytesOf, report, bufferAfter, ran, bufferRan};
 ghost use Rattle.light.specs.Light.{Settled};
-ghost use Rattle.light.specs.Short.{kept};
+ghost use Rattle.light.specs.Short.{kept, shortStep};
 ghost use Rattle.quiet.specs.Counts.{least};
 ghost use Rattle.traces.specs.Bodies.{kindRead, ranWith, reportWith, headOf};
 ghost use Rattle.traces.specs.Ticks.{isTickRaw, ticksAhead, AllTicks, withSame};
@@ -186,9 +186,15 @@ fn play_ticks(events: &[u8], answers: &mut [u8], i: usize, last: usize, a: Answe
     at
 }
 
+// The one place here that steps a device: a function as large as a step is inlined only where a single place calls it.
+fn step_one(settled: bool, owner: u8, lines: u8, d: Device, r: Raw) -> Stepped
+    ensures { λ s. ⌜ s ≡ shortStep settled owner lines d r ⌝ }
+{
+    step_settled(settled, owner, lines, d, r)
+}
+
 // The first n events of these bytes, each answered at its place. From a device that is settled, TICKs that move nothing but counts are taken
-// together, and light events end with their own effect. This is the one place here that steps a device: a function as large as a step is
-// inlined only where a single place calls it.
+// together, and light events end with their own effect.
 fn play(settled: bool, from: Device, events: &[u8], answers: &mut [u8], n: usize) -> Device
     requires { ⌜ (eventBytes * n ≤ length (now events)) × (eventBytes * n ≤ length (now answers)) × (settled ≡ true → Settled from) ⌝ }
     ensures { λ r. ⌜ (r ≡ runFrom from (rawsIn n (now (events .entry)))) × (now (answers .exit) ≡ bytesOf (answersFrom from (rawsIn n (now (events .entry)))) ++ drop (eventBytes * n) (now (answers .entry))) ⌝ }
@@ -202,7 +208,7 @@ fn play(settled: bool, from: Device, events: &[u8], answers: &mut [u8], n: usize
         let r = event_at(events, i);
         let k = ticks_ahead(settled, r, d);
         if k == 0 {
-            let s = step_settled(settled, owner, lines, d, r);
+            let s = step_one(settled, owner, lines, d, r);
             let a = s.answer;
             put_answer(answers, i, a);
             d = s.device;

@@ -52,8 +52,8 @@ event-at-requires c κs = search needs
 ticks-ahead-requires : tie.Need-ticks-ahead-requires Inv-loop μ-loop
 ticks-ahead-requires c κs = search needs
 
-step-settled-requires : tie.Need-step-settled-requires Inv-loop μ-loop
-step-settled-requires c κs = search needs
+step-one-requires : tie.Need-step-one-requires Inv-loop μ-loop
+step-one-requires c κs = search needs
 
 put-answer-requires : tie.Need-put-answer-requires Inv-loop μ-loop
 put-answer-requires c κs = search needs
@@ -81,7 +81,7 @@ loop-again c =
     let room : eventBytes * (at .loop .i + 1) ≤ length (start .args .answers .now) = omega (arith, tested .loop-test .taken, start .pre .1) in
     let read = ahead .before .event-at .ensures in
     let stepped =
-    took .step-settled .ensures ∙ short-is-step (start .args .settled) (at .loop .owner) (at .loop .lines) d _ (inv .4) (inv .5) (inv .6) ∙ ap (step d) read
+    took .step-one .ensures ∙ short-is-step (start .args .settled) (at .loop .owner) (at .loop .lines) d _ (inv .4) (inv .5) (inv .6) ∙ ap (step d) read
     in
     let shows = answer-shows d (eventAt (at .loop .i) events) in (
       omega (arith, tested .loop-test .taken),
@@ -193,7 +193,7 @@ play-spec =
     loop-holds
     event-at-requires
     ticks-ahead-requires
-    step-settled-requires
+    step-one-requires
     put-answer-requires
     add-i
     loop-less
