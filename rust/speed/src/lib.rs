@@ -1,19 +1,13 @@
 //! Times the proved library against plain Rust, on the same traces and captures in one run.
 //!
-//! - `plain`: the plain stepper, one event at a time.
-//! - `arbitration`: what follows from an event: lines, losses, claim, grant and switch.
-//! - `registers`: what its registers are and what a written byte does.
-//! - `reading`: whole traces for it.
+//! The steppers it is timed against are in docs/stepper.
+//!
 //! - `mixes`: the traces that are timed.
 //! - `decoder`: a plain decoder of captures.
 //! - `captures`: the captures that are timed.
-//! - `timing`: the best of many, by turns.
+//! - `timing`: the best and the median of many, by turns.
 
-pub mod arbitration;
 pub mod captures;
 pub mod decoder;
 pub mod mixes;
-pub mod plain;
-pub mod reading;
-pub mod registers;
 pub mod timing;

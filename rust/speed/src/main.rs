@@ -1,15 +1,22 @@
-//! speed [TIMES]: times the proved library against plain Rust, best of so many.
+//! speed [TIMES]: times the proved library against plain Rust, best and median of so many.
 
 use std::hint::black_box;
 
 use model::capture::MOST_SAMPLES;
 use speed::captures::{kinds, Captures};
+use speed::decoder;
 use speed::mixes::{mixes, Mix};
-use speed::timing::by_turns;
-use speed::{decoder, reading};
+use speed::timing::{by_turns, Times};
+use stepper::reading::Report;
+use stepper::{plain, tuned};
 
 const USUAL_TIMES: usize = 300;
 const ROOM: usize = 4 * 4096;
+
+type RunTrace = fn(&[u8], &mut [u8]) -> Result<Report, u8>;
+
+/// The two steppers of docs/stepper.
+const STEPPERS: [(&str, RunTrace); 2] = [("plain", plain::run_trace), ("tuned", tuned::run_trace)];
 
 fn main() {
     let times = std::env::args().nth(1).map_or(Some(USUAL_TIMES), |word| word.parse().ok());
@@ -17,37 +24,47 @@ fn main() {
         eprintln!("usage: speed [TIMES]");
         std::process::exit(2);
     };
-    println!("Best of {times}, by turns. The ratio is plain Rust's time by the proved library's:");
-    println!("above 1 the proved library is faster.");
-    println!("Full traces of 4,096 events, read and answered, against a plain stepper:");
-    for mix in mixes() {
-        stop_at(mix.name, differing(&mix));
+    let mixes = mixes().unwrap_or_else(|why| {
+        eprintln!("speed: {why}");
+        std::process::exit(2);
+    });
+    println!(
+        "Best of {times} by turns, and the median in brackets. A ratio is the other's time by the"
+    );
+    println!("proved library's: above 1 the proved library is faster.");
+    println!(
+        "Full traces of 4,096 events, read and answered, against the steppers of docs/stepper:"
+    );
+    for mix in mixes {
+        for (name, run_trace) in STEPPERS {
+            stop_at(mix.name, name, differing(&mix, run_trace));
+        }
         time(&mix, times);
     }
     println!("Captures of up to {MOST_SAMPLES} samples, imported, against a plain decoder:");
     for captures in kinds() {
-        stop_at(captures.name, differing_captures(&captures));
+        stop_at(captures.name, "decoder", differing_captures(&captures));
         time_captures(&captures, times);
     }
 }
 
-/// Nothing is timed before both give the same.
-fn stop_at(name: &str, differing: Option<usize>) {
+/// Nothing is timed before all give the same.
+fn stop_at(name: &str, other: &str, differing: Option<usize>) {
     if let Some(place) = differing {
-        println!("{name}: the two answer number {place} differently; nothing is timed");
+        println!("{name}: {other} answers number {place} differently; nothing is timed");
         std::process::exit(1);
     }
 }
 
 /// The place of a trace that one of them refuses or that they answer differently.
-fn differing(mix: &Mix) -> Option<usize> {
+fn differing(mix: &Mix, run_trace: RunTrace) -> Option<usize> {
     mix.traces.iter().position(|trace| {
-        let (mut proved, mut plain) = (vec![0xEE; ROOM], vec![0xEE; ROOM]);
+        let (mut proved, mut other) = (vec![0xEE; ROOM], vec![0xEE; ROOM]);
         let report = gunwaleish::run_trace(trace, &mut proved).ok();
         let report = report.map(|found| (found.address, found.events, found.part.number()));
-        let said = reading::run_trace(trace, &mut plain).ok();
-        let said = said.map(|(address, events, kind)| (address, events, kind as u8));
-        report != said || said.is_none() || proved != plain
+        let said = run_trace(trace, &mut other).ok();
+        let said = said.map(|told| (told.address, told.events, told.kind as u8));
+        report != said || said.is_none() || proved != other
     })
 }
 
@@ -60,53 +77,79 @@ fn differing_captures(captures: &Captures) -> Option<usize> {
     })
 }
 
-/// All traces of a mix, once in each turn.
+/// All traces of a mix, once in each turn, each with the same buffer.
 fn time(mix: &Mix, times: usize) {
-    let (mut answers, mut others) = (vec![0; ROOM], vec![0; ROOM]);
-    let best = by_turns(
+    let mut answers = [const { [0; ROOM] }; 3];
+    let [ours, first, second] = &mut answers;
+    let [library, plain, tuned] = by_turns(
         times,
-        || {
-            for trace in &mix.traces {
-                let _ = black_box(gunwaleish::run_trace(black_box(trace), black_box(&mut answers)));
-            }
-        },
-        || {
-            for trace in &mix.traces {
-                let _ = black_box(reading::run_trace(black_box(trace), black_box(&mut others)));
-            }
-        },
+        mix.traces.len() * ROOM / 4,
+        [
+            &mut || {
+                for trace in &mix.traces {
+                    let _ = black_box(gunwaleish::run_trace(black_box(trace), black_box(ours)));
+                }
+            },
+            &mut || {
+                for trace in &mix.traces {
+                    let _ = black_box(plain::run_trace(black_box(trace), black_box(first)));
+                }
+            },
+            &mut || {
+                for trace in &mix.traces {
+                    let _ = black_box(tuned::run_trace(black_box(trace), black_box(second)));
+                }
+            },
+        ],
     );
-    let [proved, plain] = best.nanoseconds(mix.traces.len() * ROOM / 4);
-    let ratio = plain / proved;
+    let ns = |times: Times| format!("{:6.2} ({:6.2})", times.best, times.median);
+    let ratio = |other| {
+        let ratio = library.against(other);
+        format!("{:.2} ({:.2})", ratio.best, ratio.median)
+    };
     println!(
-        "{:<17} proved {proved:6.2} ns a step, plain {plain:6.2} ns a step, ratio {ratio:.2}",
-        mix.name
+        "{:<11} ns an event: library {}, plain {}, tuned {}; ratio to plain {}, to tuned {}",
+        mix.name,
+        ns(library),
+        ns(plain),
+        ns(tuned),
+        ratio(plain),
+        ratio(tuned)
     );
 }
 
 /// All captures of a kind, once in each turn.
 fn time_captures(captures: &Captures, times: usize) {
     let (mut events, mut others) = (vec![0; ROOM], vec![0; ROOM]);
-    let best = by_turns(
-        times,
-        || {
-            for (samples, address) in &captures.all {
-                let samples = black_box(&samples[..]);
-                let _ = black_box(gunwaleish::import_capture_into(samples, *address, &mut events));
-            }
-        },
-        || {
-            for (samples, address) in &captures.all {
-                let samples = black_box(&samples[..]);
-                let _ = black_box(decoder::import_capture(samples, *address, &mut others));
-            }
-        },
-    );
     let samples: usize = captures.all.iter().map(|(samples, _)| samples.len()).sum();
-    let [proved, plain] = best.nanoseconds(samples).map(|each| 1000.0 / each);
-    let ratio = proved / plain;
+    let [library, plain] = by_turns(
+        times,
+        samples,
+        [
+            &mut || {
+                for (samples, address) in &captures.all {
+                    let samples = black_box(&samples[..]);
+                    let _ =
+                        black_box(gunwaleish::import_capture_into(samples, *address, &mut events));
+                }
+            },
+            &mut || {
+                for (samples, address) in &captures.all {
+                    let samples = black_box(&samples[..]);
+                    let _ = black_box(decoder::import_capture(samples, *address, &mut others));
+                }
+            },
+        ],
+    );
+    let rate =
+        |times: Times| format!("{:6.1} ({:6.1})", 1000.0 / times.best, 1000.0 / times.median);
+    let ratio = library.against(plain);
     println!(
-        "{:<17} proved {proved:6.1} million samples a second, plain {plain:6.1}, ratio {ratio:.2}",
-        captures.name
+        "{:<17} million samples a second: library {}, plain {}; ratio {:.2} ({:.2})",
+        captures.name,
+        rate(library),
+        rate(plain),
+        ratio.best,
+        ratio.median
     );
 }

@@ -1,10 +1,14 @@
 //! The traces that are timed: full ones of 4,096 events each.
 
+use std::fs;
+use std::path::{Path, PathBuf};
+
 use model::event::make::*;
 use model::part::BOTH_KINDS;
+use model::phrases::Bytes;
 use model::rng::Rng;
 use model::straps::pins_of;
-use model::trace::MOST_EVENTS;
+use model::trace::{read_trace, MOST_EVENTS};
 use model::traces::{trace, trace_of_kind};
 
 pub struct Mix {
@@ -12,11 +16,14 @@ pub struct Mix {
     pub traces: Vec<Vec<u8>>,
 }
 
-/// So many traces of each mix. They are run one after the other in each timing.
+/// So many traces of each mix. They are run one after the other in each timing. Every second one is
+/// of a TPT29641.
 const TRACES: u64 = 8;
 
-pub fn mixes() -> [Mix; 2] {
-    [
+/// All mixes. The error is why the samples cannot be read.
+pub fn mixes() -> Result<[Mix; 3], String> {
+    let samples = samples()?;
+    Ok([
         Mix {
             name: "mixed",
             traces: (0..TRACES).map(|seed| trace(1000 + seed, MOST_EVENTS)).collect(),
@@ -25,11 +32,15 @@ pub fn mixes() -> [Mix; 2] {
             name: "TICK-heavy",
             traces: (0..TRACES).map(|seed| tick_heavy(2000 + seed)).collect(),
         },
-    ]
+        Mix {
+            name: "samples",
+            traces: (0..TRACES).map(|place| of_samples(&samples, place as usize)).collect(),
+        },
+    ])
 }
 
 /// Nine events of ten are a TICK. The rest take the bus for one master or the other with some
-/// reserve, and move the lines. Every second trace is of a TPT29641.
+/// reserve, and move the lines.
 fn tick_heavy(seed: u64) -> Vec<u8> {
     let mut rng = Rng::new(seed);
     let mut events = vec![];
@@ -46,7 +57,39 @@ fn tick_heavy(seed: u64) -> Vec<u8> {
             events.extend(vec![tick(); rng.between(4, 14) as usize]);
         }
     }
+    full(seed as usize, events)
+}
+
+/// The events of the samples one after the other, from this one on and around.
+fn of_samples(samples: &[Vec<Bytes>], place: usize) -> Vec<u8> {
+    let around = samples.iter().cycle().skip(place % samples.len());
+    full(place, around.flatten().copied().take(MOST_EVENTS).collect())
+}
+
+fn full(place: usize, mut events: Vec<Bytes>) -> Vec<u8> {
     events.truncate(MOST_EVENTS);
-    let kind = BOTH_KINDS[(seed % 2) as usize];
+    let kind = BOTH_KINDS[place % 2];
     trace_of_kind(kind, pins_of(0x70).unwrap_or_default(), &events)
+}
+
+/// The events of the accepted traces of traces/, by name. Each begins with a RESET and the lines
+/// high, so that it goes as it does from power-up.
+fn samples() -> Result<Vec<Vec<Bytes>>, String> {
+    let folder = Path::new(env!("CARGO_MANIFEST_DIR")).join("../../traces");
+    let failed = |path: &Path, error| format!("{} cannot be read: {error}", path.display());
+    let entries = fs::read_dir(&folder).map_err(|error| failed(&folder, error))?;
+    let mut paths: Vec<PathBuf> = entries.flatten().map(|entry| entry.path()).collect();
+    paths.retain(|path| path.extension().is_some_and(|ending| ending == "trace"));
+    paths.sort();
+    let mut samples = vec![];
+    for path in paths {
+        let bytes = fs::read(&path).map_err(|error| failed(&path, error))?;
+        if let Ok(trace) = read_trace(&bytes) {
+            samples.push([vec![lines(1, 1, 1), reset()], trace.events].concat());
+        }
+    }
+    match samples.is_empty() {
+        true => Err(format!("{} has no trace that is accepted", folder.display())),
+        false => Ok(samples),
+    }
 }

@@ -1,19 +1,28 @@
-//! Two ways to do the same work, timed by turns; the best time of each is kept.
+//! Some ways to do the same work, timed by turns; the best time of each is kept, and the median.
 
 use std::time::{Duration, Instant};
 
-pub struct Best {
-    pub proved: Duration,
-    pub plain: Duration,
+/// Of one way, for each thing done, in nanoseconds.
+#[derive(Clone, Copy, Debug)]
+pub struct Times {
+    pub best: f64,
+    pub median: f64,
 }
 
-pub fn by_turns(times: usize, mut proved: impl FnMut(), mut plain: impl FnMut()) -> Best {
-    let mut best = Best { proved: Duration::MAX, plain: Duration::MAX };
-    for _ in 0..times {
-        best.proved = best.proved.min(once(&mut proved));
-        best.plain = best.plain.min(once(&mut plain));
+/// Each way once in every turn, so that a busy moment of the machine meets them all. A call does so
+/// many things.
+pub fn by_turns<const WAYS: usize>(
+    turns: usize,
+    things: usize,
+    mut ways: [&mut dyn FnMut(); WAYS],
+) -> [Times; WAYS] {
+    let mut taken = [const { vec![] }; WAYS];
+    for _ in 0..turns {
+        for (way, taken) in ways.iter_mut().zip(&mut taken) {
+            taken.push(once(way));
+        }
     }
-    best
+    taken.map(|taken| Times::of(taken, things))
 }
 
 fn once(work: &mut impl FnMut()) -> Duration {
@@ -22,9 +31,17 @@ fn once(work: &mut impl FnMut()) -> Duration {
     start.elapsed()
 }
 
-impl Best {
-    /// Both times by the count of what was done, in nanoseconds: the proved one first.
-    pub fn nanoseconds(&self, count: usize) -> [f64; 2] {
-        [self.proved, self.plain].map(|time| time.as_nanos() as f64 / count as f64)
+impl Times {
+    fn of(mut taken: Vec<Duration>, things: usize) -> Times {
+        taken.sort_unstable();
+        let each = |time: Option<&Duration>| {
+            time.map_or(f64::NAN, |time| time.as_nanos() as f64 / things as f64)
+        };
+        Times { best: each(taken.first()), median: each(taken.get(taken.len() / 2)) }
+    }
+
+    /// How many times as fast as another, by the best times and by the medians.
+    pub fn against(self, other: Times) -> Times {
+        Times { best: other.best / self.best, median: other.median / self.median }
     }
 }

@@ -1,7 +1,7 @@
 //! The tool that people run: a subcommand reads traces (or scripts, or captures) and writes one
 //! thing of each, or reads two order sheets and says what they order, or tries two start-up scripts in
-//! all their orders, or runs a script over a shelf of several devices, or counts over many traces how
-//! the bus was shared.
+//! all their orders, or runs a script over a shelf of several devices, or runs folders of traces on all
+//! cores, or counts over many traces how the bus was shared.
 //!
 //! Every answer comes from the proved library. What is here is words and pictures: `story` follows
 //! a run and says what changed, `order` says what is on two sheets, `startup` how the orders of two
@@ -16,6 +16,7 @@ pub mod device;
 pub mod each;
 pub mod failure;
 pub mod files;
+pub mod many;
 pub mod order;
 pub mod picture;
 pub mod script;
@@ -61,9 +62,9 @@ pub fn overview() -> String {
         text.push_str(&format!("  {:<10} {}\n", command.name, command.summary));
     }
     text.push_str(
-        "\nWithout FILE, or with -, standard input is read; sheet, orders and shelf need two files, and share\n\
-         takes folders too. -o names the file to write, or a folder that is there; then each output has its\n\
-         input's name. Many files need such a folder.\n\
+        "\nWithout FILE, or with -, standard input is read; sheet, orders and shelf need two files; share and run\n\
+         take folders too, and run writes no file. -o names the file to write, or a folder that is there; then\n\
+         each output has its input's name. Many files need such a folder.\n\
          Controller 0 and controller 1 are document 01's masters 0 and 1.\n\n\
          gunwaleish COMMAND --help tells more, with an example. --version gives the version.\n\n\
          Exit code: 0 done; 1 a trace, script, shelf, capture or order sheet is refused, standard\n\

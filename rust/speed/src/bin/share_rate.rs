@@ -3,56 +3,55 @@
 
 use gunwaleish::{Master, Totals};
 use speed::mixes::{mixes, Mix};
-use speed::reading::shared_in;
 use speed::timing::by_turns;
+use stepper::tuned::shared_in;
 
 fn main() {
     let rounds = match std::env::args().nth(1).map(|word| word.parse::<usize>()) {
         None => 60,
         Some(Ok(rounds)) if rounds > 0 => rounds,
-        Some(_) => {
-            eprintln!("share_rate [ROUNDS]: ROUNDS is a number from 1 on");
-            std::process::exit(2);
-        }
+        Some(_) => fail("share_rate [ROUNDS]: ROUNDS is a number from 1 on"),
     };
     println!("Full traces of 4,096 events added to totals, best of {rounds} by turns:");
-    for mix in mixes() {
+    for mix in mixes().unwrap_or_else(|why| fail(&why)) {
         compare(&mix, rounds);
     }
+}
+
+fn fail(why: &str) -> ! {
+    eprintln!("{why}");
+    std::process::exit(2);
 }
 
 fn compare(mix: &Mix, rounds: usize) {
     let mut proved = Totals::new();
     let mut plain = [0; 6];
-    let best = by_turns(
-        rounds,
-        || {
-            proved = Totals::new();
-            for trace in &mix.traces {
-                proved.add(trace).expect("the traces are accepted");
-            }
-        },
-        || {
-            plain = [0; 6];
-            for trace in &mix.traces {
-                let own = shared_in(trace).expect("the traces are accepted");
-                plain.iter_mut().zip(own).for_each(|(total, more)| *total += more);
-            }
-        },
-    );
-    let [zero, one] = [Master::Zero, Master::One];
-    let same = [
-        [proved.owned(zero), proved.connected(zero), proved.waited(zero)],
-        [proved.owned(one), proved.connected(one), proved.waited(one)],
-    ];
-    assert_eq!(same.concat(), plain, "both count the same");
-    let [a, b] = best.nanoseconds(mix.traces.len());
-    let [x, y] = best.nanoseconds(4096 * mix.traces.len());
+    let mut by_library = || {
+        proved = Totals::new();
+        for trace in &mix.traces {
+            proved.add(trace).expect("the traces are accepted");
+        }
+    };
+    let mut by_stepper = || {
+        plain = [0; 6];
+        for trace in &mix.traces {
+            let own = shared_in(trace).expect("the traces are accepted");
+            plain.iter_mut().zip(own).for_each(|(total, more)| *total += more);
+        }
+    };
+    let count = mix.traces.len();
+    let [a, b] = by_turns(rounds, count, [&mut by_library, &mut by_stepper]).map(|times| times.best);
+    let [zero, one] = [Master::Zero, Master::One].map(|master| {
+        [proved.owned(master), proved.connected(master), proved.waited(master)]
+    });
+    assert_eq!([zero, one].concat(), plain, "both count the same");
     println!(
-        "{:<12} proved {:>7.0} traces a second, {x:.1} ns an event; plain {:>7.0}, {y:.1}; ratio {:.2}",
+        "{:<12} proved {:>7.0} traces a second, {:.1} ns an event; plain {:>7.0}, {:.1}; ratio {:.2}",
         mix.name,
         1e9 / a,
+        a / 4096.0,
         1e9 / b,
+        b / 4096.0,
         b / a
     );
 }

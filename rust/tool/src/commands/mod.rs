@@ -8,6 +8,7 @@ pub mod import;
 pub mod list;
 pub mod orders;
 pub mod picture;
+pub mod run;
 pub mod share;
 pub mod sheet;
 pub mod shelf;
@@ -45,4 +46,5 @@ pub const COMMANDS: &[Command] = &[
     convert::COMMAND,
     wave::COMMAND,
     picture::COMMAND,
+    run::COMMAND,
 ];

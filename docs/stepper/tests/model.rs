@@ -1,28 +1,44 @@
-//! The plain stepper is held to the independent model, so that its time is that of right answers.
+//! Both steppers are held to the independent model, so that their time is that of right answers.
 
 use model::damage::{damage, ALL_DAMAGES};
 use model::rng::Rng;
 use model::straps::address_of;
 use model::traces::{old_trace_of, seed_of, trace, trace_of};
-use speed::mixes::mixes;
-use speed::reading;
-use speed::registers::Kind;
+use stepper::reading::{Kind, Report};
+use stepper::{plain, tuned};
+
+type RunTrace = fn(&[u8], &mut [u8]) -> Result<Report, u8>;
+
+const BOTH: [(&str, RunTrace); 2] = [("plain", plain::run_trace), ("tuned", tuned::run_trace)];
 
 fn assert_same(bytes: &[u8], room: usize) {
-    let (mut expected, mut answers) = (vec![0xEE; room], vec![0xEE; room]);
+    let mut expected = vec![0xEE; room];
     let result = model::run_trace(bytes, &mut expected);
-    let accepted = result.number == 0;
     let kind = match result.kind.number() {
         0 => Kind::Pca9641,
         _ => Kind::Tpt29641,
     };
-    let expected_said =
-        if accepted { Ok((result.address, result.events, kind)) } else { Err(result.number) };
-    assert_eq!(reading::run_trace(bytes, &mut answers), expected_said);
-    let differing = (0..room).find(|&at| answers[at] != expected[at]);
-    assert_eq!(differing, None, "answer byte, {} events", result.events);
+    let said = match result.number {
+        0 => Ok(Report {
+            address: result.address,
+            events: result.events,
+            kind,
+        }),
+        number => Err(number),
+    };
+    for (name, run_trace) in BOTH {
+        let mut answers = vec![0xEE; room];
+        assert_eq!(run_trace(bytes, &mut answers), said, "{name}");
+        let differing = (0..room).find(|&at| answers[at] != expected[at]);
+        assert_eq!(
+            differing, None,
+            "{name}: answer byte, {} events",
+            result.events
+        );
+    }
 }
 
+/// Of both kinds of part.
 #[test]
 fn random_traces() {
     for place in 0..600 {
@@ -49,10 +65,10 @@ fn every_strapping() {
     for code in 0..=255u8 {
         let pins = [code >> 6, (code >> 4) & 3, (code >> 2) & 3, code & 3];
         assert_same(&trace_of(pins, &[]), 0);
-        assert_eq!(
-            address_of(pins).is_some(),
-            reading::run_trace(&trace_of(pins, &[]), &mut []).is_ok()
-        );
+        for (name, run_trace) in BOTH {
+            let accepted = run_trace(&trace_of(pins, &[]), &mut []).is_ok();
+            assert_eq!(accepted, address_of(pins).is_some(), "{name}");
+        }
     }
 }
 
@@ -66,23 +82,5 @@ fn every_third_section() {
         let bytes = [old_trace_of([0; 4], &[[6, 0, 0, 0]]), section].concat();
         assert_same(&bytes, 4);
         assert_same(&bytes, 3);
-    }
-}
-
-/// The timed traces are full and accepted, of both parts, and the TICK-heavy ones are nine tenths
-/// TICK.
-#[test]
-fn timed_traces() {
-    for mix in mixes() {
-        for kind in [0, 1] {
-            assert!(mix.traces.iter().any(|bytes| bytes.last() == Some(&kind)), "{}", mix.name);
-        }
-        for bytes in &mix.traces {
-            assert_same(bytes, 4 * 4096);
-            let events = bytes[7..bytes.len() - 2].chunks_exact(4);
-            let ticks = events.clone().filter(|event| event[0] == 6).count();
-            assert_eq!(events.count(), 4096);
-            assert!(mix.name == "mixed" || (3500..3900).contains(&ticks), "{ticks} ticks");
-        }
     }
 }

@@ -1,9 +1,45 @@
-//! The plain stepper: one event at a time on a `&mut Device`, with nothing allocated.
+//! The tuned stepper: the same rules, written for speed.
 //!
-//! It is written for speed. Each event calls only those parts of the step that it can move: a
-//! COMMAND cannot make a loss, so it does not ask. A test holds it to the independent model.
+//! Each event calls only those parts of the step that it can move: a COMMAND cannot make a loss, so
+//! it does not ask. Levels are bits in the place where the answer has them.
 
-use crate::registers::*;
+mod arbitration;
+mod registers;
+
+use crate::reading::{read, Report};
+use registers::*;
+
+/// Runs a trace and writes four answer bytes an event. A refusal leaves the answers as they are.
+pub fn run_trace(trace: &[u8], answers: &mut [u8]) -> Result<Report, u8> {
+    let (report, events) = read(trace, answers.len())?;
+    let mut device = Device::fresh(report.kind);
+    for (event, answer) in events.chunks_exact(4).zip(answers.chunks_exact_mut(4)) {
+        answer.copy_from_slice(&device.step([event[0], event[1], event[2], event[3]]));
+    }
+    Ok(report)
+}
+
+/// The ticks that each master owned the bus, was connected and waited, master 0's three first: what the
+/// share report counts.
+pub fn shared_in(trace: &[u8]) -> Result<[u64; 6], u8> {
+    let (report, events) = read(trace, usize::MAX)?;
+    let mut device = Device::fresh(report.kind);
+    let mut counts = [0; 6];
+    for event in events.chunks_exact(4) {
+        let event = [event[0], event[1], event[2], event[3]];
+        let [outcome, _, bus, _] = device.step(event);
+        if event == [6, 0, 0, 0] && outcome == 0 {
+            for (m, side) in device.sides.iter().enumerate() {
+                let owns = bus & 3 == m as u8 + 1;
+                let asks = side.contr & LOCK_REQ != 0;
+                counts[3 * m] += u64::from(owns);
+                counts[3 * m + 1] += u64::from(bus >> 2 & 3 == m as u8 + 1);
+                counts[3 * m + 2] += u64::from(asks && !owns);
+            }
+        }
+    }
+    Ok(counts)
+}
 
 enum Event {
     Command(Master, u8),
@@ -27,9 +63,10 @@ fn decode(bytes: [u8; 4]) -> Result<Event, u8> {
         [2, m @ 0..=1, 0, 0] => Event::Read(master(m)),
         [3, m @ 0..=1, 0, 0] => Event::Stop(master(m)),
         [4, v0, v1, 0] => Event::Pair(v0, v1),
-        [5, scl @ 0..=1, sda @ 0..=1, int_in @ 0..=1] => {
-            Event::Lines { levels: (scl * SCL) | (sda * SDA), int_in: int_in == 1 }
-        }
+        [5, scl @ 0..=1, sda @ 0..=1, int_in @ 0..=1] => Event::Lines {
+            levels: (scl * SCL) | (sda * SDA),
+            int_in: int_in == 1,
+        },
         [6, 0, 0, 0] => Event::Tick,
         [7, sda @ 0..=1, 0, 0] => Event::Pulse(sda == 1),
         [8, 0, 0, 0] => Event::Reset,
@@ -108,7 +145,11 @@ impl Device {
     /// Both bytes see the state before the event. The one clash is a master that clears its mail
     /// bit while the other fills its box: the bit ends set, so the clearing comes first.
     fn pair(&mut self, v0: u8, v1: u8) -> u8 {
-        if self.sides.iter().any(|side| side.port != Port::OpenForWriting) {
+        if self
+            .sides
+            .iter()
+            .any(|side| side.port != Port::OpenForWriting)
+        {
             return 4;
         }
         let before = self.levels();
@@ -196,7 +237,12 @@ impl Device {
 
     fn reset(&mut self, hold: u8) -> u8 {
         let fresh = Device::fresh(self.kind);
-        *self = Device { outside: self.outside, int_in: self.int_in, hold, ..fresh };
+        *self = Device {
+            outside: self.outside,
+            int_in: self.int_in,
+            hold,
+            ..fresh
+        };
         0
     }
 

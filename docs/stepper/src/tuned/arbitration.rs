@@ -1,6 +1,6 @@
-//! What follows from an event in the plain stepper: lines, losses, claim, grant and switch.
+//! What follows from an event in the tuned stepper: lines, losses, claim, grant and switch.
 
-use crate::registers::*;
+use super::registers::*;
 
 impl Device {
     /// Parts 2, 3, 5, 6 and 7. The cut of part 4 is in a TICK alone.

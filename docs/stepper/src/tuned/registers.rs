@@ -1,4 +1,6 @@
-//! The plain device: its state, and what a byte written or read does.
+//! The tuned device: its state, and what a byte written or read does.
+
+use crate::reading::Kind;
 
 /// Bits of CONTR. LOCK_GRANT is computed.
 pub const PRIORITY: u8 = 0x80;
@@ -18,31 +20,6 @@ pub const BOTH: u8 = SCL | SDA;
 /// The low counts that show a hung bus, and at which they stop.
 pub const SCL_HUNG: u16 = 500;
 pub const SDA_HUNG: u16 = 501;
-
-/// The kind of part: the idle count's end and the rule of the write pointer go by it.
-#[derive(Clone, Copy, Debug, PartialEq, Eq)]
-pub enum Kind {
-    Pca9641,
-    Tpt29641,
-}
-
-impl Kind {
-    /// The idle count at which the idle timer ends a grant, and at which it stops.
-    pub fn idle_limit(self) -> u8 {
-        match self {
-            Kind::Pca9641 => 101,
-            Kind::Tpt29641 => 151,
-        }
-    }
-
-    /// What a pointer past 7 is after a written byte.
-    fn past_7(self) -> u8 {
-        match self {
-            Kind::Pca9641 => 7,
-            Kind::Tpt29641 => 0,
-        }
-    }
-}
 
 #[derive(Clone, Copy, PartialEq, Eq)]
 pub enum Master {
