@@ -1,4 +1,5 @@
-//! speed [TIMES]: times the proved library against plain Rust, best and median of so many.
+//! speed [TIMES [MIX]]: times the proved library against plain Rust, best and median of so many; all mixes of
+//! traces and all kinds of captures, or the one mix or kind of this name.
 
 use std::hint::black_box;
 
@@ -16,55 +17,69 @@ const ROOM: usize = 4 * 4096;
 type RunTrace = fn(&[u8], &mut [u8]) -> Result<Report, u8>;
 
 /// The two steppers of docs/stepper.
-const STEPPERS: [(&str, RunTrace); 2] = [("plain", plain::run_trace), ("tuned", tuned::run_trace)];
+const STEPPERS: [RunTrace; 2] = [plain::run_trace, tuned::run_trace];
 
 fn main() {
     let times = std::env::args().nth(1).map_or(Some(USUAL_TIMES), |word| word.parse().ok());
     let Some(times) = times.filter(|&times| times > 0) else {
-        eprintln!("usage: speed [TIMES]");
-        std::process::exit(2);
+        stop("usage: speed [TIMES [MIX]]");
     };
-    let mixes = mixes().unwrap_or_else(|why| {
-        eprintln!("speed: {why}");
-        std::process::exit(2);
-    });
+    let wanted = std::env::args().nth(2);
+    let is_wanted = |name: &str| wanted.as_deref().is_none_or(|wanted| wanted == name);
+    let mixes = mixes().unwrap_or_else(|why| stop(&format!("speed: {why}")));
+    let mixes: Vec<Mix> = mixes.into_iter().filter(|mix| is_wanted(mix.name)).collect();
+    let kinds: Vec<Captures> = kinds().into_iter().filter(|kind| is_wanted(kind.name)).collect();
+    if mixes.is_empty() && kinds.is_empty() {
+        stop("speed: there is no mix or kind of captures of this name");
+    }
     println!(
         "Best of {times} by turns, and the median in brackets. A ratio is the other's time by the"
     );
     println!("proved library's: above 1 the proved library is faster.");
-    println!(
-        "Full traces of 4,096 events, read and answered, against the steppers of docs/stepper:"
-    );
+    if !mixes.is_empty() {
+        println!(
+            "Full traces of 4,096 events, read and answered, against the steppers of docs/stepper:"
+        );
+    }
     for mix in mixes {
-        for (name, run_trace) in STEPPERS {
-            stop_at(mix.name, name, differing(&mix, run_trace));
-        }
+        stop_at(mix.name, differing(&mix));
         time(&mix, times);
     }
-    println!("Captures of up to {MOST_SAMPLES} samples, imported, against a plain decoder:");
-    for captures in kinds() {
-        stop_at(captures.name, "decoder", differing_captures(&captures));
+    if !kinds.is_empty() {
+        println!("Captures of up to {MOST_SAMPLES} samples, imported, against a plain decoder:");
+    }
+    for captures in kinds {
+        stop_at(captures.name, differing_captures(&captures));
         time_captures(&captures, times);
     }
 }
 
+fn stop(why: &str) -> ! {
+    eprintln!("{why}");
+    std::process::exit(2);
+}
+
 /// Nothing is timed before all give the same.
-fn stop_at(name: &str, other: &str, differing: Option<usize>) {
+fn stop_at(name: &str, differing: Option<usize>) {
     if let Some(place) = differing {
-        println!("{name}: {other} answers number {place} differently; nothing is timed");
+        println!("{name}: number {place} is not answered alike; nothing is timed");
         std::process::exit(1);
     }
 }
 
 /// The place of a trace that one of them refuses or that they answer differently.
-fn differing(mix: &Mix, run_trace: RunTrace) -> Option<usize> {
+fn differing(mix: &Mix) -> Option<usize> {
     mix.traces.iter().position(|trace| {
-        let (mut proved, mut other) = (vec![0xEE; ROOM], vec![0xEE; ROOM]);
+        let mut proved = vec![0xEE; ROOM];
         let report = gunwaleish::run_trace(trace, &mut proved).ok();
         let report = report.map(|found| (found.address, found.events, found.part.number()));
-        let said = run_trace(trace, &mut other).ok();
-        let said = said.map(|told| (told.address, told.events, told.kind as u8));
-        report != said || said.is_none() || proved != other
+        report.is_none()
+            || STEPPERS.iter().any(|run_trace| {
+                let mut answers = vec![0xEE; ROOM];
+                let said = run_trace(trace, &mut answers).ok();
+                let said = said.map(|told| (told.address, told.events, told.kind as u8));
+                report != said || proved != answers
+            })
     })
 }
 
