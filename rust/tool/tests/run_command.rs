@@ -1,25 +1,19 @@
 //! `run`: folders of traces on all cores.
 
+mod common;
+
 use std::fs;
-use std::path::{Path, PathBuf};
-use std::process::{Command, Output};
+use std::path::PathBuf;
+use std::process::Output;
 use std::time::Duration;
+
+use common::{root, run, Folder};
 
 use gunwaleish_tool::commands::run::closing;
 use gunwaleish_tool::many::{run_all, Tally};
 use model::damage::{damage, ALL_DAMAGES};
 use model::rng::Rng;
 use model::traces::{seed_of, trace};
-
-const TOOL: &str = env!("CARGO_BIN_EXE_gunwaleish");
-
-fn root() -> PathBuf {
-    Path::new(env!("CARGO_MANIFEST_DIR")).join("../..")
-}
-
-fn run(arguments: &[&str]) -> Output {
-    Command::new(TOOL).args(arguments).current_dir(root()).output().unwrap()
-}
 
 /// Exit code, what was printed but for the rate, and what was complained.
 fn told(output: &Output) -> (i32, String, String) {
@@ -34,27 +28,6 @@ fn told(output: &Output) -> (i32, String, String) {
         None => text,
     };
     (output.status.code().unwrap(), line, said)
-}
-
-struct Folder(PathBuf);
-
-impl Folder {
-    fn new(name: &str) -> Folder {
-        let name = format!("gunwaleish-run-{name}-{}", std::process::id());
-        let path = std::env::temp_dir().join(name);
-        fs::create_dir_all(&path).unwrap();
-        Folder(path)
-    }
-
-    fn name(&self) -> &str {
-        self.0.to_str().unwrap()
-    }
-}
-
-impl Drop for Folder {
-    fn drop(&mut self) {
-        let _ = fs::remove_dir_all(&self.0);
-    }
 }
 
 #[test]

@@ -1,32 +1,22 @@
 //! `gunwaleish share` as people call it: the page's commands with what they say, exit codes, files that
 //! cannot be read, streams, and where the report goes.
 
+mod common;
+
 use std::fs;
 use std::io::Write;
-use std::path::{Path, PathBuf};
 use std::process::{Command, Output, Stdio};
+
+use common::{code, root, said, shell, text, told, Folder, BUILT, TOOL};
 
 use model::report::input_of;
 
-const TOOL: &str = env!("CARGO_BIN_EXE_gunwaleish");
-/// The tool's place in what people read.
-const BUILT: &str = "target/rust/release/gunwaleish";
 const EMPTY: &str = "traces/box14-rt00.trace";
 const FILLED: &str = "traces/box14-rt50.trace";
-
-fn root() -> PathBuf {
-    Path::new(env!("CARGO_MANIFEST_DIR")).join("../..")
-}
 
 /// Runs the tool at the repository's root.
 fn run(arguments: &[&str]) -> Output {
     Command::new(TOOL).arg("share").args(arguments).current_dir(root()).output().unwrap()
-}
-
-/// Runs a line of a shell there, with the tool that was built for the test.
-fn shell(line: &str) -> Output {
-    let line = line.replace(BUILT, TOOL);
-    Command::new("sh").args(["-c", &line]).current_dir(root()).output().unwrap()
 }
 
 /// Runs the tool with this on standard input.
@@ -36,43 +26,6 @@ fn piped(arguments: &[&str], input: &[u8]) -> Output {
     let mut child = command.stdout(Stdio::piped()).stderr(Stdio::piped()).spawn().unwrap();
     child.stdin.take().unwrap().write_all(input).unwrap();
     child.wait_with_output().unwrap()
-}
-
-fn code(output: &Output) -> i32 {
-    output.status.code().unwrap()
-}
-
-fn said(output: &Output) -> String {
-    String::from_utf8(output.stderr.clone()).unwrap()
-}
-
-fn told(output: &Output) -> String {
-    String::from_utf8(output.stdout.clone()).unwrap()
-}
-
-fn text(path: &str) -> String {
-    fs::read_to_string(root().join(path)).unwrap()
-}
-
-/// A folder of a test's own, taken away when the test is over.
-struct Folder(PathBuf);
-
-impl Folder {
-    fn new(name: &str) -> Folder {
-        let path = std::env::temp_dir().join(format!("gunwaleish-{name}-{}", std::process::id()));
-        fs::create_dir_all(&path).unwrap();
-        Folder(path)
-    }
-
-    fn path(&self, name: &str) -> String {
-        self.0.join(name).to_str().unwrap().to_string()
-    }
-}
-
-impl Drop for Folder {
-    fn drop(&mut self) {
-        let _ = fs::remove_dir_all(&self.0);
-    }
 }
 
 /// Each command of the page that has its words below it, word for word.

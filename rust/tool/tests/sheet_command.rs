@@ -1,84 +1,17 @@
 //! `gunwaleish sheet` as people call it: the samples of `sheets/` with what is said of each, exit
 //! codes, and files in and out.
 
+mod common;
+
 use std::collections::BTreeSet;
 use std::fs;
-use std::path::{Path, PathBuf};
-use std::process::{Command, Output, Stdio};
+use std::process::{Command, Stdio};
 
-const TOOL: &str = env!("CARGO_BIN_EXE_gunwaleish");
-/// The tool's place in what people read.
-const BUILT: &str = "target/rust/release/gunwaleish";
+use common::{code, root, run, said, samples_on, shell, text, Folder, BUILT, TOOL};
 
-fn root() -> PathBuf {
-    Path::new(env!("CARGO_MANIFEST_DIR")).join("../..")
-}
-
-/// Runs the tool at the repository's root.
-fn run(arguments: &[&str]) -> Output {
-    Command::new(TOOL).args(arguments).current_dir(root()).output().unwrap()
-}
-
-/// Runs a line of a shell there, with the tool that was built for the test.
-fn shell(line: &str) -> Output {
-    let line = line.replace(BUILT, TOOL);
-    Command::new("sh").args(["-c", &line]).current_dir(root()).output().unwrap()
-}
-
-fn code(output: &Output) -> i32 {
-    output.status.code().unwrap()
-}
-
-fn said(output: &Output) -> String {
-    String::from_utf8(output.stderr.clone()).unwrap()
-}
-
-fn text(path: &str) -> String {
-    fs::read_to_string(root().join(path)).unwrap()
-}
-
-/// A folder of a test's own, taken away when the test is over.
-struct Folder(PathBuf);
-
-impl Folder {
-    fn new(name: &str) -> Folder {
-        let path = std::env::temp_dir().join(format!("gunwaleish-{name}-{}", std::process::id()));
-        fs::create_dir_all(&path).unwrap();
-        Folder(path)
-    }
-
-    fn path(&self, name: &str) -> String {
-        self.0.join(name).to_str().unwrap().to_string()
-    }
-}
-
-impl Drop for Folder {
-    fn drop(&mut self) {
-        let _ = fs::remove_dir_all(&self.0);
-    }
-}
-
-/// Each command of the samples' page, what it says word for word, and its exit code, which the line
-/// before it names.
 #[test]
 fn the_samples_say_what_their_page_has() {
-    let page = text("sheets/README.md");
-    let command = format!("\n    {BUILT} sheet ");
-    let mut parts = page.split(&command);
-    let mut before = parts.next().unwrap();
-    let mut ran = 0;
-    for part in parts {
-        let (line, rest) = part.split_once("\n\n```\n").unwrap();
-        let (expected, _) = rest.split_once("```\n").unwrap();
-        let output = shell(&format!("{BUILT} sheet {line} 2>&1"));
-        let found = String::from_utf8(output.stdout.clone()).unwrap();
-        assert!(found == expected, "sheets/README.md: {BUILT} sheet {line} says\n{found}");
-        let named = format!("The exit code is {}.\n", code(&output));
-        assert!(before.ends_with(&named), "{line}: {named}");
-        before = part;
-        ran += 1;
-    }
-    assert_eq!(ran, 5);
+    assert_eq!(samples_on("sheets/README.md", "sheet"), 5);
 }
 
 /// The page has every sheet with its bytes, and its other command lines work.

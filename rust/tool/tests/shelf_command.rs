@@ -1,42 +1,14 @@
 //! `gunwaleish shelf` as people call it: the samples of `traces/shelf/` with what is said of each, exit
 //! codes, and files in and out.
 
-use std::fs;
-use std::path::{Path, PathBuf};
-use std::process::{Command, Output};
+mod common;
 
-const TOOL: &str = env!("CARGO_BIN_EXE_gunwaleish");
-/// The tool's place in what people read.
-const BUILT: &str = "target/rust/release/gunwaleish";
+use std::fs;
+
+use common::{code, root, run, said, samples_on, shell, text, BUILT};
+
 const CHASSIS: &str = "traces/shelf/chassis.shelf";
 const HANG: &str = "traces/shelf/hang.script";
-
-fn root() -> PathBuf {
-    Path::new(env!("CARGO_MANIFEST_DIR")).join("../..")
-}
-
-/// Runs the tool at the repository's root.
-fn run(arguments: &[&str]) -> Output {
-    Command::new(TOOL).args(arguments).current_dir(root()).output().unwrap()
-}
-
-/// Runs a line of a shell there, with the tool that was built for the test.
-fn shell(line: &str) -> Output {
-    let line = line.replace(BUILT, TOOL);
-    Command::new("sh").args(["-c", &line]).current_dir(root()).output().unwrap()
-}
-
-fn code(output: &Output) -> i32 {
-    output.status.code().unwrap()
-}
-
-fn said(output: &Output) -> String {
-    String::from_utf8(output.stderr.clone()).unwrap()
-}
-
-fn text(path: &str) -> String {
-    fs::read_to_string(root().join(path)).unwrap()
-}
 
 /// What the tool says of the sample in words, and as a list.
 #[test]
@@ -66,27 +38,10 @@ fn one_hangs_and_the_others_go_on() {
     }
 }
 
-/// Each command of the samples' page, what it says word for word, and its exit code, which stands
-/// before it; and every file has its row there.
 #[test]
 fn the_samples_say_what_their_page_has() {
+    assert_eq!(samples_on("traces/shelf/README.md", "shelf"), 4);
     let page = text("traces/shelf/README.md");
-    let command = format!("\n    {BUILT} shelf ");
-    let mut parts = page.split(&command);
-    let mut before = parts.next().unwrap();
-    let mut ran = 0;
-    for part in parts {
-        let (line, rest) = part.split_once("\n\n```\n").unwrap();
-        let (expected, _) = rest.split_once("```\n").unwrap();
-        let output = shell(&format!("{{ {BUILT} shelf {line}; }} 2>&1"));
-        let found = String::from_utf8(output.stdout.clone()).unwrap();
-        assert!(found == expected, "traces/shelf/README.md: {BUILT} shelf {line} says\n{found}");
-        let named = format!("The exit code is {}.\n", code(&output));
-        assert!(before.ends_with(&named), "{line}: {named}");
-        before = part;
-        ran += 1;
-    }
-    assert_eq!(ran, 4);
     let entries = fs::read_dir(root().join("traces/shelf")).unwrap();
     for name in entries.map(|entry| entry.unwrap().file_name().into_string().unwrap()) {
         assert!(name == "README.md" || page.contains(&format!("`{name}`")), "{name}");
