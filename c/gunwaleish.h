@@ -1,6 +1,6 @@
 /* The proved model of a PCA9641 bus arbiter, and of its second source TPT29641, for C and C++.
  *
- * Link with libgunwaleish.a, which `tools/library` writes to target/staticlib/.
+ * Link with libgunwaleish.a, which `tools/library` writes to build/lib/.
  *
  * What a caller owes, since C cannot say it: a pointer is never null, also with length 0; the bytes it points to are there for that
  * length; and the range that a call writes overlaps none that it reads, an image, a row and totals apart, which are one range for both. Any bytes

@@ -11,7 +11,7 @@ fn main() {
     let folder = match env::var_os("GUNWALEISH_LIB_DIR") {
         Some(folder) => PathBuf::from(folder),
         None => PathBuf::from(env::var_os("CARGO_MANIFEST_DIR").unwrap_or_default())
-            .join("../../target/staticlib"),
+            .join("../../build/lib"),
     };
     let library = folder.join("libgunwaleish.a");
     println!("cargo::rerun-if-changed={}", library.display());

@@ -151,8 +151,8 @@ fn examples_of_the_help_work() {
         assert!(text.contains(command.example));
         let folder = Folder::new(command.name);
         let output = format!("-o {}", folder.0.to_str().unwrap());
-        let line = command.example.replace("-o target", &output);
-        let line = line.replace("target/rust/release/gunwaleish", TOOL);
+        let line = command.example.replace("-o build", &output);
+        let line = line.replace("build/release/gunwaleish", TOOL);
         let ran = Command::new("sh").args(["-c", &line]).current_dir(root()).output().unwrap();
         assert_eq!(code(&ran), 0, "{line}: {}", said(&ran));
     }

@@ -46,7 +46,7 @@ fn the_samples_are_what_their_page_says() {
     }
 }
 
-/// The commands that the person who packages is told, in their order. Outputs under target/ go to a
+/// The commands that the person who packages is told, in their order. Outputs under build/ go to a
 /// folder of the test's own, and are read from there.
 #[test]
 fn the_packagers_commands_work() {
@@ -56,7 +56,7 @@ fn the_packagers_commands_work() {
     let mut ran = 0;
     for line in lines {
         let here = folder.path("");
-        let line = line.replace(" target/start", &format!(" {here}/start"));
+        let line = line.replace(" build/start", &format!(" {here}/start"));
         let output = shell(&line);
         assert_eq!(code(&output), 0, "{line}: {}", said(&output));
         ran += 1;

@@ -35,7 +35,7 @@ fn the_samples_have_the_bytes_of_their_page() {
     assert_eq!(code(&shell(made[0])), 0, "{}", made[0]);
 }
 
-/// The commands that the release coordinator is told, in their order. Outputs under target/ go to a
+/// The commands that the release coordinator is told, in their order. Outputs under build/ go to a
 /// folder of the test's own.
 #[test]
 fn the_coordinators_commands_work() {
@@ -44,7 +44,7 @@ fn the_coordinators_commands_work() {
     let lines = page.lines().filter(|line| line.starts_with(&format!("    {BUILT} ")));
     let mut ran = 0;
     for line in lines {
-        let output = shell(&line.replace("-o target/", &format!("-o {}/", folder.path(""))));
+        let output = shell(&line.replace("-o build/", &format!("-o {}/", folder.path(""))));
         assert_eq!(code(&output), 0, "{line}: {}", said(&output));
         ran += 1;
     }

@@ -37,7 +37,7 @@ pub const COMMAND: Command = Command {
            names over several.\n\n\
            If a line cannot be read, nothing is written.",
     options: &[],
-    example: "target/rust/release/gunwaleish compose traces/m1.script | cmp - traces/m1.trace",
+    example: "build/release/gunwaleish compose traces/m1.script | cmp - traces/m1.trace",
     run: |arguments| Each { most: MOST_TEXT, ending: "trace", make: compose }.run(arguments),
 };
 

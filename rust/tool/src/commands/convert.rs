@@ -16,7 +16,7 @@ pub const COMMAND: Command = Command {
            no old trace is refused, a new trace among it. Make sure that the part was a PCA9641; for a\n\
            TPT29641, decompose what comes out, change its line part, and compose it again.",
     options: &[],
-    example: "head -c -2 traces/m1.trace | target/rust/release/gunwaleish convert | \
+    example: "head -c -2 traces/m1.trace | build/release/gunwaleish convert | \
               cmp - traces/m1.trace",
     run: |arguments| each_trace(arguments, "trace", convert),
 };

@@ -12,7 +12,7 @@ pub const COMMAND: Command = Command {
     help:
         "Composing the script gives the same bytes again. gunwaleish compose --help has the words.",
     options: &[],
-    example: "target/rust/release/gunwaleish decompose traces/box14-rt50.trace",
+    example: "build/release/gunwaleish decompose traces/box14-rt50.trace",
     run: |arguments| each_trace(arguments, "script", decompose),
 };
 

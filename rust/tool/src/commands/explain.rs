@@ -21,7 +21,7 @@ pub const COMMAND: Command = Command {
            What a controller does begins with its number. Ticks in which nothing changes share a\n\
            line.",
     options: &[],
-    example: "target/rust/release/gunwaleish explain traces/box14-rt00.trace",
+    example: "build/release/gunwaleish explain traces/box14-rt00.trace",
     run: |arguments| each_trace(arguments, "txt", explain),
 };
 

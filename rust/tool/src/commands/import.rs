@@ -23,8 +23,8 @@ pub const COMMAND: Command = Command {
            output is a script, to which tick and lines are added by hand before gunwaleish compose\n\
            makes a trace of it. docs/CAPTURES.md tells more, and how a capture is exported.",
     options: &[("--address", 1), ("--pins", 4), ("--part", 1), ("--script", 0)],
-    example: "target/rust/release/gunwaleish import traces/box14.capture --address 71 --part PCA9641 | \
-              target/rust/release/gunwaleish explain",
+    example: "build/release/gunwaleish import traces/box14.capture --address 71 --part PCA9641 | \
+              build/release/gunwaleish explain",
     run,
 };
 

@@ -12,7 +12,7 @@ pub const COMMAND: Command = Command {
         "The same text as the program `listing` of crates/listing prints. Of a refused trace it\n\
            is R and the number.",
     options: &[],
-    example: "target/rust/release/gunwaleish list traces/m1.trace",
+    example: "build/release/gunwaleish list traces/m1.trace",
     run: |arguments| each_trace(arguments, "listing", list),
 };
 

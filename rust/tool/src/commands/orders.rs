@@ -29,7 +29,7 @@ pub const COMMAND: Command = Command {
            somebody asks: standard error says which; 2 wrong use, or a file that cannot be read or\n\
            written.",
     options: &[("--all", 0), ("--order", 1), ("--script", 0)],
-    example: "target/rust/release/gunwaleish orders traces/orders/start0.script traces/orders/start1.script",
+    example: "build/release/gunwaleish orders traces/orders/start0.script traces/orders/start1.script",
     run,
 };
 

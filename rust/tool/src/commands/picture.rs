@@ -16,7 +16,7 @@ pub const COMMAND: Command = Command {
            ground, though they take no time. What is refused has a red cross. In a browser, the\n\
            pointer on an event or a bar shows it in words.",
     options: &[],
-    example: "target/rust/release/gunwaleish picture traces/box14-rt00.trace -o target/box14-rt00.svg",
+    example: "build/release/gunwaleish picture traces/box14-rt00.trace -o build/box14-rt00.svg",
     run: |arguments| each_trace(arguments, "svg", picture),
 };
 

@@ -24,7 +24,7 @@ pub const COMMAND: Command = Command {
            Exit code: 0 all traces ran; 1 some are refused; 2 wrong use, or a file that cannot be\n\
            read.",
     options: &[],
-    example: "target/rust/release/gunwaleish run traces || echo 'some are refused'",
+    example: "build/release/gunwaleish run traces || echo 'some are refused'",
     run,
 };
 

@@ -37,7 +37,7 @@ pub const COMMAND: Command = Command {
            Exit code: 0 done, also with refused traces; 1 there are more than 65,535 traces; 2 wrong\n\
            use, or something cannot be read, which is told, or written; what can be read is counted.",
     options: &[("--stream", 0), ("--table", 0), ("--threads", 1)],
-    example: "target/rust/release/gunwaleish share traces --table",
+    example: "build/release/gunwaleish share traces --table",
     run,
 };
 

@@ -30,7 +30,7 @@ pub const COMMAND: Command = Command {
            Exit code: 0 the pair is complete; 1 a box is empty, or a sheet is no sheet: standard error\n\
            says which, and at which byte; 2 wrong use, or a file that cannot be read or written.",
     options: &[("--address", 1), ("--pins", 4), ("--part", 1), ("--script", 0), ("--controller", 1)],
-    example: "target/rust/release/gunwaleish sheet sheets/board.sheet sheets/house.sheet",
+    example: "build/release/gunwaleish sheet sheets/board.sheet sheets/house.sheet",
     run,
 };
 

@@ -32,7 +32,7 @@ pub const COMMAND: Command = Command {
            Exit code: 0 done; 1 the shelf, the script or an event of it is refused: standard error\n\
            says which and where; 2 wrong use, or a file that cannot be read or written.",
     options: &[("--list", 0)],
-    example: "target/rust/release/gunwaleish shelf traces/shelf/chassis.shelf traces/shelf/hang.script",
+    example: "build/release/gunwaleish shelf traces/shelf/chassis.shelf traces/shelf/hang.script",
     run,
 };
 

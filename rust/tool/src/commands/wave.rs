@@ -18,7 +18,7 @@ pub const COMMAND: Command = Command {
            that each can be seen. owner and switch are 0 none, 1 controller 0, 2 controller 1. ground,\n\
            why the claim was won, is 0 no claim, 1 sole requester, 2 priority, 3 last granted.",
     options: &[],
-    example: "target/rust/release/gunwaleish wave traces/box14-rt50.trace -o target/box14-rt50.vcd",
+    example: "build/release/gunwaleish wave traces/box14-rt50.trace -o build/box14-rt50.vcd",
     run: |arguments| each_trace(arguments, "vcd", wave),
 };
 

@@ -7,7 +7,7 @@ use std::process::{Command, Output};
 
 pub const TOOL: &str = env!("CARGO_BIN_EXE_gunwaleish");
 /// The tool's place in what people read.
-pub const BUILT: &str = "target/rust/release/gunwaleish";
+pub const BUILT: &str = "build/release/gunwaleish";
 
 pub fn root() -> PathBuf {
     Path::new(env!("CARGO_MANIFEST_DIR")).join("../..")
