@@ -40,10 +40,10 @@ fn compare(mix: &Mix, rounds: usize) {
         }
     };
     let count = mix.traces.len();
-    let [a, b] = by_turns(rounds, count, [&mut by_library, &mut by_stepper]).map(|times| times.best);
-    let [zero, one] = [Master::Zero, Master::One].map(|master| {
-        [proved.owned(master), proved.connected(master), proved.waited(master)]
-    });
+    let [a, b] =
+        by_turns(rounds, count, [&mut by_library, &mut by_stepper]).map(|times| times.best);
+    let [zero, one] = [Master::Zero, Master::One]
+        .map(|master| [proved.owned(master), proved.connected(master), proved.waited(master)]);
     assert_eq!([zero, one].concat(), plain, "both count the same");
     println!(
         "{:<12} proved {:>7.0} traces a second, {:.1} ns an event; plain {:>7.0}, {:.1}; ratio {:.2}",

@@ -3,7 +3,8 @@
 
 use std::io::Read;
 
-const WAYS: [(&str, &str); 3] = [("library", "#1f6f3f"), ("tuned", "#8a8a8a"), ("plain", "#c9c9c9")];
+const WAYS: [(&str, &str); 3] =
+    [("library", "#1f6f3f"), ("tuned", "#8a8a8a"), ("plain", "#c9c9c9")];
 const LEFT: f64 = 150.0;
 const BAR: f64 = 16.0;
 /// Of one nanosecond.
