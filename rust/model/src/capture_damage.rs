@@ -88,7 +88,7 @@ pub enum Bound {
 /// after the address, and after two data bytes; for each of these first bytes.
 pub fn about_bytes(address: u8) -> Vec<Vec<u8>> {
     let mut all = vec![];
-    for first in [2 * address, 2 * address + 1, 0x00, 0x01, 2 * address ^ 0x10] {
+    for first in [2 * address, 2 * address + 1, 0x00, 0x01, (2 * address) ^ 0x10] {
         for bytes in [0, 1, 3] {
             for clocks in 0..9 {
                 for bound in [Bound::Start, Bound::Stop, Bound::EndHigh, Bound::EndLow] {

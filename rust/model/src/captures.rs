@@ -59,7 +59,7 @@ pub fn capture(rng: &mut Rng, manner: Manner, length: usize) -> Capture {
     let mut meant = [vec![], vec![]];
     let mut drawn: Vec<Vec<u8>> = vec![];
     let mut first: Vec<Talk> = vec![];
-    for bus in 0..2 {
+    for (bus, events) in meant.iter_mut().enumerate() {
         let seed = if manner.twins { timing } else { timing + bus as u64 };
         // A bus that begins low comes from a transfer that the capture did not see.
         let free = manner.twins || rng.percent(85);
@@ -74,7 +74,7 @@ pub fn capture(rng: &mut Rng, manner: Manner, length: usize) -> Capture {
             if !manner.twins {
                 outside(rng, &mut pen);
             }
-            meant[bus].extend(draw(&mut pen, &talk, bus as u8, address));
+            events.extend(draw(&mut pen, &talk, bus as u8, address));
             pen.rest(if manner.twins { 2 } else { rng.pick(&[0, 0, 1, 2, 7, 18, 36]) });
             talks += 1;
             if bus == 0 {
@@ -126,7 +126,7 @@ fn data_byte(rng: &mut Rng) -> u8 {
 
 /// A first byte that is neither 00h nor of this address. 01h is one of them.
 fn other_byte(rng: &mut Rng, address: u8) -> u8 {
-    let near = [1, 2, 3, 2 * address - 1, 2 * address + 2, 2 * address ^ 0x80, rng.byte()];
+    let near = [1, 2, 3, 2 * address - 1, 2 * address + 2, (2 * address) ^ 0x80, rng.byte()];
     loop {
         let byte = if rng.percent(70) { rng.pick(&near) } else { rng.byte() };
         if byte != 0 && byte / 2 != address {

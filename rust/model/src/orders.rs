@@ -39,7 +39,7 @@ pub fn list_orders(script0: &[u8], script1: &[u8], limit: usize, listed: &mut [u
 
 /// The bytes of all orders. "Event bytes not in fours are 5, before 6", "a script above six".
 pub fn bytes_of_orders(script0: &[u8], script1: &[u8]) -> Result<Vec<u8>, u8> {
-    if script0.len() % 4 != 0 || script1.len() % 4 != 0 {
+    if [script0, script1].iter().any(|script| !script.len().is_multiple_of(4)) {
         return Err(5);
     }
     let events = |script: &[u8]| -> Vec<[u8; 4]> { script.chunks(4).map(four).collect() };

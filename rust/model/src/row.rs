@@ -23,7 +23,7 @@ pub fn row_of(shelf: &Shelf) -> Vec<u8> {
 /// records, then 16 where a field of any image is outside its range. An empty buffer is an empty
 /// row.
 pub fn read_row(row: &[u8]) -> Result<Shelf, u8> {
-    if row.len() % RECORD_LENGTH != 0 {
+    if !row.len().is_multiple_of(RECORD_LENGTH) {
         return Err(OTHER_LENGTH);
     }
     let mut shelf = Shelf::default();
@@ -59,7 +59,7 @@ pub fn shelf_show(place: u8, row: &[u8]) -> [u8; 4] {
 /// and 17, then 3 for another kind. What stood in the row is not looked at.
 pub fn shelf_fresh(slots: &[u8], row: &mut [u8]) -> u8 {
     let pairs: Vec<(u8, u8)> = slots.chunks_exact(2).map(|slot| (slot[0], slot[1])).collect();
-    if slots.len() % 2 != 0 || row.len() != RECORD_LENGTH * pairs.len() {
+    if !slots.len().is_multiple_of(2) || row.len() != RECORD_LENGTH * pairs.len() {
         return OTHER_LENGTH;
     }
     if pairs.is_empty() {

@@ -282,8 +282,9 @@ impl Happenings {
     /// Looks at a fresh row made in a buffer.
     pub fn see_shelf_fresh(&mut self, slots: &[u8], row: &[u8]) {
         let (count, records) = (slots.len() / 2, row.len() / RECORD_LENGTH);
-        let whole = slots.len() % 2 == 0 && row.len() % RECORD_LENGTH == 0;
-        self.note(slots.len() % 2 != 0, "slots not in pairs");
+        let paired = slots.len().is_multiple_of(2);
+        let whole = paired && row.len().is_multiple_of(RECORD_LENGTH);
+        self.note(!paired, "slots not in pairs");
         self.note(whole && records == count + 1, "row of one record too many for its slots");
         self.note(whole && records + 1 == count, "row of one record too few for its slots");
         self.note(count == 0 && row.len() == RECORD_LENGTH, "no slots and a row for one");

@@ -100,7 +100,7 @@ fn running_clock(rng: &mut Rng, left: usize) -> Phrase {
     let most = (left - 20).min(SDA_HUNG_TICKS as usize + 60);
     let mut phrase = vec![lines(1, 0, 1)];
     let mut scl = 1;
-    while phrase.len() + every + 1 <= most {
+    while phrase.len() + every < most {
         phrase.extend(vec![tick(); every]);
         scl = 1 - scl;
         phrase.push(lines(scl, 0, 1));

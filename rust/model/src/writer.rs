@@ -37,7 +37,7 @@ fn written(pins: [u8; 4], kind: u8, events: &[u8]) -> Result<Vec<u8>, u8> {
     if address_of(pins).is_none() {
         return Err(8);
     }
-    if events.len() % 4 != 0 {
+    if !events.len().is_multiple_of(4) {
         return Err(5);
     }
     let n = events.len() / 4;

@@ -3,6 +3,8 @@
 
 mod bench;
 
+use std::slice::from_ref;
+
 use bench::*;
 use model::happenings::Happenings;
 use model::report::{input_of, pieces, totals_of_input, Piece};
@@ -102,7 +104,7 @@ fn owned_by_each_and_none_are_all_ticks() {
     let mut all = Totals::default();
     for seed in 0..300 {
         let bytes = trace(seed, 1000);
-        let own = totals(&[bytes.clone()]);
+        let own = totals(from_ref(&bytes));
         assert_eq!(own.owned[0] + own.owned[1] + own.unowned, own.ticks);
         let events = read_trace(&bytes).unwrap().events;
         let ticks = events.iter().filter(|event| **event == tick()).count();
@@ -271,7 +273,7 @@ fn the_text_of_the_report() {
 fn the_report_past_the_most_traces() {
     let one = good(&[put(0, 1, 0x05), ticks_of(2)]);
     let mut input = input_of(&vec![vec![]; 65_534]);
-    input.extend(input_of(&[one.clone()]));
+    input.extend(input_of(from_ref(&one)));
     assert_eq!(share_report(&input), "0 2 2 0\n1 0 0 0\n");
     // A trace that is itself refused with 6 is counted like any other.
     let big = input_of(&[vec![4, 0, 0, 0, 0, 0xFF, 0xFF]]);

@@ -4,6 +4,7 @@
 use std::fs;
 use std::io::{self, Read};
 use std::path::PathBuf;
+use std::slice::from_ref;
 
 use gunwaleish::{Master, Totals};
 use gunwaleish_tool::share::find::find;
@@ -84,7 +85,7 @@ fn folders_have_the_models_totals() {
             numbers_of.insert(path, expected.add(&trace));
             folder.write(&format!("{inside}{place}.txt"), &trace);
         }
-        let found = find(&[folder.0.clone()]);
+        let found = find(from_ref(&folder.0));
         assert_eq!((found.files.len(), found.unread.len()), (numbers_of.len(), 0));
         assert!(found.files.is_sorted());
         let numbered = found.files.iter().map(|path| numbers_of[path]).enumerate();
@@ -107,7 +108,7 @@ fn what_is_found_and_what_is_skipped() {
     let folder = Folder::new("share-found");
     let found = |names: &[PathBuf]| find(names);
     let shown = folder.0.display();
-    assert_eq!(found(&[folder.0.clone()]).said, [format!("{shown}: 0 traces")]);
+    assert_eq!(found(from_ref(&folder.0)).said, [format!("{shown}: 0 traces")]);
     let names = ["b.trace", "a.trace", "deep/c.trace", "notes.txt", ".trace", "trace"];
     let paths = names.map(|name| folder.write(name, &[]));
     let all = found(&[paths[3].clone(), folder.0.clone(), paths[0].clone()]);
@@ -123,7 +124,7 @@ fn what_is_found_and_what_is_skipped() {
         link("", "deep/circle");
         link("a.trace", "deep/again.trace");
         link("nowhere", "deep/lost.trace");
-        let all = found(&[folder.0.clone()]);
+        let all = found(from_ref(&folder.0));
         assert_eq!(all.files.len(), 5);
         let (counted, unread) = of_files(&all.files, 2, &quiet()).unwrap();
         assert_eq!((counted.totals.traces(), unread.len()), (4, 1));

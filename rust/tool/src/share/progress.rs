@@ -21,7 +21,7 @@ impl Progress {
     /// One trace more is done.
     pub fn one_more(&self) {
         let done = self.done.fetch_add(1, Ordering::Relaxed) + 1;
-        if self.shown && done % EACH == 0 {
+        if self.shown && done.is_multiple_of(EACH) {
             self.say(done);
         }
     }
