@@ -8,9 +8,10 @@ use crate::Master;
 #[derive(Clone, Copy, Debug, PartialEq, Eq, Hash)]
 #[non_exhaustive]
 pub enum Outcome {
-    /// 0.
+    /// 0: the event had its effect, and every byte sent in it was acknowledged.
     Done,
-    /// 1: the event had its effect, and its byte was not acknowledged.
+    /// 1: a byte sent in it was not acknowledged. The event is not refused: what it does all the same
+    /// was done.
     NotAcknowledged,
     /// 2: the first byte is no kind.
     UnknownKind,
@@ -23,6 +24,7 @@ pub enum Outcome {
 }
 
 impl Outcome {
+    /// The outcome of this number. One that document 01 does not have here is kept in `Unknown`.
     pub fn of(number: u8) -> Outcome {
         match number {
             0 => Outcome::Done,
@@ -77,6 +79,7 @@ pub enum Ground {
 }
 
 impl Ground {
+    /// The three grounds, in the order of their numbers.
     pub const ALL: [Ground; 3] = [Ground::Sole, Ground::Priority, Ground::LastGranted];
 
     /// Document 02's number.
@@ -109,6 +112,7 @@ impl fmt::Display for Ground {
 #[derive(Clone, Copy, Debug, PartialEq, Eq, Hash)]
 #[non_exhaustive]
 pub struct Answer {
+    /// What became of the event: done, not acknowledged, or refused and on what ground.
     pub outcome: Outcome,
     /// The byte that a READ handed out, else 00.
     pub byte_read: u8,
@@ -135,9 +139,14 @@ pub struct Answer {
 #[derive(Clone, Copy, Debug, PartialEq, Eq, Hash)]
 #[non_exhaustive]
 pub struct Bus {
+    /// The granted master.
     pub owner: Option<Master>,
+    /// The master whose switch is closed. Only the owner's ever is.
     pub connected: Option<Master>,
+    /// An initialisation of the bus is running, and the switch is open meanwhile.
     pub initialising: bool,
+    /// The ground of the present claim; `None` if nobody claims or owns the bus. A ground without an
+    /// owner is a claim that is not granted yet.
     pub ground: Option<Ground>,
 }
 

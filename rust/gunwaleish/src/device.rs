@@ -141,7 +141,7 @@ impl Device {
     }
 
     /// Takes so many ticks at once, as many TICK events would leave it, and gives how many of them
-    /// changed anything but counts: at most six, from any state that a run reaches. Refused with 3,
+    /// changed anything but counts: at most three, from any state that a run reaches. Refused with 3,
     /// `TooManyTicks`, past 65,535, and nothing changes.
     pub fn advance(&mut self, ticks: u32) -> Result<u32, Refusal> {
         let packed = boundary::image_advance(ticks, &mut self.image);

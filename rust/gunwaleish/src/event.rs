@@ -5,11 +5,14 @@ use std::fmt;
 /// One of the two masters, which are the shelf's two controllers.
 #[derive(Clone, Copy, Debug, PartialEq, Eq, Hash, PartialOrd, Ord)]
 pub enum Master {
+    /// 0: the controller at upstream port 0, whose interrupt output is INT0.
     Zero,
+    /// 1: the controller at upstream port 1, whose interrupt output is INT1.
     One,
 }
 
 impl Master {
+    /// Master 0, then master 1.
     pub const BOTH: [Master; 2] = [Master::Zero, Master::One];
 
     /// 0 or 1.
@@ -17,6 +20,7 @@ impl Master {
         self as u8
     }
 
+    /// The other master, with whom this one shares the bus and exchanges mail.
     pub fn partner(self) -> Master {
         match self {
             Master::Zero => Master::One,
@@ -47,26 +51,64 @@ impl fmt::Display for Master {
 /// writes them as they are.
 #[derive(Clone, Copy, Debug, PartialEq, Eq, Hash)]
 pub enum Event {
-    /// 0: opens the master's port for writing. Bit 7 is auto-increment, bits 2 to 0 the pointer.
-    Command { master: Master, code: u8 },
-    /// 1: writes a byte at the pointer.
-    Write { master: Master, value: u8 },
-    /// 2: reads the byte at the pointer.
-    Read { master: Master },
-    /// 3: ends the transfer, and the port goes to rest.
-    Stop { master: Master },
-    /// 4: both masters write at one instant.
-    Pair { value0: u8, value1: u8 },
-    /// 5: the outside levels; true is high.
-    Lines { scl: bool, sda: bool, int_in: bool },
-    /// 6: one millisecond.
+    /// 0, COMMAND: opens the master's port for writing and sets its pointer.
+    Command {
+        /// Whose port is opened.
+        master: Master,
+        /// Bit 7 is auto-increment, bits 2 to 0 are the pointer. With one of bits 6 to 3 set it is not
+        /// acknowledged: both stay as they were, and the port is open but not for writing.
+        code: u8,
+    },
+    /// 1, WRITE: writes a byte at the pointer. The port must be open for writing.
+    Write {
+        /// Who writes.
+        master: Master,
+        /// The byte for the register at the pointer.
+        value: u8,
+    },
+    /// 2, READ: reads the byte at the pointer. The port is then open, but not for writing.
+    Read {
+        /// Who reads. The byte stands in the answer.
+        master: Master,
+    },
+    /// 3, STOP: ends the transfer, and the port goes to rest. The port must be open.
+    Stop {
+        /// Whose port goes to rest. Before that no claim of its own is granted.
+        master: Master,
+    },
+    /// 4, PAIR: both masters write at one instant. Both ports must be open for writing.
+    Pair {
+        /// The byte that master 0 writes at its pointer.
+        value0: u8,
+        /// The byte that master 1 writes at its pointer.
+        value1: u8,
+    },
+    /// 5, LINES: the outside levels, what the connected master does included; true is high.
+    Lines {
+        /// The outside level of the downstream bus's SCL.
+        scl: bool,
+        /// The outside level of the downstream bus's SDA.
+        sda: bool,
+        /// The level of INT_IN. Its fall sets bit 0 of INT_STATUS for both masters.
+        int_in: bool,
+    },
+    /// 6, TICK: one millisecond.
     Tick,
-    /// 7: the level of SDA at one initialisation clock.
-    Pulse { sda: bool },
-    /// 8: the reset pin.
+    /// 7, PULSE: the result of one initialisation clock. An initialisation must be running.
+    Pulse {
+        /// The level of SDA at that clock. A high one ends the initialisation, and the switch closes; at
+        /// the ninth low one the initialisation fails.
+        sda: bool,
+    },
+    /// 8, RESET: the reset pin.
     Reset,
-    /// 9: a general call; 06h is the soft reset.
-    GeneralCall { master: Master, code: u8 },
+    /// 9, GENERAL CALL: a byte that a master sends to all devices at once.
+    GeneralCall {
+        /// The sender. If it had SMBUS_SWRST set, SCL is held low for 35 ticks after a soft reset.
+        master: Master,
+        /// 06h is the soft reset. Any other byte is not acknowledged and has no effect.
+        code: u8,
+    },
     /// Any four bytes. `Event::from` gives this one only for bytes that no kind above has.
     Raw([u8; 4]),
 }

@@ -46,6 +46,8 @@
 //! The calls whose names end in `_into`, and `run_trace`, work on bytes in lent buffers and
 //! allocate nothing.
 
+#![warn(missing_docs)]
+
 mod answer;
 pub mod boundary;
 mod capture;

@@ -16,6 +16,7 @@ pub enum Part {
 }
 
 impl Part {
+    /// The PCA9641, then its second source.
     pub const BOTH: [Part; 2] = [Part::Pca9641, Part::Tpt29641];
 
     /// The number that a trace has for it.

@@ -9,9 +9,14 @@ use crate::{address_of, pins_of, Refusal};
 /// Any codes can stand here. Whether a strapping has an address, the library says.
 #[derive(Clone, Copy, Debug, Default, PartialEq, Eq, Hash)]
 pub struct Pins {
+    /// The code of AD3, which has to be a tie, 0 or 1. With the class of the other three, tie or
+    /// resistor each, it gives the first address of eight.
     pub ad3: u8,
+    /// The code of AD2, which gives bit 2 of the address.
     pub ad2: u8,
+    /// The code of AD1, which gives bit 1 of the address.
     pub ad1: u8,
+    /// The code of AD0, which gives bit 0 of the address.
     pub ad0: u8,
 }
 

@@ -34,10 +34,13 @@ pub fn run_trace(trace: &[u8], answers: &mut [u8]) -> Result<Report, Refusal> {
 pub struct Run {
     /// The seven-bit address of the strapping.
     pub address: u8,
+    /// The strapping, as the trace has it.
     pub pins: Pins,
     /// The part that the events were run on.
     pub part: Part,
+    /// The trace's events in their order, also those that the device refused.
     pub events: Vec<Event>,
+    /// The answer to each event, in the same order.
     pub answers: Vec<Answer>,
 }
 

@@ -60,7 +60,9 @@ impl fmt::Display for Section {
 /// The two sheets of a pair. A box that is ticked on both is the board sheet's.
 #[derive(Clone, Copy, Debug, PartialEq, Eq, Hash)]
 pub enum Sheet {
+    /// The board sheet, which is looked at first.
     Board,
+    /// The house sheet, whose box counts where the board sheet's is not ticked.
     House,
 }
 
@@ -80,6 +82,7 @@ pub struct Found {
     pub sheet: Sheet,
     /// The byte of that sheet at which the box starts: its tick. The value is the byte after it.
     pub offset: usize,
+    /// What the box orders. A reserve of 0 was ticked too, and is one without limit.
     pub value: u8,
 }
 
