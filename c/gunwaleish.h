@@ -222,7 +222,7 @@ uint32_t gunwaleish_image_fresh(uint8_t kind, uint8_t *image, size_t image_len);
 uint32_t gunwaleish_image_step(uint8_t kind, uint8_t x, uint8_t y, uint8_t z, uint8_t *image, size_t image_len);
 
 /* Takes so many ticks at once: the image is as after as many TICK events. Packed: number + 256 * how many of the ticks changed anything but counts,
- * which are reserve, hold, idle and both low counts; from any state that a run reaches these are at most six. Number 0, 9, 16, or 3 past 65,535
+ * which are reserve, hold, idle and both low counts; from any state that a run reaches these are at most three. Number 0, 9, 16, or 3 past 65,535
  * ticks, with 0 above it and the image as it was. No ticks change nothing. */
 uint32_t gunwaleish_image_advance(uint32_t ticks, uint8_t *image, size_t image_len);
 
