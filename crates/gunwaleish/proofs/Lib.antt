@@ -1,2 +1,1 @@
-pub mod Few
 pub mod Unique
