@@ -1,4 +1,5 @@
 pub mod Counts
 pub mod Tick
 pub mod Ticks
+pub mod Answers
 pub mod Unique

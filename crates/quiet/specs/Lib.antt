@@ -1,2 +1,3 @@
 pub mod Counts
 pub mod Quiet
+pub mod Answers
