@@ -2,4 +2,5 @@ pub mod Settles
 pub mod Faces
 pub mod Light
 pub mod Short
+pub mod Answers
 pub mod Unique

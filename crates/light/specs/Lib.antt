@@ -1,2 +1,3 @@
 pub mod Light
 pub mod Short
+pub mod Answers

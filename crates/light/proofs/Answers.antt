@@ -1,0 +1,16 @@
+-- The answers, all of them: the one term that fills the record.
+-- Assumes nothing.
+use Rattle.light.specs.Answers.{Answers}
+use Rattle.light.proofs.Settles.{settled-at-power-up, stays-settled}
+use Rattle.light.proofs.Light.{light-alone}
+use Rattle.light.proofs.Short.{short-is-step, answer-shows}
+
+pub answers : Answers
+answers =
+    record {
+      settledAtPowerUp = settled-at-power-up;
+      staysSettled = stays-settled;
+      lightAlone = light-alone;
+      shortIsStep = short-is-step;
+      answerShows = answer-shows;
+    }
