@@ -3,3 +3,4 @@ pub mod Fits
 pub mod Back
 pub mod Steps
 pub mod Reached
+pub mod Answers
