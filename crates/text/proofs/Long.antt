@@ -12,7 +12,7 @@ use lib.Seq.{getD-take, length-take-le}
 use borrow.Author.Tests.{ltb-false, le-ltb, lt-ltb}
 use Rattle.arbiter.specs.Words.{if_then_else_}
 use Rattle.arbiter.specs.Straps.{addressOf}
-use Rattle.arbiter.specs.Traces.{pinCount, pinBytes, headBytes, mostEvents, eventsEnd, kindCount, wholeBytes, mostBytes, answerRoom, byteAt, pinsIn, countIn, isKind, kindAt, readKind, readCounted, readStrapped, readTrace}
+use Rattle.arbiter.specs.Traces.{pinCount, pinBytes, headBytes, mostEvents, eventsEnd, kindCount, wholeBytes, answerRoom, byteAt, pinsIn, countIn, isKind, kindAt, readKind, readCounted, readStrapped, readTrace}
 use Rattle.arbiter.specs.Listing.{listingOf, listing}
 use Rattle.arbiter.specs.declared.Pins.{Pins}
 use Rattle.arbiter.specs.declared.Refusal.{Refusal}
@@ -21,10 +21,7 @@ use Rattle.arbiter.specs.declared.Strapped.{Strapped}
 use Rattle.arbiter.specs.declared.Strapped.the-variants.{Address, Unlisted}
 use Rattle.arbiter.specs.declared.TraceRead.{TraceRead}
 use Rattle.arbiter.specs.declared.TraceRead.the-variants.{Refused}
-
--- what a program reads at most
-abbrev pub enough : ℕ
-enough = mostBytes + 1
+use Rattle.text.specs.Long.{enough, LongListing}
 
 -- why it is refused: its first byte is not 4, its pins are unlisted, its count of events is above 4,096, or what stands after its events
 abbrev whyLong : Bool → Strapped → Bool → Refusal → Refusal
@@ -89,7 +86,7 @@ same-why false Unlisted many x y h = refl
 same-why false (Address a) true x y h = refl
 same-why false (Address a) false x y h = h refl
 
-pub long-listing : (t : List ℕ) → enough ≤ length t → listing (take enough t) ≡ listing t
+pub long-listing : LongListing
 unfolding listing listingOf
 long-listing t long =
     let k : List ℕ = take enough t in

@@ -1,1 +1,3 @@
 pub mod Written
+pub mod Long
+pub mod Answers
