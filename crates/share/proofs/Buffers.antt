@@ -14,9 +14,9 @@ use Rattle.arbiter.proofs.Choice.{if-true, if-false}
 use Rattle.share.specs.declared.Totals.{Totals}
 use Rattle.share.specs.declared.Added.{Added}
 use Rattle.share.specs.Share.{added, joined}
-use Rattle.share.specs.Lent.{totalCount, totalsIn, totalsList, lentNumber, lentAfter, bothTotals, joinNumber, joinAfter}
+use Rattle.share.specs.Lent.{totalCount, totalsIn, totalsList, lentNumber, lentAfter, bothTotals, joinNumber, joinAfter, ReadStored}
 
-pub read-stored : (x : Totals) → totalsIn (totalsList x) ≡ x
+pub read-stored : ReadStored
 unfolding totalsIn totalsList
 read-stored x = refl
 

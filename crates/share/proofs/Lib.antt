@@ -10,4 +10,5 @@ pub mod Order
 pub mod Joined
 pub mod Examples
 pub mod Buffers
+pub mod Answers
 pub mod Unique

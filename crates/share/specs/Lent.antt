@@ -1,6 +1,7 @@
 -- The totals in a lent buffer of 17 numbers, in the order of the record: what adding a trace to them, and joining other totals to them, answers and leaves.
 -- Assumes nothing.
 use Prim.Native.Nat.{ℕ}
+use mathlib.Core.Path.{_≡_}
 use mathlib.Core.Bool.{Bool, _&&_}
 use mathlib.Core.List.{List, [], _∷_}
 use lib.Dec.{eqb}
@@ -57,6 +58,10 @@ totalsList x =
     ∷ x .refused8
     ∷ x .refused10
     ∷ []
+
+-- Totals stored so and read back are the same.
+abbrev pub ReadStored : Type 0
+ReadStored = (x : Totals) → totalsIn (totalsList x) ≡ x
 
 -- a buffer of another length is refused with 9 and stays; else the number is that of the trace added, and the buffer has the totals after it
 unfoldable pub lentNumber : List ℕ → List ℕ → ℕ
