@@ -1,3 +1,4 @@
 pub mod Copied
 pub mod OnImages
+pub mod Answers
 pub mod Unique

@@ -1,2 +1,3 @@
 pub mod Advancing
 pub mod Laws
+pub mod Answers
