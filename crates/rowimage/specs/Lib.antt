@@ -3,3 +3,4 @@ pub mod Calls
 pub mod Slots
 pub mod Laws
 pub mod Walk
+pub mod Answers
