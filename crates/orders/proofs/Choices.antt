@@ -11,7 +11,7 @@ use Rattle.arbiter.specs.Words.{if_then_else_, worth, partner, sameMaster}
 use Rattle.arbiter.specs.declared.Master.{Master}
 use Rattle.arbiter.specs.declared.Master.the-variants.{Zero, One}
 use Rattle.orders.specs.Orders.{orders, numberOfOrders}
-use Rattle.orders.specs.Choices.{at, Keeps, follow, choices, samePlaces, occurs, earlier, inSequence, theirChoices, AllOrders}
+use Rattle.orders.specs.Choices.{at, Keeps, follow, choices, samePlaces, occurs, earlier, inSequence, theirChoices, OrdersOfAnyTwo}
 use Rattle.orders.proofs.Numbers.{length-orders}
 
 -- ---- each order is that of a choice
@@ -176,8 +176,8 @@ in-sequence (suc m) (suc n) = sequence-append (choices m (suc n)) (choices (suc 
 
 -- ---- all of it
 
-pub all-orders : {A : Type 0} (xs ys : List A) → AllOrders xs ys
-all-orders xs ys =
+pub orders-of-any-two : OrdersOfAnyTwo
+orders-of-any-two A xs ys =
     record {
       byChoice = by-choice xs ys;
       eachKeeps = λ p h. fits-keeps p xs ys (there-fits (fits p (length xs) (length ys)) _ (occurs-choices p (length xs) (length ys)) h);

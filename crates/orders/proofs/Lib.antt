@@ -4,4 +4,5 @@ pub mod Bytes
 pub mod Single
 pub mod Pouring
 pub mod Calls
+pub mod Answers
 pub mod Unique

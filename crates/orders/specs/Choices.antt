@@ -81,3 +81,7 @@ module _ {A : Type 0} (script0 script1 : List A) where
         → (order ≡ follow places script0 script1) × (occurs places theirChoices ≡ 1)
     pub sequence : inSequence theirChoices ≡ true
     pub number : length (orders script0 script1) ≡ numberOfOrders (length script0) (length script1)
+
+-- So it is of any two scripts, whatever their events are.
+abbrev pub OrdersOfAnyTwo : Type 1
+OrdersOfAnyTwo = (A : Type 0) (script0 script1 : List A) → AllOrders script0 script1

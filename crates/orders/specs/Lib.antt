@@ -2,3 +2,4 @@ pub mod Orders
 pub mod Choices
 pub mod Call
 pub mod Walk
+pub mod Answers
