@@ -1,7 +1,7 @@
 -- What is proved of every capture: the one term that fills the record.
 -- Assumes nothing.
 use Rattle.capture.specs.Answers.{Answers}
-use Rattle.capture.proofs.Bytes.{reads-back}
+use Rattle.capture.proofs.Bytes.{events-read-back}
 use Rattle.capture.proofs.Joined.{events-joined, cut-joined}
 use Rattle.capture.proofs.Bound.{nine-samples, most-captured, captured-in-range}
 use Rattle.capture.proofs.Laws.{own-lines, upper-bits-ignored, repeated-sample}
@@ -20,6 +20,6 @@ answers =
       repeatedSample = repeated-sample;
       eventsJoined = events-joined;
       cutJoined = cut-joined;
-      eventsReadBack = reads-back;
+      eventsReadBack = events-read-back;
       examplesHold = examples-hold;
     }

@@ -13,31 +13,31 @@ use Rattle.capture.specs.Events.{rawOf, fourBytes, eventBytes}
 use Rattle.capture.specs.Answers.{EventsReadBack}
 
 -- what an import writes is what 01 reads
-pub reads-back : EventsReadBack
+pub events-read-back : EventsReadBack
 unfolding decode rawOf
-reads-back (Command Zero c) = refl
-reads-back (Command One c) = refl
-reads-back (Write Zero v) = refl
-reads-back (Write One v) = refl
-reads-back (Read Zero) = refl
-reads-back (Read One) = refl
-reads-back (Stop Zero) = refl
-reads-back (Stop One) = refl
-reads-back (Pair v0 v1) = refl
-reads-back (Lines true true true) = refl
-reads-back (Lines true true false) = refl
-reads-back (Lines true false true) = refl
-reads-back (Lines true false false) = refl
-reads-back (Lines false true true) = refl
-reads-back (Lines false true false) = refl
-reads-back (Lines false false true) = refl
-reads-back (Lines false false false) = refl
-reads-back Tick = refl
-reads-back (Pulse true) = refl
-reads-back (Pulse false) = refl
-reads-back Reset = refl
-reads-back (GeneralCall Zero b) = refl
-reads-back (GeneralCall One b) = refl
+events-read-back (Command Zero c) = refl
+events-read-back (Command One c) = refl
+events-read-back (Write Zero v) = refl
+events-read-back (Write One v) = refl
+events-read-back (Read Zero) = refl
+events-read-back (Read One) = refl
+events-read-back (Stop Zero) = refl
+events-read-back (Stop One) = refl
+events-read-back (Pair v0 v1) = refl
+events-read-back (Lines true true true) = refl
+events-read-back (Lines true true false) = refl
+events-read-back (Lines true false true) = refl
+events-read-back (Lines true false false) = refl
+events-read-back (Lines false true true) = refl
+events-read-back (Lines false true false) = refl
+events-read-back (Lines false false true) = refl
+events-read-back (Lines false false false) = refl
+events-read-back Tick = refl
+events-read-back (Pulse true) = refl
+events-read-back (Pulse false) = refl
+events-read-back Reset = refl
+events-read-back (GeneralCall Zero b) = refl
+events-read-back (GeneralCall One b) = refl
 
 pub all-read-back : (es : List Event) → rawsIn (length es) (eventBytes es) ≡ map rawOf es
 unfolding rawsIn eventBytes
