@@ -19,15 +19,15 @@ use Rattle.traces.proofs.Reading.{Fits, accepted-fits, accepted-first}
 
 -- ---- events as bytes and back
 
-pub as-given : WritesAsGiven
+pub writes-as-given : WritesAsGiven
 unfolding rawsIn
-as-given [] zero h = refl
-as-given (a ∷ l) zero h = absurd (omega arith)
-as-given [] (suc n) h = absurd (omega arith)
-as-given (a ∷ []) (suc n) h = absurd (omega arith)
-as-given (a ∷ b ∷ []) (suc n) h = absurd (omega arith)
-as-given (a ∷ b ∷ c ∷ []) (suc n) h = absurd (omega arith)
-as-given (a ∷ b ∷ c ∷ d ∷ l) (suc n) h = ap (λ (r : List ℕ). a ∷ b ∷ c ∷ d ∷ r) (as-given l n (omega arith))
+writes-as-given [] zero h = refl
+writes-as-given (a ∷ l) zero h = absurd (omega arith)
+writes-as-given [] (suc n) h = absurd (omega arith)
+writes-as-given (a ∷ []) (suc n) h = absurd (omega arith)
+writes-as-given (a ∷ b ∷ []) (suc n) h = absurd (omega arith)
+writes-as-given (a ∷ b ∷ c ∷ []) (suc n) h = absurd (omega arith)
+writes-as-given (a ∷ b ∷ c ∷ d ∷ l) (suc n) h = ap (λ (r : List ℕ). a ∷ b ∷ c ∷ d ∷ r) (writes-as-given l n (omega arith))
 
 pub raws-length : (n : ℕ) (l : List ℕ) → length (rawsIn n l) ≡ n
 unfolding rawsIn
@@ -156,7 +156,7 @@ module _ (t : List ℕ) (address n room : ℕ) (k : Kind) (bytes : Bytes t) (acc
       let size : length part ≡ eventBytes * n = length-take-le (eventBytes * n) rest long-rest in
       ap (λ (l : List ℕ). rawsBytes (rawsIn n l)) (sym (take-append-drop (eventBytes * n) rest))
       ∙ ap rawsBytes (raws-before n part (drop (eventBytes * n) rest) (omega (arith, size)))
-      ∙ as-given part n size
+      ∙ writes-as-given part n size
 
   rest-is : rawsBytes (eventsIn n t) ++ kindSection k ≡ rest
   rest-is =
@@ -172,4 +172,4 @@ writes-back t address n room k bytes accepted =
     ∙ head-is t address n room k bytes accepted
 
 pub undo-each-other : UndoEachOther
-undo-each-other = record { readsBack = reads-back; writesAsGiven = as-given; writesBack = writes-back }
+undo-each-other = record { readsBack = reads-back; writesAsGiven = writes-as-given; writesBack = writes-back }

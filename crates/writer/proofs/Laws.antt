@@ -16,7 +16,7 @@ use Rattle.arbiter.specs.declared.Pins.{Pins}
 use Rattle.arbiter.specs.declared.Written.{Written}
 use Rattle.arbiter.proofs.Choice.{passed}
 use Rattle.format.specs.Places.{withHead, withBytes, withKind}
-use Rattle.writer.proofs.Back.{as-given, raws-length}
+use Rattle.writer.proofs.Back.{writes-as-given, raws-length}
 
 -- ---- a number of 0 has passed every test
 
@@ -68,7 +68,7 @@ module _ (p : Pins) (kind : ℕ) (events out : List ℕ) (accepted : writtenNumb
   bytes-are =
       simp (eq-eqb _ _ accepted)
       (ap (λ (k : ℕ). traceHead p k ++ rawsBytes (rawsIn n events) ++ section) (raws-length n events)
-      ∙ ap (λ (l : List ℕ). head ++ l ++ section) (as-given events n (fits .0)))
+      ∙ ap (λ (l : List ℕ). head ++ l ++ section) (writes-as-given events n (fits .0)))
 
   -- the head and the events end where the kind starts
   end-at : length (head ++ events) ≡ eventsEnd n
