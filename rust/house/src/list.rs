@@ -64,7 +64,7 @@ pub fn read_list(text: &str) -> List {
 }
 
 /// What stands between backquotes.
-fn quoted(cell: &str) -> Vec<String> {
+pub fn quoted(cell: &str) -> Vec<String> {
     cell.split('`').skip(1).step_by(2).map(str::to_string).collect()
 }
 
