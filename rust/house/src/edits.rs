@@ -9,12 +9,17 @@ fn path_in(folder: &str, name: &str) -> String {
     format!("crates/{krate}/{folder}/{edit}.edit")
 }
 
-/// The edits that stand in tried/, as `crate/name`.
-pub fn tried(tree: &Tree) -> Vec<String> {
+/// The folder of the edits that the gate tries, and of those that it leaves out.
+pub const GATE: &str = "must-fail";
+pub const TRIED: &str = "tried";
+
+/// The edits that stand in a folder of their crate, as `crate/name`.
+pub fn edits_in(tree: &Tree, folder: &str) -> Vec<String> {
+    let between = format!("/{folder}/");
     let name = |path: &str| {
         path.strip_prefix("crates/")?
             .strip_suffix(".edit")?
-            .split_once("/tried/")
+            .split_once(&between)
             .map(|(a, b)| format!("{a}/{b}"))
     };
     tree.paths("crates/", ".edit").filter_map(name).collect()
@@ -22,7 +27,7 @@ pub fn tried(tree: &Tree) -> Vec<String> {
 
 /// What is wrong with an edit that the list names.
 pub fn fault_of(tree: &Tree, name: &str) -> Option<String> {
-    let (gate, tried) = (path_in("must-fail", name), path_in("tried", name));
+    let (gate, tried) = (path_in(GATE, name), path_in(TRIED, name));
     let (path, text) = match (tree.text(&gate), tree.text(&tried)) {
         (None, None) => {
             return Some(format!(

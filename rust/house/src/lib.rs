@@ -17,8 +17,8 @@ pub use statements::{statement_faults, STATEMENTS};
 pub use tree::Tree;
 
 use calls::{calls_of, Call};
-use edits::{fault_of, tried};
-use list::{read_list, Row};
+use edits::{edits_in, fault_of, GATE, TRIED};
+use list::{read_list, List, Row};
 
 /// Where the list stands.
 pub const LIST: &str = "docs/PROMISES.md";
@@ -56,15 +56,31 @@ pub fn faults(tree: &Tree) -> Vec<String> {
     for name in &list.edits {
         found.extend(fault_of(tree, name));
     }
-    let tried = tried(tree);
-    for name in &list.gate_edits {
-        if tried.contains(name) {
+    found.extend(place_faults(tree, &list));
+    found
+}
+
+/// The edits that stand in another folder than the list says, or that it does not name.
+fn place_faults(tree: &Tree, list: &List) -> Vec<String> {
+    let mut found = Vec::new();
+    for name in edits_in(tree, TRIED) {
+        if list.gate_edits.contains(&name) {
             found.push(format!("The gate is to try the edit `{name}`, and it stands in tried/, which the gate leaves out."));
         }
-    }
-    for name in tried {
         if !list.edits.contains(&name) {
             found.push(format!("The edit `{name}` stands in tried/, and {LIST} does not name it."));
+        }
+    }
+    for name in edits_in(tree, GATE) {
+        if list.other_edits.contains(&name) {
+            found.push(format!(
+                "The gate tries the edit `{name}`, and {LIST} names it without a star."
+            ));
+        }
+        if !list.edits.contains(&name) {
+            found.push(format!(
+                "The edit `{name}` stands in must-fail/, and {LIST} does not name it."
+            ));
         }
     }
     found

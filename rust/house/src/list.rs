@@ -18,15 +18,23 @@ pub struct List {
     pub rows: Vec<Row>,
     /// Every edit that is named in a table, once.
     pub edits: Vec<String>,
-    /// Those that the gate is to try.
+    /// Those that the list says the gate tries, at one place or more.
     pub gate_edits: Vec<String>,
+    /// Those that it names without saying so, at one place or more.
+    pub other_edits: Vec<String>,
 }
 
-/// The sections whose edits the gate is to try.
-const FOR_THE_GATE: [&str; 2] = ["The five wrong devices", "Calls that users reach"];
+/// The section whose edits the gate tries, every one. Elsewhere a star before its name says so of an edit.
+const FOR_THE_GATE: &str = "The five wrong devices";
+const STAR: &str = "(*)";
 
 pub fn read_list(text: &str) -> List {
-    let mut list = List { rows: Vec::new(), edits: Vec::new(), gate_edits: Vec::new() };
+    let mut list = List {
+        rows: Vec::new(),
+        edits: Vec::new(),
+        gate_edits: Vec::new(),
+        other_edits: Vec::new(),
+    };
     let mut section = "";
     for line in text.lines() {
         if let Some(title) = line.strip_prefix("## ") {
@@ -36,13 +44,10 @@ pub fn read_list(text: &str) -> List {
             continue;
         };
         let cells: Vec<&str> = inside.split(" | ").collect();
-        for name in cells.iter().flat_map(|cell| edits_in(cell)) {
-            if FOR_THE_GATE.contains(&section) && !list.gate_edits.contains(&name) {
-                list.gate_edits.push(name.clone());
-            }
-            if !list.edits.contains(&name) {
-                list.edits.push(name);
-            }
+        for (name, has_star) in marked_edits_in(inside) {
+            let is_for_the_gate = has_star || section == FOR_THE_GATE;
+            add(&name, if is_for_the_gate { &mut list.gate_edits } else { &mut list.other_edits });
+            add(&name, &mut list.edits);
         }
         let Some(call) = quoted(cells[0]).into_iter().find(|name| name.contains("::")) else {
             continue;
@@ -68,17 +73,41 @@ pub fn quoted(cell: &str) -> Vec<String> {
     cell.split('`').skip(1).step_by(2).map(str::to_string).collect()
 }
 
-/// The names of the form `crate/edit`, each once.
-fn edits_in(cell: &str) -> Vec<String> {
+fn add(name: &str, names: &mut Vec<String>) {
+    if !names.iter().any(|known| known == name) {
+        names.push(name.to_string());
+    }
+}
+
+/// True of a name of the form `crate/edit`.
+fn is_edit(name: &str) -> bool {
     let is_word = |word: &str| {
         !word.is_empty() && word.chars().all(|c| c.is_ascii_alphanumeric() || c == '_')
     };
+    name.split_once('/').is_some_and(|(a, b)| is_word(a) && is_word(b))
+}
+
+/// The names of the form `crate/edit`, each once.
+fn edits_in(cell: &str) -> Vec<String> {
     let mut found = Vec::new();
     for name in quoted(cell) {
-        if name.split_once('/').is_some_and(|(a, b)| is_word(a) && is_word(b))
-            && !found.contains(&name)
-        {
-            found.push(name);
+        if is_edit(&name) {
+            add(&name, &mut found);
+        }
+    }
+    found
+}
+
+/// Each edit that a row names, and whether a star stands between the edit named before it, or the row's start, and its name.
+fn marked_edits_in(row: &str) -> Vec<(String, bool)> {
+    let mut found = Vec::new();
+    let mut has_star = false;
+    for (at, part) in row.split('`').enumerate() {
+        if at % 2 == 0 {
+            has_star = has_star || part.contains(STAR);
+        } else if is_edit(part) {
+            found.push((part.to_string(), has_star));
+            has_star = false;
         }
     }
     found

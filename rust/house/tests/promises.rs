@@ -30,11 +30,12 @@ fn small() -> Tree {
         "file: src/lib.rt\nold:     (on)\nnew:     !(on)\n",
     );
     tree.put(TRIED, "file: src/lib.rt\nold:     (on)\nnew:     (true)\nold: (true)\nnew: true\n");
-    let list = "## Calls that users reach\n\n\
+    let list = "## The five wrong devices\n\n| the wrong way round | `lamp/the_opposite` |\n\n\
+                ## Calls that users reach\n\n\
                 | call | promises | definition | wrong answers |\n|---|---|---|---|\n\
-                | `lamp::glows` | that it glows | `lit`, `lamp/specs/Light.antt` | dark: `lamp/never_lit`; not that: `lamp/the_opposite` |\n\n\
+                | `lamp::glows` | that it glows | `lit`, `lamp/specs/Light.antt` | dark (*): `lamp/never_lit`; not that (*): `lamp/the_opposite` |\n\n\
                 ## Calls between crates\n\n\
-                | `lamp::is_lit` | that it is lit | `lit`, `lamp/specs/Light.antt` | dark: `lamp/never_lit`; light: `lamp/always_lit` |\n\n\
+                | `lamp::is_lit` | that it is lit | `lit`, `lamp/specs/Light.antt` | dark (*): `lamp/never_lit`; light: `lamp/always_lit` |\n\n\
                 ## Exceptions\n\n\
                 | `show::main` | a program |\n| `show::words::say` | no result |\n";
     tree.put(LIST, list);
@@ -142,10 +143,11 @@ fn an_exception_without_grounds_or_with_a_promise() {
 
 #[test]
 fn a_call_with_one_wrong_answer() {
-    let told = fault_after(LIST, "; not that: `lamp/the_opposite`", "");
+    let told = fault_after(LIST, "; not that (*): `lamp/the_opposite`", "");
     let expected = "`lamp::glows` has fewer than 2 wrong answers in docs/PROMISES.md, each an edit named as `crate/edit`: 1.";
     assert_eq!(told, expected);
-    let told = fault_after(LIST, "not that: `lamp/the_opposite`", "dark again: `lamp/never_lit`");
+    let again = "dark again (*): `lamp/never_lit`";
+    let told = fault_after(LIST, "not that (*): `lamp/the_opposite`", again);
     assert_eq!(told, expected);
 }
 
@@ -158,7 +160,7 @@ fn an_edit_that_is_not_there_or_twice() {
     assert_eq!(only_fault(&tree), expected);
     let mut tree = small();
     tree.put("crates/lamp/must-fail/always_lit.edit", "");
-    assert!(only_fault(&tree).starts_with("The edit `lamp/always_lit` stands twice: "));
+    assert!(faults(&tree)[0].starts_with("The edit `lamp/always_lit` stands twice: "));
 }
 
 #[test]
@@ -179,19 +181,30 @@ fn an_edit_that_does_not_fit_its_file() {
 }
 
 #[test]
-fn an_edit_in_tried_that_is_not_listed() {
-    let mut tree = small();
-    tree.put("crates/lamp/tried/dim.edit", "");
-    assert_eq!(
-        only_fault(&tree),
-        "The edit `lamp/dim` stands in tried/, and docs/PROMISES.md does not name it."
-    );
+fn an_edit_that_is_not_listed() {
+    for folder in ["tried", "must-fail"] {
+        let mut tree = small();
+        tree.put(&format!("crates/lamp/{folder}/dim.edit"), "");
+        let expected = format!(
+            "The edit `lamp/dim` stands in {folder}/, and docs/PROMISES.md does not name it."
+        );
+        assert_eq!(only_fault(&tree), expected);
+    }
 }
 
 #[test]
 fn an_edit_that_the_gate_is_to_try_and_does_not() {
-    let told = fault_after(LIST, "not that: `lamp/the_opposite`", "light: `lamp/always_lit`");
-    assert_eq!(told, "The gate is to try the edit `lamp/always_lit`, and it stands in tried/, which the gate leaves out.");
+    let expected = "The gate is to try the edit `lamp/always_lit`, and it stands in tried/, which the gate leaves out.";
+    let told = fault_after(LIST, "light: `lamp/always_lit`", "light (*): `lamp/always_lit`");
+    assert_eq!(told, expected);
+    let told = fault_after(LIST, "round | `lamp/the_opposite`", "round | `lamp/always_lit`");
+    assert_eq!(told, expected);
+}
+
+#[test]
+fn an_edit_that_the_gate_tries_without_a_star() {
+    let told = fault_after(LIST, "not that (*): `", "not that: `");
+    assert_eq!(told, "The gate tries the edit `lamp/the_opposite`, and docs/PROMISES.md names it without a star.");
 }
 
 #[test]
