@@ -67,6 +67,7 @@ fn good_and_damaged(rng: &mut Rng, length: usize, figures: &mut Figures) {
     for kind in ALL_DAMAGES {
         if length > 0 && (length <= 60 || kind == any) {
             let refused = damage(rng, &good, kind);
+            figures.damage("traces", &good, &refused.trace);
             figures.run(&refused.trace, refused.room);
             figures.list(&refused.trace);
         }

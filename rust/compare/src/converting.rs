@@ -39,6 +39,7 @@ pub fn converter_calls(rng: &mut Rng, figures: &mut Figures) {
         // What is wrong with a new trace is often wrong with an old one.
         let any = rng.pick(&ALL_DAMAGES);
         let bad = damage(rng, &new, any).trace;
+        figures.damage("traces", &new, &bad);
         figures.convert(&bad, bad.len() + 2);
         let strange: Vec<u8> = (0..rng.below(30)).map(|_| rng.byte() % 6).collect();
         figures.convert(&strange, 40);

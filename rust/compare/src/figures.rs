@@ -30,6 +30,8 @@ pub struct Figures {
     events: u64,
     listings: u64,
     orders: u64,
+    /// How many inputs of each kind were damaged before they were compared.
+    damaged: BTreeMap<&'static str, u64>,
     /// The most ticks of an advance that changed something, from an image that a run has reached.
     pub(crate) most_changing: u32,
     /// What happened in runs, one for each kind of part.
@@ -153,6 +155,18 @@ impl Figures {
         *self.numbers.entry((call, number)).or_insert(0) += 1;
     }
 
+    /// Counts an input of this kind that was made out of a good one, if the damage left it another.
+    pub(crate) fn damage<Input: PartialEq + ?Sized>(
+        &mut self,
+        kind: &'static str,
+        good: &Input,
+        damaged: &Input,
+    ) {
+        if good != damaged {
+            *self.damaged.entry(kind).or_insert(0) += 1;
+        }
+    }
+
     fn count(&mut self, trace: &[u8], result: &TraceResult) {
         self.answered("run", result.number);
         if let (0, Ok(read)) = (result.number, read_trace(trace)) {
@@ -183,6 +197,9 @@ impl Figures {
     pub fn add(&mut self, other: Figures) {
         for (answer, count) in other.numbers {
             *self.numbers.entry(answer).or_insert(0) += count;
+        }
+        for (kind, count) in other.damaged {
+            *self.damaged.entry(kind).or_insert(0) += count;
         }
         self.events += other.events;
         self.listings += other.listings;
@@ -217,6 +234,14 @@ impl Figures {
         format!("{call} {total} times ({})", by_number.join(", "))
     }
 
+    /// How many inputs were damaged, and how many of each kind.
+    fn damages(&self) -> String {
+        let total: u64 = self.damaged.values().sum();
+        let by_kind: Vec<String> =
+            self.damaged.iter().map(|(kind, count)| format!("{kind}: {count}")).collect();
+        format!("{total} inputs damaged ({})", by_kind.join(", "))
+    }
+
     /// No mismatch.
     pub fn agree(&self) -> bool {
         self.mismatches == 0
@@ -248,13 +273,14 @@ impl fmt::Display for Figures {
         let calls: Vec<String> = CALLS.iter().map(|(call, _)| self.calls(call)).collect();
         writeln!(
             f,
-            "seed {}, by number: {}; {} events run, {} listings, {} orders listed, at most {} changing \
-             ticks in an advance, {kinds} of {} kinds of happening, {} mismatches",
+            "seed {}, by number: {}; {} events run, {} listings, {} orders listed, {}, at most {} \
+             changing ticks in an advance, {kinds} of {} kinds of happening, {} mismatches",
             self.seed,
             calls.join(", "),
             self.events,
             self.listings,
             self.orders,
+            self.damages(),
             self.most_changing,
             occurred.len(),
             self.mismatches

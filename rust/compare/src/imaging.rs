@@ -171,6 +171,7 @@ fn damage_one_byte(rng: &mut Rng, good: Image, figures: &mut Figures) {
     for value in 0..=255 {
         let mut image = good;
         image[at] = value;
+        figures.damage("images", &good, &image);
         figures.damaged(any_event(rng), &image, at);
     }
     figures.image_read(rng.below(2) as u8, rng.below(8) as u8, &good);
@@ -201,6 +202,7 @@ pub fn images_byte_by_byte(figures: &mut Figures) {
             for value in 0..=255u8 {
                 let mut image = good;
                 image[at] = value;
+                figures.damage("images", &good, &image);
                 figures.damaged(tick(), &image, at);
                 let other = (place + at + usize::from(value)) % events.len();
                 figures.damaged(events[other], &image, at);

@@ -79,6 +79,7 @@ fn good_and_damaged(rng: &mut Rng, manner: Manner, length: usize, figures: &mut 
     import_in_rooms(rng, &made.samples, made.address, figures);
     for _ in 0..3 {
         let bad = damaged(rng, &made.samples);
+        figures.damage("captures", &made.samples, &bad);
         import_in_rooms(rng, &bad, made.address, figures);
     }
     // The same lines seen by a device of another address, and by one that cannot be.
@@ -115,5 +116,6 @@ fn long_captures(rng: &mut Rng, figures: &mut Figures) {
     let dense = densest(rng, made.address, length);
     import_in_rooms(rng, &dense, made.address, figures);
     let bad = damaged(rng, &dense);
+    figures.damage("captures", &dense, &bad);
     import_in_rooms(rng, &bad, made.address, figures);
 }

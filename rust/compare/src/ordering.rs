@@ -110,9 +110,11 @@ pub fn sheet_calls(rng: &mut Rng, figures: &mut Figures) {
         let mut pair = good_pair(rng, ticked);
         look_up_some(rng, &pair, figures);
         for sheet in &mut pair {
+            let good = sheet.clone();
             while rng.percent(50) {
                 damage_sheet(rng, sheet);
             }
+            figures.damage("sheets", &good, sheet);
         }
         look_up_some(rng, &pair, figures);
         let [board, house] = complete_pair(rng);
@@ -143,6 +145,7 @@ pub fn sheets_one_by_one(figures: &mut Figures) {
             for value in 0..=255 {
                 let mut bytes = one;
                 bytes[at] = value;
+                figures.damage("sheets", &one, &bytes);
                 look_up_all(&bytes, &other, figures);
                 look_up_all(&other, &bytes, figures);
             }

@@ -124,6 +124,7 @@ pub fn shelf_calls(rng: &mut Rng, figures: &mut Figures) {
         let count = any_count(rng);
         let shelf = any_shelf(rng, count);
         let (row, damaged) = (row_of(&shelf), damaged_row(rng, &shelf));
+        figures.damage("rows", &row, &damaged);
         for _ in 0..3 {
             let (name, event) = any_named(rng, &shelf);
             figures.shelf_step(name, event, &row);

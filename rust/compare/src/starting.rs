@@ -73,8 +73,9 @@ pub fn order_calls(rng: &mut Rng, figures: &mut Figures) {
         let count = limit.min(number);
         figures.orders(&scripts, limit, count + rng.pick(&[0, 0, 1, 40]));
         figures.orders(&scripts, limit, rng.below(count as u64 + 1) as usize);
-        let mut damaged = scripts;
+        let mut damaged = scripts.clone();
         damage_scripts(rng, &mut damaged);
+        figures.damage("scripts", &scripts, &damaged);
         let room = rng.pick(&[0, count, 930]);
         figures.orders(&damaged, rng.pick(&[0, 1, limit]), room);
     }
