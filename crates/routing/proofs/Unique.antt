@@ -8,7 +8,6 @@ use Rattle.routing.proofs.reach_for.Reads as reach-for
 use Rattle.routing.proofs.fault_answer.Reads as fault-answer
 use Rattle.routing.proofs.no_answer.Reads as no-answer
 use Rattle.routing.proofs.plan_of.Reads as plan-of
-use Rattle.routing.proofs.visit.Reads as visit
 
 pub start-once : OneResult start.Post
 start-once κ a x y s t p q = once p q
@@ -30,6 +29,3 @@ no-answer-once κ a x y s t p q = once p q
 
 pub plan-of-once : OneResult plan-of.Post
 plan-of-once κ a x y s t p q = once p q
-
-pub visit-once : OneResult visit.Post
-visit-once κ a x y s t p q = once p q

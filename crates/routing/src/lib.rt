@@ -1,16 +1,15 @@
-// What is decided for a shelf's row, on plain values: what is known of it once it has been looked at, whom an event reaches, and what one
-// record does. The crate `rows` goes through the row.
+// What is decided for a shelf's row, on plain values: what is known of it once it has been looked at, whom an event reaches, and what is to be done
+// then. The crate `showing` has what one record does, and the crate `rows` goes through the row.
 ghost use mathlib.Core.Path.{_≡_};
 ghost use Prim.Native.Nat.{_≤_};
 ghost use Rattle.shelf.specs.Shelf.{naming, faultNumber, faultAnswer};
-ghost use Rattle.routing.specs.Deciding.{startOf, amongFirst, firstAt, seeOf, placeBelow, namedIn, reachFor, reachIn, noAnswer, planWith, planBy, planOf, firstAnswer, visitOf};
+ghost use Rattle.routing.specs.Deciding.{startOf, amongFirst, firstAt, seeOf, placeBelow, namedIn, reachFor, reachIn, noAnswer, planWith, planBy, planOf};
 use arbiter::Answer;
 use arbiter::Raw;
 use shelf::Fault;
 use shelf::Naming;
 use shelf::Reach;
 use shelf::Record;
-use traces::run_one;
 
 // What is known of a row after some records: the name that is looked for and its place, how many records there are (17 for any more than
 // 16), their addresses, and whether two of these are equal.
@@ -237,33 +236,4 @@ pub fn plan_of(s: Seen, r: Raw) -> Plan
     ensures { λ p. ⌜ p ≡ planOf s r ⌝ }
 {
     plan_by(reach_in(s, r.kind), s.count, r)
-}
-
-// ---- what one record does
-
-fn first_answer(told: bool, before: Answer, now: Answer) -> Answer
-    ensures { λ r. ⌜ r ≡ firstAnswer told before now ⌝ }
-{
-    if told { before } else { now }
-}
-
-pub fn visit(c: Record, t: Task) -> Visited
-    ensures { λ v. ⌜ v ≡ visitOf c t ⌝ }
-{
-    let before = c.device;
-    let event = t.event;
-    let s = run_one(before, event);
-    let device = s.device;
-    let answer = first_answer(t.told, t.answer, s.answer);
-    Visited {
-        stepped: Record {
-            address: c.address,
-            device,
-        },
-        task: Task {
-            event,
-            told: true,
-            answer,
-        },
-    }
 }

@@ -17,12 +17,12 @@ use routing::Task;
 use routing::plan_of;
 use routing::see_record;
 use routing::start;
-use routing::visit;
 use shelf::Record;
 use showing::Looked;
 use showing::look;
 use showing::look_start;
 use showing::shown;
+use showing::visit;
 use step::fresh;
 
 // The row looked at, record by record.

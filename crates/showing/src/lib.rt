@@ -1,12 +1,15 @@
-// A shelf's device shown by its place, on plain values: what is known of a row once it has been looked at, and what it shows. The crate `rows`
-// goes through the row.
+// What one record of a shelf does with an event, and a shelf's device shown by its place, on plain values: what is known of a row once it has been
+// looked at, and what it shows. The crate `rows` goes through the row.
 ghost use mathlib.Core.Path.{_≡_};
 ghost use Rattle.arbiter.specs.Steps.{answer};
+ghost use Rattle.routing.specs.Deciding.{firstAnswer, visitOf};
 ghost use Rattle.showing.specs.Showing.{lookStart, shownHere, lookOf, shownWith, shownOf};
 use arbiter::Answer;
 use arbiter::Device;
 use arbiter::Raw;
 use routing::Seen;
+use routing::Task;
+use routing::Visited;
 use routing::fault_answer;
 use routing::no_answer;
 use routing::reach_for;
@@ -16,6 +19,37 @@ use shelf::Naming;
 use shelf::Reach;
 use shelf::Record;
 use traces::run_one;
+
+// ---- what one record does
+
+fn first_answer(told: bool, before: Answer, now: Answer) -> Answer
+    ensures { λ r. ⌜ r ≡ firstAnswer told before now ⌝ }
+{
+    if told { before } else { now }
+}
+
+pub fn visit(c: Record, t: Task) -> Visited
+    ensures { λ v. ⌜ v ≡ visitOf c t ⌝ }
+{
+    let before = c.device;
+    let event = t.event;
+    let s = run_one(before, event);
+    let device = s.device;
+    let answer = first_answer(t.told, t.answer, s.answer);
+    Visited {
+        stepped: Record {
+            address: c.address,
+            device,
+        },
+        task: Task {
+            event,
+            told: true,
+            answer,
+        },
+    }
+}
+
+// ---- what a place shows
 
 // What is known of a row after some records, its name a place, and what the device at that place shows once it has been met.
 pub struct Looked {

@@ -62,10 +62,10 @@ use Rattle.routing.proofs.Plan as P
 use Rattle.routing.proofs.Plan.Laws as P′
 use Rattle.routing.proofs.Visited as Vis
 use Rattle.routing.proofs.Visited.Laws as Vis′
-use Rattle.routing.proofs.visit as callee
-use Rattle.routing.proofs.visit.Symbol as callee-def
-use Rattle.routing.proofs.visit.Symbol.{name as #callee}
-use Rattle.routing.proofs.visit.Met as callee-thm
+use Rattle.showing.proofs.visit as callee
+use Rattle.showing.proofs.visit.Symbol as callee-def
+use Rattle.showing.proofs.visit.Symbol.{name as #callee}
+use Rattle.showing.proofs.visit.Met as callee-thm
 use Rattle.rows.specs.Sweeps.{placeAfter, sweepOf, carriedOut}
 use Rattle.rows.proofs.Carried.{place-sum, sweep-none, sweep-next, sweep-length}
 use Rattle.rows.proofs.carry_out.Key.{name as #self}
@@ -383,4 +383,4 @@ carry-out-spec 𝓤 H 𝓜 𝓖 𝓡 =
     entered 𝓤 H (tripleOf 𝓤 H (𝓖 .A) self.signature (self.spec 𝓤 H (𝓖 .A) (𝓜 .mem) (𝓡 .run)))
     (tables 𝓤 H 𝓜 𝓡 code.env .C) (tables 𝓤 H 𝓜 𝓡 code.env .Λ) #self code.function (code.unfolded 𝓤 H 𝓜 𝓡)
     (self-meets 𝓤 H (𝓖 .A) (givenOf 𝓤 H 𝓜 𝓖) (𝓜 .mem) (𝓡 .run) (tablesOf 𝓤 H 𝓜 (tables 𝓤 H 𝓜 𝓡 code.env))
-    (cited 𝓤 H (Callee 𝓤 H (𝓖 .A) (𝓜 .mem) (𝓡 .run)) 𝓜 𝓡 code.env #callee callee-def.routine code.calls-routing·visit (callee-thm.met 𝓤 H 𝓜 𝓖 𝓡)))
+    (cited 𝓤 H (Callee 𝓤 H (𝓖 .A) (𝓜 .mem) (𝓡 .run)) 𝓜 𝓡 code.env #callee callee-def.routine code.calls-showing·visit (callee-thm.met 𝓤 H 𝓜 𝓖 𝓡)))

@@ -1,10 +1,10 @@
--- `routing::visit` meets its contract.
+-- `showing::visit` meets its contract.
 -- Assumes nothing.
 use borrow.Author.Needs.{needs}
 use Rattle.shelf.specs.Shelf.{stepRecord}
 use Rattle.routing.specs.Deciding.{visitOf}
-use Rattle.routing.proofs.visit.Statement.{statement}
-use Rattle.routing.proofs.visit.Tie as tie
+use Rattle.showing.proofs.visit.Statement.{statement}
+use Rattle.showing.proofs.visit.Tie as tie
 
 run-one-requires : tie.Need-run-one-requires
 run-one-requires c κs = search needs
