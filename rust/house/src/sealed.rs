@@ -1,35 +1,79 @@
-//! The rules of a kind of part stay sealed: what holds of a step is proved once for both kinds, over any idle limit and pointer rule.
+//! The rules of a kind of part stay sealed: what holds of a step is proved once for both kinds, over any idle limit and pointer rule (request
+//! #105). A proof that does not unfold `rulesOf` cannot see which limit and which pointer rule a kind has, so it holds for both parts as
+//! instances, and for any other. The proofs of every crate are looked at; the few that may unfold it are listed here with their grounds.
 
 use crate::tree::Tree;
 
 /// The definition of the two kinds' rules, in `crates/arbiter/specs/Rules.antt`.
 const RULES: &str = "rulesOf";
 
-const PROOFS: &str = "crates/arbiter/proofs/";
+/// Proofs that may open the rules: a file under `crates/`, and the names in it.
+type Openers = [(&'static str, &'static [&'static str])];
 
-/// The proofs that may open it: the one law of the limit that the others use, and the tables that are computed.
-const MAY_OPEN: [&str; 4] = ["KindKept", "Marks", "HungRows", "Witnesses"];
+/// The one law of a limit that the other proofs use: it is not 0.
+const LAW: &Openers = &[("arbiter/proofs/KindKept.antt", &["limit-some"])];
 
-/// The proofs of the arbiter that open the rules of a kind and may not, a sentence each.
+/// The functions that work the two rules out, which promise what `rulesOf` gives.
+const CODE: &Openers = &[
+    ("fields/proofs/idle_limit/Proof.antt", &["returns", "returns-2"]),
+    ("fields/proofs/rolls_over/Proof.antt", &["returns", "returns-2"]),
+    ("image/proofs/limit_of/Proof.antt", &["returns", "returns-2"]),
+];
+
+/// Tables that are computed, row by row: examples, and runs that meet premises, reach values or come to a bound. A computed run has a part.
+const TABLES: &Openers = &[
+    ("advance/proofs/BoundWitness.antt", &["rows-hold"]),
+    (
+        "arbiter/proofs/HungRows.antt",
+        &["long-rows-hold", "changed-rows-hold", "shown-rows-hold", "slow-clock-never-hung"],
+    ),
+    ("arbiter/proofs/Marks.antt", &["marks-hold", "readings-hold"]),
+    ("arbiter/proofs/Witnesses.antt", &["witnesses-meet"]),
+    ("audit/proofs/MoreWitnesses.antt", &["more-witnesses-meet"]),
+    ("audit/proofs/WaitWitnesses.antt", &["wait-witnesses-meet"]),
+    ("layout/proofs/Reached.antt", &["contr-tests"]),
+    ("mail/proofs/Runs.antt", &["rows-hold", "premises-met"]),
+    ("ranges/proofs/ExactWitnesses.antt", &["exact-witnesses-meet"]),
+    ("ranges/proofs/RangeWitnesses.antt", &["all-cover"]),
+    ("share/proofs/Examples.antt", &["rows-hold"]),
+    ("sheets/proofs/InTime.antt", &["premises-met"]),
+    ("shelf/proofs/Examples.antt", &["examples-hold"]),
+];
+
+/// The proofs that open the rules of a kind and may not, and those that may and do not, a sentence each.
 pub fn unsealed(tree: &Tree) -> Vec<String> {
     let mut found = Vec::new();
-    for path in tree.paths(PROOFS, ".antt") {
-        let name = path.trim_start_matches(PROOFS).trim_end_matches(".antt");
-        if MAY_OPEN.contains(&name) {
-            continue;
+    for path in tree.paths("crates/", ".antt").filter(|path| path.contains("/proofs/")) {
+        let may: Vec<&str> = may_open(path);
+        let opened = opened_in(tree.text(path).unwrap_or_default());
+        for (line, proof) in &opened {
+            if !may.contains(&proof.as_str()) {
+                found.push(format!(
+                    "{path}, line {line}: the proof `{proof}` unfolds `{RULES}`, so it is not one for both kinds of part; only those that \
+                     rust/house/src/sealed.rs lists may."
+                ));
+            }
         }
-        for line in opened_at(tree.text(path).unwrap_or_default()) {
+        for name in may.iter().filter(|name| !opened.iter().any(|(_, proof)| proof == *name)) {
             found.push(format!(
-                "{path}, line {line}: a proof unfolds `{RULES}`, so it is not one for both kinds of part; only {} may.",
-                MAY_OPEN.join(", ")
+                "rust/house/src/sealed.rs lets `{name}` of {path} unfold `{RULES}`, and it does not."
             ));
         }
     }
     found
 }
 
-/// The lines on which a clause `unfolding ..` that names the rules begins. It goes on over the lines that are set in further.
-fn opened_at(text: &str) -> Vec<usize> {
+/// The proofs of a file that may open the rules.
+fn may_open(path: &str) -> Vec<&'static str> {
+    let all = LAW.iter().chain(CODE).chain(TABLES);
+    all.filter(|(file, _)| path.strip_prefix("crates/") == Some(*file))
+        .flat_map(|(_, proofs)| proofs.iter().copied())
+        .collect()
+}
+
+/// The clauses `unfolding ..` that name the rules: the line on which each begins, and the proof that it belongs to. A clause goes on over the
+/// lines that are set in further.
+fn opened_in(text: &str) -> Vec<(usize, String)> {
     let lines: Vec<&str> = text.lines().collect();
     let mut found = Vec::new();
     for (at, line) in lines.iter().enumerate() {
@@ -40,10 +84,18 @@ fn opened_at(text: &str) -> Vec<usize> {
         let mut names =
             first.split_whitespace().chain(more.flat_map(|next| next.split_whitespace()));
         if names.any(|name| name == RULES) {
-            found.push(at + 1);
+            found.push((at + 1, proof_before(&lines[..at], inset(line))));
         }
     }
     found
+}
+
+/// The name of the proof whose clause begins after these lines: the last of them that is set in no further begins its type.
+fn proof_before(lines: &[&str], clause: usize) -> String {
+    let is_head = |line: &&&str| !line.trim().is_empty() && inset(line) <= clause;
+    let head = lines.iter().rev().find(is_head).copied().unwrap_or_default().trim_start();
+    let name = head.strip_prefix("pub ").unwrap_or(head);
+    name.split_whitespace().next().unwrap_or_default().to_string()
 }
 
 fn inset(line: &str) -> usize {
