@@ -1,18 +1,22 @@
 //! Holds `docs/PROMISES.md` to the code and `docs/IMAGE.md` to its definition. [`faults`] and [`image_faults`] tell in sentences where they
 //! differ; a repository in order has none. [`unsealed`] tells of proofs that open the rules of a kind of part. [`statement_faults`] tells of
-//! statements that no record holds, or that `docs/STATEMENTS.md` does not list.
+//! statements that no record holds, or that `docs/STATEMENTS.md` does not list. [`sentence_faults`] tells of names in `docs/SENTENCES.md` that
+//! are not there.
 
 mod calls;
 mod edits;
 mod image;
 mod list;
+mod names;
 mod sealed;
+mod sentences;
 mod stated;
 mod statements;
 mod tree;
 
 pub use image::{image_faults, LAYOUT, PAGE};
 pub use sealed::unsealed;
+pub use sentences::{sentence_faults, SENTENCES};
 pub use statements::{statement_faults, STATEMENTS};
 pub use tree::Tree;
 

@@ -114,7 +114,7 @@ fn marked_edits_in(row: &str) -> Vec<(String, bool)> {
 }
 
 /// The names and files in "`a` and `b`, `file`; `c`, `file`".
-fn definitions_in(cell: &str) -> Vec<(String, String)> {
+pub fn definitions_in(cell: &str) -> Vec<(String, String)> {
     let mut found = Vec::new();
     for part in cell.split("; ") {
         let names = quoted(part);

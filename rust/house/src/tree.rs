@@ -4,6 +4,9 @@ use std::collections::BTreeMap;
 use std::fs;
 use std::path::Path;
 
+/// The ends of the files that are read. A program's stored output need not be text.
+const READ: [&str; 6] = [".rt", ".antt", ".edit", ".md", ".rs", "/stdout"];
+
 /// Texts by their path from the repository's root.
 #[derive(Clone, Default)]
 pub struct Tree {
@@ -15,8 +18,9 @@ impl Tree {
     pub fn of_this_repository() -> Tree {
         let root = Path::new(env!("CARGO_MANIFEST_DIR")).join("../..");
         let mut tree = Tree::default();
-        tree.add(&root, "crates");
-        tree.add(&root, "docs");
+        for folder in ["crates", "docs", "rust"] {
+            tree.add(&root, folder);
+        }
         tree
     }
 
@@ -52,10 +56,10 @@ impl Tree {
             let name = format!("{path}/{}", entry.file_name().to_string_lossy());
             if entry.path().is_dir() {
                 self.add(root, &name);
-            } else if [".rt", ".antt", ".edit", ".md"].iter().any(|end| name.ends_with(end)) {
-                let text = fs::read_to_string(entry.path())
-                    .unwrap_or_else(|e| panic!("cannot read {name}: {e}"));
-                self.files.insert(name, text);
+            } else if READ.iter().any(|end| name.ends_with(end)) {
+                let bytes =
+                    fs::read(entry.path()).unwrap_or_else(|e| panic!("cannot read {name}: {e}"));
+                self.files.insert(name, String::from_utf8_lossy(&bytes).into_owned());
             }
         }
     }
