@@ -102,7 +102,7 @@ fn cells_of(line: &str) -> Option<Vec<String>> {
 /// A line of a table is a row or the line under its head, and backquotes come in pairs.
 fn line_fault(at: usize, line: &str) -> Option<String> {
     let is_row = cells_of(line).is_some() || line.starts_with("|---");
-    let is_paired = line.matches('`').count() % 2 == 0;
+    let is_paired = line.matches('`').count().is_multiple_of(2);
     if line.starts_with('|') && !is_row {
         Some(format!("{SENTENCES}, line {at}: a row begins with \"| \" and ends with \" |\"."))
     } else if !is_paired {
