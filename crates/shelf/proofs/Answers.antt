@@ -5,6 +5,7 @@ use Rattle.shelf.proofs.Rows.{keeps-addresses, others-same, reached-ste
 use Rattle.shelf.proofs.Found.{reached-in-row, unknown-changes-none}
 use Rattle.shelf.proofs.Shown.{shown-at-place}
 use Rattle.shelf.proofs.Places.{at-place, answer-at-place, every-run-at-place, one-connected-at-place, later-at-place, reserve-lasts-at-place, partner-in-time-at-place}
+use Rattle.shelf.proofs.Turns.{partner-in-time-throughout-at-place, partner-next-at-place}
 use Rattle.shelf.proofs.Examples.{examples-hold}
 
 pub answers : Answers
@@ -25,5 +26,7 @@ answers =
       laterAtPlace = later-at-place;
       reserveLastsAtPlace = reserve-lasts-at-place;
       partnerInTimeAtPlace = partner-in-time-at-place;
+      partnerInTimeThroughoutAtPlace = partner-in-time-throughout-at-place;
+      partnerNextAtPlace = partner-next-at-place;
       examplesHold = examples-hold;
     }

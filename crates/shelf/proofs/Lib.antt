@@ -2,5 +2,6 @@ pub mod Rows
 pub mod Found
 pub mod Places
 pub mod Shown
+pub mod Turns
 pub mod Examples
 pub mod Answers

@@ -45,7 +45,7 @@ run-append (x ∷ xs) ys row = run-append xs ys (shelfRow row (x .name) (x .even
 
 -- ---- the events that reach a place
 
-reached-first : (i : ℕ) (roll : List ℕ) (e : Named) (es : List Named) → reachesPlace i (reaches roll (e .name) (e .event)) ≡ true
+pub reached-first : (i : ℕ) (roll : List ℕ) (e : Named) (es : List Named) → reachesPlace i (reaches roll (e .name) (e .event)) ≡ true
     → reached i roll (e ∷ es) ≡ e .event ∷ reached i roll es
 unfolding reached
 reached-first i roll e es h = if-true (e .event ∷ reached i roll es) (reached i roll es) h
@@ -55,7 +55,7 @@ reached-past : (i : ℕ) (roll : List ℕ) (e : Named) (es : List Named) → rea
 unfolding reached
 reached-past i roll e es h = if-false (e .event ∷ reached i roll es) (reached i roll es) h
 
-reached-append : (xs ys : List Named) (i : ℕ) (roll : List ℕ) → reached i roll (xs ++ ys) ≡ reached i roll xs ++ reached i roll ys
+pub reached-append : (xs ys : List Named) (i : ℕ) (roll : List ℕ) → reached i roll (xs ++ ys) ≡ reached i roll xs ++ reached i roll ys
 unfolding reached
 reached-append [] ys i roll = refl
 reached-append (x ∷ xs) ys i roll = split (reachesPlace i (reaches roll (x .name) (x .event)))
@@ -118,21 +118,29 @@ answer-at-place slots es e i l h =
     ∙ ap (λ (d : Device). step d (e .event) .answer) (at-place slots es i l)
 
 pub every-run-at-place : EveryRunAtPlace
-every-run-at-place Holds all slots es i l = subst (Holds (kindAt slots i)) (sym (at-place slots es i l)) (all (kindAt slots i) (reachedAt i slots es))
+every-run-at-place Holds all slots es i l =
+    subst (Holds (kindAt slots i) (reachedAt i slots es)) (sym (at-place slots es i l)) (all (kindAt slots i) (reachedAt i slots es))
 
 pub one-connected-at-place : OneConnectedAtPlace
 one-connected-at-place slots es i m l =
-    every-run-at-place (λ (k : Kind) (d : Device). connected m d ≡ true → (owns m d ≡ true) × (connected (partner m) d ≡ false))
+    every-run-at-place (λ (k : Kind) (rs : List Raw) (d : Device). connected m d ≡ true → (owns m d ≡ true) × (connected (partner m) d ≡ false))
     (λ k rs. one-connected k rs m) slots es i l
+
+-- ---- events before, and events after them
+
+pub after-at-place : (slots : List Slot) (es later : List Named) (i : ℕ) → i < length slots
+    → deviceAt (shelfAfter slots (es ++ later)) i ≡ runFrom (deviceAt (shelfAfter slots es) i) (reachedAt i slots later)
+after-at-place slots es later i l =
+    ap (λ (row : List Record). deviceAt row i) (run-append es later (freshRow slots))
+    ∙ from-place later (shelfAfter slots es) i (subst (λ (n : ℕ). i < n) (sym (run-length es (freshRow slots))) (fresh-in slots i l))
+    ∙ ap (λ (roll : List ℕ). runFrom (deviceAt (shelfAfter slots es) i) (reached i roll later)) (run-addresses es (freshRow slots))
 
 -- ---- events before, one event, and events after it
 
 pub later-at-place : LaterAtPlace
 unfolding runFrom
 later-at-place slots es e later i l h =
-    ap (λ (row : List Record). deviceAt row i) (run-append es (e ∷ later) (freshRow slots))
-    ∙ from-place (e ∷ later) (shelfAfter slots es) i (subst (λ (n : ℕ). i < n) (sym (run-length es (freshRow slots))) (fresh-in slots i l))
-    ∙ ap (λ (roll : List ℕ). runFrom (deviceAt (shelfAfter slots es) i) (reached i roll (e ∷ later))) (run-addresses es (freshRow slots))
+    after-at-place slots es (e ∷ later) i l
     ∙ ap (λ (rs : List Raw). runFrom (deviceAt (shelfAfter slots es) i) rs) (reached-first i (addressesOf (freshRow slots)) e later h)
 
 pub reserve-lasts-at-place : ReserveLastsAtPlace
@@ -147,7 +155,7 @@ reserve-lasts-at-place slots i m es e later l h taken few resets withdrawals =
     here = reachedAt i slots later
 
 -- The last of the events after it reaches the place too.
-end-at-place : (slots : List Slot) (es : List Named) (e : Named) (later : List Named) (t : Named) (i : ℕ) → i < length slots
+pub end-at-place : (slots : List Slot) (es : List Named) (e : Named) (later : List Named) (t : Named) (i : ℕ) → i < length slots
     → reachesAt i slots e ≡ true → reachesAt i slots t ≡ true
     → deviceAt (shelfAfter slots (es ++ e ∷ (later ++ t ∷ []))) i
     ≡ next (runFrom (next (deviceAt (shelfAfter slots es) i) (e .event)) (reachedAt i slots later)) (t .event)

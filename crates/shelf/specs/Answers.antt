@@ -1,7 +1,7 @@
 -- Request #110: what is proved of every shelf, in one record. proofs/Answers.antt fills it with one term, so that a lost proof fails the
 -- check.
 -- Assumes nothing.
-use Rattle.shelf.specs.Runs.{KeepsAddresses, OthersSame, ReachedSteps, AnswerAlone, RefusedSame, ReachedInRow, UnknownChangesNone, ShownAtPlace, AtPlace, AnswerAtPlace, EveryRunAtPlace, OneConnectedAtPlace, LaterAtPlace, ReserveLastsAtPlace, PartnerInTimeAtPlace}
+use Rattle.shelf.specs.Runs.{KeepsAddresses, OthersSame, ReachedSteps, AnswerAlone, RefusedSame, ReachedInRow, UnknownChangesNone, ShownAtPlace, AtPlace, AnswerAtPlace, EveryRunAtPlace, OneConnectedAtPlace, LaterAtPlace, ReserveLastsAtPlace, PartnerInTimeAtPlace, PartnerInTimeThroughoutAtPlace, PartnerNextAtPlace}
 use Rattle.shelf.specs.Examples.{ExamplesHold}
 
 pub record Answers : Type 1 where
@@ -20,4 +20,6 @@ pub record Answers : Type 1 where
   pub laterAtPlace : LaterAtPlace
   pub reserveLastsAtPlace : ReserveLastsAtPlace
   pub partnerInTimeAtPlace : PartnerInTimeAtPlace
+  pub partnerInTimeThroughoutAtPlace : PartnerInTimeThroughoutAtPlace
+  pub partnerNextAtPlace : PartnerNextAtPlace
   pub examplesHold : ExamplesHold

@@ -5,13 +5,14 @@
 use Prim.Native.Nat.{_+_, _<_, _≤_}
 use mathlib.Core.Path.{_≡_}
 use Rattle.arbiter.specs.Words.{partner}
-use Rattle.arbiter.specs.State.{owns, connected, isIdle}
+use Rattle.arbiter.specs.State.{owns, claims, connected, isIdle}
 use Rattle.arbiter.specs.Events.{decode, decodedNumber}
 use Rattle.arbiter.specs.Effects.{powerUp}
 use Rattle.arbiter.specs.Steps.{answer, step, refused, runFrom, run}
-use Rattle.arbiter.specs.AuditWords.{next, requests, resting, reserveOf, reset, tick, withdrawalOf, grantTaken, ticksIn, never}
+use Rattle.arbiter.specs.AuditWords.{next, requests, resting, reserveOf, reset, tick, withdrawalOf, stopOf, grantTaken, grantEnded, ticksIn, never, throughout}
 use Rattle.arbiter.specs.declared.Master.{Master}
-use Rattle.arbiter.specs.declared.Decoded.the-variants.{UnknownKind}
+use Rattle.arbiter.specs.declared.Decoded.the-variants.{UnknownKind, Reads}
+use Rattle.arbiter.specs.declared.Event.the-variants.{Stop}
 use Rattle.shelf.specs.Names.{ℕ, Bool, true, false, List, [], _∷_, _++_, map, eqb, length, getD, if_then_else_, Kind, Pca9641, Device, Raw, Answer, Record, AnAddress, Nothing, Fault, Reach, At, Everyone, Refused}
 use Rattle.shelf.specs.Shelf.{addressesOf, recordAt, deviceAt, naming, reaches, reachesPlace, mostRecords, twoEqual, stepRecord, faultAnswer, shelfRow, shelfAnswer, shelfShow}
 
@@ -134,11 +135,13 @@ AnswerAtPlace =
     (slots : List Slot) (es : List Named) (e : Named) (i : ℕ) → i < length slots → answersAt i slots e ≡ true
     → shelfAnswer (shelfAfter slots es) (e .name) (e .event) ≡ step (run (kindAt slots i) (reachedAt i slots es)) (e .event) .answer
 
--- So whatever holds of every run of one device holds of the device at each place of every shelf.
+-- So whatever holds of every run of one device, of its events and of what they leave, holds of the events that reach a place of a shelf and of
+-- the device there.
 abbrev pub EveryRunAtPlace : Type 1
 EveryRunAtPlace =
-    (Holds : Kind → Device → Type 0) → ((k : Kind) (rs : List Raw) → Holds k (run k rs))
-    → (slots : List Slot) (es : List Named) (i : ℕ) → i < length slots → Holds (kindAt slots i) (deviceAt (shelfAfter slots es) i)
+    (Holds : Kind → List Raw → Device → Type 0) → ((k : Kind) (rs : List Raw) → Holds k rs (run k rs))
+    → (slots : List Slot) (es : List Named) (i : ℕ) → i < length slots
+    → Holds (kindAt slots i) (reachedAt i slots es) (deviceAt (shelfAfter slots es) i)
 
 -- Demand 3, for a place: at most one master is connected, and it holds the grant.
 abbrev pub OneConnectedAtPlace : Type 0
@@ -176,3 +179,36 @@ PartnerInTimeAtPlace =
     reachesAt i slots e ≡ true → reachesAt i slots t ≡ true → grantTaken m (e .event) before ≡ true → ticksIn d here + 1 ≡ reserveOf m d
     → tick (t .event) (runFrom d here) ≡ true → never reset d here ≡ true → never (withdrawalOf m) d here ≡ true
     → requests (partner m) end ≡ true → isIdle (end .bus) ≡ true → resting (partner m) end ≡ true → owns (partner m) end ≡ true
+
+-- Where the partner's request stands there all the while from the grant on, m may withdraw as well, and the partner owns after t just so.
+abbrev pub PartnerInTimeThroughoutAtPlace : Type 0
+PartnerInTimeThroughoutAtPlace =
+    (slots : List Slot) (i : ℕ) (m : Master) (es : List Named) (e : Named) (later : List Named) (t : Named) → i < length slots
+    → let before : Device = deviceAt (shelfAfter slots es) i in
+    let d : Device = next before (e .event) in
+    let here : List Raw = reachedAt i slots later in
+    let end : Device = deviceAt (shelfAfter slots (es ++ e ∷ (later ++ t ∷ []))) i in
+    reachesAt i slots e ≡ true → reachesAt i slots t ≡ true → grantTaken m (e .event) before ≡ true → ticksIn d here + 1 ≡ reserveOf m d
+    → tick (t .event) (runFrom d here) ≡ true → never reset d here ≡ true → throughout (requests (partner m)) d (here ++ t .event ∷ []) ≡ true
+    → isIdle (end .bus) ≡ true → resting (partner m) end ≡ true → owns (partner m) end ≡ true
+
+-- p is next at place i after the events es: it owns there at once if its port is at rest. Else, whatever comes to the shelf later, it stays the
+-- claimant there until its withdrawal, its STOP or a reset there, and its STOP makes it the owner.
+abbrev pub IsNextAtPlace : List Slot → ℕ → Master → List Named → Type 0
+IsNextAtPlace slots i p es =
+    let d : Device = deviceAt (shelfAfter slots es) i in
+    (resting p d ≡ true → owns p d ≡ true)
+    × (resting p d ≡ false → (later : List Named) → let here : List Raw = reachedAt i slots later in
+    never reset d here ≡ true → never (withdrawalOf p) d here ≡ true → never (stopOf p) d here ≡ true
+    → (claims p (deviceAt (shelfAfter slots (es ++ later)) i) ≡ true)
+    × ((s : Named) → reachesAt i slots s ≡ true → decode (s .event) ≡ Reads (Stop p)
+    → owns p (deviceAt (shelfAfter slots (es ++ (later ++ s ∷ []))) i) ≡ true))
+
+-- e, no reset, ends m's grant at place i, and the partner's request stands there after it: the partner is next there.
+abbrev pub PartnerNextAtPlace : Type 0
+PartnerNextAtPlace =
+    (slots : List Slot) (i : ℕ) (m : Master) (es : List Named) (e : Named) → i < length slots
+    → let before : Device = deviceAt (shelfAfter slots es) i in
+    let d : Device = deviceAt (shelfAfter slots (es ++ e ∷ [])) i in
+    reachesAt i slots e ≡ true → grantEnded m (e .event) before ≡ true → reset (e .event) before ≡ false → requests (partner m) d ≡ true
+    → IsNextAtPlace slots i (partner m) (es ++ e ∷ [])

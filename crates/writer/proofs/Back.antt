@@ -34,12 +34,12 @@ unfolding rawsIn
 raws-length zero l = refl
 raws-length (suc n) l = ap suc (raws-length n (drop eventBytes l))
 
-raws-back : (rs : List Raw) → rawsIn (length rs) (rawsBytes rs) ≡ rs
+pub raws-back : (rs : List Raw) → rawsIn (length rs) (rawsBytes rs) ≡ rs
 unfolding rawsIn
 raws-back [] = refl
 raws-back (r ∷ rs) = ap (λ (l : List Raw). r ∷ l) (raws-back rs)
 
-bytes-length : (rs : List Raw) → length (rawsBytes rs) ≡ eventBytes * length rs
+pub bytes-length : (rs : List Raw) → length (rawsBytes rs) ≡ eventBytes * length rs
 bytes-length [] = refl
 bytes-length (r ∷ rs) = let h = bytes-length rs in omega (arith, h)
 
