@@ -42,6 +42,14 @@ impl Tree {
         self.files.insert(path.to_string(), text.to_string());
     }
 
+    /// The same with another text in the place of one that the file has once.
+    pub fn replaced(mut self, path: &str, old: &str, new: &str) -> Tree {
+        let text = self.text(path).unwrap_or_else(|| panic!("there is no {path}")).to_string();
+        assert_eq!(text.matches(old).count(), 1, "'{old}' in {path}");
+        self.put(path, &text.replace(old, new));
+        self
+    }
+
     /// Takes a file away.
     pub fn remove(&mut self, path: &str) {
         self.files.remove(path);

@@ -79,11 +79,7 @@ fn small() -> Tree {
 
 /// What is told where a text stands in another's place.
 fn faults_after(path: &str, old: &str, new: &str) -> Vec<String> {
-    let mut tree = small();
-    let text = tree.text(path).expect("a file").to_string();
-    assert_eq!(text.matches(old).count(), 1, "'{old}' in {path}");
-    tree.put(path, &text.replace(old, new));
-    statement_faults(&tree)
+    statement_faults(&small().replaced(path, old, new))
 }
 
 /// The one fault that is left.
