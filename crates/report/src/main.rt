@@ -4,6 +4,7 @@ ghost use mathlib.Core.Path.{_≡_};
 ghost use Prim.Native.Nat.{_+_, _<_, _≤_};
 ghost use mathlib.Core.List.{_∷_, [], _++_};
 ghost use lib.ListN.{length, take};
+ghost use Rattle.report.specs.Input.{lengthIn};
 ghost use Rattle.report.specs.Report.{digits, field, pastLine, line, reportText};
 use libc::STDIN_FILENO;
 use libc::STDOUT_FILENO;
@@ -35,11 +36,17 @@ fn room() -> [u8; 65535]
     [0; 65535]
 }
 
-// A trace's length, from its two bytes.
-fn length_of(low: u8, high: u8) -> usize
-    ensures { λ r. ⌜ r < 65536 ⌝ }
+fn wide(b: u8) -> usize
+    ensures { λ r. ⌜ (r ≡ b) × (r < 256) ⌝ }
 {
-    (low as usize) + 256 * (high as usize)
+    b as usize
+}
+
+// A trace's length, from the two bytes before it. No contract can say which bytes a read finds, so the reading cites the definition here.
+fn length_of(head: &[u8; 2]) -> usize
+    ensures { λ r. ⌜ (r ≡ lengthIn (now (head .entry))) × (r < 65536) ⌝ }
+{
+    wide(head[0]) + 256 * wide(head[1])
 }
 
 fn read_with(totals: Totals, more: bool, past: bool) -> Read {
@@ -83,7 +90,7 @@ fn read_next(totals: Totals, input: &mut [u8]) -> Read
     if got < 2 {
         return add_cut(totals, input);
     }
-    let wanted = length_of(head[0], head[1]);
+    let wanted = length_of(&head);
     read_body(totals, input, wanted)
 }
 
