@@ -5,7 +5,7 @@ use std::fs;
 use std::path::Path;
 
 /// The ends of the files that are read. A program's stored output need not be text.
-const READ: [&str; 6] = [".rt", ".antt", ".edit", ".md", ".rs", "/stdout"];
+const READ: [&str; 7] = [".rt", ".antt", ".edit", ".md", ".rs", "/stdout", ".stdout"];
 
 /// Texts by their path from the repository's root.
 #[derive(Clone, Default)]

@@ -9,9 +9,10 @@ use std::process::Command;
 const SCRIPT: &str = concat!(env!("CARGO_MANIFEST_DIR"), "/../../.ci/run");
 
 /// The commands of the gate in their order, each with a name for its stand-in.
-const PARTS: [(&str, &str); 5] = [
+const PARTS: [(&str, &str); 6] = [
     ("bin/rt", "rt ci"),
     ("tools/library", "library"),
+    ("tools/programs", "programs"),
     ("bin/cargo", "cargo test"),
     ("c/check", "c check"),
     ("tools/lint", "lint"),
