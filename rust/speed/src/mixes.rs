@@ -16,8 +16,8 @@ pub struct Mix {
     pub traces: Vec<Vec<u8>>,
 }
 
-/// So many traces of each mix. They are run one after the other in each timing. Every second one is
-/// of a TPT29641.
+/// So many traces of each mix. They are run one after the other in each timing. Of the TICK-heavy ones
+/// and of the samples every second one is of a TPT29641; of the mixed ones three are, by their seeds.
 const TRACES: u64 = 8;
 
 /// All mixes. The error is why the samples cannot be read.
