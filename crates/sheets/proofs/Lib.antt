@@ -1,5 +1,6 @@
 pub mod Sound
 pub mod Found
+pub mod Numbers
 pub mod Complete
 pub mod Started
 pub mod InTime

@@ -24,10 +24,10 @@ pub look-up-number-once : OneResult look-up-number.Post
 look-up-number-once κ a x y s t p q = once p q
 
 pub place-of-once : OneResult place-of.Post
-place-of-once κ a x y s t p q = once p q
+place-of-once κ a x y s t p q = once (p .0) (q .0)
 
 pub check-pair-once : OneResult check-pair.Post
-check-pair-once κ a x y s t p q = once p q
+check-pair-once κ a x y s t p q = once (p .0) (q .0)
 
 pub fault-number-once : OneResult fault-number.Post
 fault-number-once κ a x y s t p q = once p q

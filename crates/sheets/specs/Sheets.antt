@@ -124,10 +124,39 @@ faultNumber NoSuchBox = 15
 faultNumber Unticked = 14
 faultNumber NoRoom = 9
 
+abbrev pub checkedNumber : Checked → ℕ
+checkedNumber Sound = 0
+checkedNumber (Faulty f) = faultNumber f
+
 abbrev pub placeNumber : Place → ℕ
 placeNumber (Board at) = 0
 placeNumber (House at) = 0
 placeNumber (Refused f) = faultNumber f
+
+-- the same, said of the bytes: the first refusal that is due, or 0
+abbrev pub firstRefusal : ℕ → ℕ → ℕ
+firstRefusal n later = if eqb n 0 then later else n
+
+unfoldable pub sheetNumber : List ℕ → ℕ
+sheetNumber sheet =
+    if ltb (length sheet) sheetBytes then 5
+    else if not (countsRight sheet) then 10
+    else if not (boxesRight sheet) then 3
+    else if ltb sheetBytes (length sheet) then 7
+    else 0
+
+unfoldable pub pairNumber : List ℕ → List ℕ → ℕ
+pairNumber board house = firstRefusal (sheetNumber board) (sheetNumber house)
+
+unfoldable pub boxNumber : ℕ → ℕ → List ℕ → List ℕ → ℕ
+boxNumber section controller board house =
+    let place : ℕ = boxPlace section controller in
+    if not (isBox section controller) then 15
+    else if not (ticked place board || ticked place house) then 14
+    else 0
+
+unfoldable pub lookUpNumber : ℕ → ℕ → List ℕ → List ℕ → ℕ
+lookUpNumber section controller board house = firstRefusal (pairNumber board house) (boxNumber section controller board house)
 
 -- ---- the part that is handed back: "that box's part of the sheet it came from"; on a refusal it is "empty, the front of the board sheet"
 

@@ -3,7 +3,7 @@ ghost use Prim.Native.Nat.{_≤_, _<_};
 ghost use mathlib.Core.Path.{_≡_};
 ghost use lib.ListN.{length};
 ghost use denote.Ref.{ptr};
-ghost use Rattle.sheets.specs.Sheets.{boxPlace, placeAt, boxOn, placeOf, placeNumber, partOf, startOf};
+ghost use Rattle.sheets.specs.Sheets.{boxPlace, placeAt, boxOn, placeOf, placeNumber, lookUpNumber, partOf, startOf};
 use crate::Checked;
 use crate::Fault;
 use crate::Place;
@@ -45,6 +45,7 @@ fn box_on(board: &[u8], house: &[u8], section: u8, controller: u8) -> Place
 // Where the box of a section (0 reserve, 1 priority, 2 idle) and a controller is taken from, or why none is.
 pub fn place_of(board: &[u8], house: &[u8], section: u8, controller: u8) -> Place
     ensures { λ r. ⌜ r ≡ placeOf section controller (now (board .entry)) (now (house .entry)) ⌝ }
+    ensures { λ r. ⌜ placeNumber r ≡ lookUpNumber section controller (now (board .entry)) (now (house .entry)) ⌝ }
 {
     let checked = check_pair(board, house);
     match checked {

@@ -2,7 +2,7 @@
 ghost use Prim.Native.Nat.{_+_, _≤_};
 ghost use mathlib.Core.Path.{_≡_};
 ghost use lib.ListN.{length};
-ghost use Rattle.sheets.specs.Sheets.{countsRight, boxRight, flagRight, boxesRight, checkSheet, checkPair, faultNumber};
+ghost use Rattle.sheets.specs.Sheets.{countsRight, boxRight, flagRight, boxesRight, checkSheet, checkPair, faultNumber, checkedNumber, pairNumber};
 use crate::Checked;
 use crate::Fault;
 
@@ -64,6 +64,7 @@ fn check_sheet(sheet: &[u8]) -> Checked
 // The board sheet first, then the house sheet.
 pub fn check_pair(board: &[u8], house: &[u8]) -> Checked
     ensures { λ r. ⌜ r ≡ checkPair (now (board .entry)) (now (house .entry)) ⌝ }
+    ensures { λ r. ⌜ checkedNumber r ≡ pairNumber (now (board .entry)) (now (house .entry)) ⌝ }
 {
     let first = check_sheet(board);
     match first {

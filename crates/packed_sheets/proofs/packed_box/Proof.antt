@@ -16,19 +16,19 @@ enum-known-found : tie.Need-enum-known-found
 enum-known-found c = search needs
 
 mul-result : tie.Need-mul-result
-mul-result c = omega (arith, board-inside _ _ _ _ _ (sym (c .before .before .before .place-of .ensures) ∙ c .before .found .given .1))
+mul-result c = omega (arith, board-inside _ _ _ _ _ (sym (c .before .before .before .place-of .ensures .0) ∙ c .before .found .given .1))
 
 add-result : tie.Need-add-result
-add-result c = omega (arith, board-inside _ _ _ _ _ (sym (c .before .before .before .place-of .ensures) ∙ c .before .found .given .1))
+add-result c = omega (arith, board-inside _ _ _ _ _ (sym (c .before .before .before .place-of .ensures .0) ∙ c .before .found .given .1))
 
 enum-known-found-2 : tie.Need-enum-known-found-2
 enum-known-found-2 c = search needs
 
 mul-result-2 : tie.Need-mul-result-2
-mul-result-2 c = omega (arith, house-inside _ _ _ _ _ (sym (c .before .before .before .place-of .ensures) ∙ c .before .found2 .given .1))
+mul-result-2 c = omega (arith, house-inside _ _ _ _ _ (sym (c .before .before .before .place-of .ensures .0) ∙ c .before .found2 .given .1))
 
 add-result-2 : tie.Need-add-result-2
-add-result-2 c = omega (arith, house-inside _ _ _ _ _ (sym (c .before .before .before .place-of .ensures) ∙ c .before .found2 .given .1))
+add-result-2 c = omega (arith, house-inside _ _ _ _ _ (sym (c .before .before .before .place-of .ensures .0) ∙ c .before .found2 .given .1))
 
 enum-known-found-3 : tie.Need-enum-known-found-3
 enum-known-found-3 c = search needs
@@ -40,15 +40,15 @@ long-of-requires : tie.Need-long-of-requires
 long-of-requires c κs = search needs
 
 returns : tie.Need-returns
-returns c = sym (zero-add _) ∙ ap packedBox (sym (c .before .found .given .1) ∙ c .before .before .before .place-of .ensures)
+returns c = sym (zero-add _) ∙ ap packedBox (sym (c .before .found .given .1) ∙ c .before .before .before .place-of .ensures .0)
 
 returns-2 : tie.Need-returns-2
-returns-2 c = sym (zero-add _) ∙ ap packedBox (sym (c .before .found2 .given .1) ∙ c .before .before .before .place-of .ensures)
+returns-2 c = sym (zero-add _) ∙ ap packedBox (sym (c .before .found2 .given .1) ∙ c .before .before .before .place-of .ensures .0)
 
 returns-3 : tie.Need-returns-3
 returns-3 c =
     simp (c .long-of .ensures .0, c .before .fault-number .ensures)
-    (sym (add-zero _) ∙ ap packedBox (sym (c .before .before .before .found3 .given .1) ∙ c .before .before .before .before .before .place-of .ensures))
+    (sym (add-zero _) ∙ ap packedBox (sym (c .before .before .before .found3 .given .1) ∙ c .before .before .before .before .before .place-of .ensures .0))
 
 pub packed-box-spec : {M : Type 1} → statement M
 packed-box-spec =

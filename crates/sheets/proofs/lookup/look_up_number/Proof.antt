@@ -22,15 +22,15 @@ fault-number-requires c κs = search needs
 
 returns : tie.Need-returns
 unfolding placeOf
-returns c = simp (c .enum-told .given .1, ← c .before .before .place-of .ensures)
+returns c = simp (c .enum-told .given .1, ← c .before .before .place-of .ensures .0)
 
 returns-2 : tie.Need-returns-2
 unfolding placeOf
-returns-2 c = simp (c .enum-told2 .given .1, ← c .before .before .place-of .ensures)
+returns-2 c = simp (c .enum-told2 .given .1, ← c .before .before .place-of .ensures .0)
 
 returns-3 : tie.Need-returns-3
 unfolding placeOf
-returns-3 c = simp (← c .fault-number .ensures, c .before .before .why .given .1, ← c .before .before .before .before .place-of .ensures)
+returns-3 c = simp (← c .fault-number .ensures, c .before .before .why .given .1, ← c .before .before .before .before .place-of .ensures .0)
 
 pub look-up-number-spec : {M : Type 1} → statement M
 look-up-number-spec =

@@ -14,18 +14,18 @@ enum-told : tie.Need-enum-told
 enum-told c = search needs
 
 read-complete-requires : tie.Need-read-complete-requires
-read-complete-requires c κs = pair-long _ _ (sym (c .before .before .check-pair .ensures) ∙ c .enum-told .given .1)
+read-complete-requires c κs = pair-long _ _ (sym (c .before .before .check-pair .ensures .0) ∙ c .enum-told .given .1)
 
 enum-known-checked : tie.Need-enum-known-checked
 enum-known-checked c = search needs
 
 returns : tie.Need-returns
 unfolding readOrder
-returns c = simp (← c .read-complete .ensures, c .before .enum-told .given .1, ← c .before .before .before .check-pair .ensures)
+returns c = simp (← c .read-complete .ensures, c .before .enum-told .given .1, ← c .before .before .before .check-pair .ensures .0)
 
 returns-2 : tie.Need-returns-2
 unfolding readOrder
-returns-2 c = simp (c .before .checked .given .1, ← c .before .before .before .check-pair .ensures)
+returns-2 c = simp (c .before .checked .given .1, ← c .before .before .before .check-pair .ensures .0)
 
 pub read-order-spec : {M : Type 1} → statement M
 read-order-spec =
