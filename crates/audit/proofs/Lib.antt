@@ -8,5 +8,7 @@ pub mod Released
 pub mod MoreWitnesses
 pub mod Places
 pub mod WorstWait
+pub mod SettingsKept
+pub mod WaitAsSet
 pub mod WaitWitnesses
 pub mod Answers

@@ -14,7 +14,7 @@ use Rattle.arbiter.specs.Effects.{ticked, effect}
 use Rattle.arbiter.specs.Order.{isReset, isTick, levels, newClaim, claimAfter}
 use Rattle.arbiter.specs.Steps.{parts}
 use Rattle.arbiter.specs.AuditWords.{next, requests, resting, reserveOf, reset, tick}
-use Rattle.audit.specs.WorstWait.{reservesWell, delayed}
+use Rattle.audit.specs.WorstWait.{reservesWithin, delayed}
 use Rattle.arbiter.proofs.Choice.{split, if-true, if-false, same-self, turn-owns}
 use Rattle.arbiter.proofs.Effects.{counts, effect-counts}
 use Rattle.arbiter.proofs.Order.{side-kept, owned, awarded, after, after-sides, losses-unowned, after-turn}
@@ -28,7 +28,7 @@ use Rattle.arbiter.proofs.Reserve.{reserve-kept}
 -- ---- the hold over an event
 
 -- A tick is taken from the hold.
-hold-next : (r : Raw) (d : Device) → reset r d ≡ false → (next d r) .bus .hold ≡ d .bus .hold - worth 1 (tick r d)
+pub hold-next : (r : Raw) (d : Device) → reset r d ≡ false → (next d r) .bus .hold ≡ d .bus .hold - worth 1 (tick r d)
 unfolding levels ticked
 hold-next r d ok =
     elim (met r d) [
@@ -109,28 +109,28 @@ abbrev pub ahead : ℕ → ℕ → ℕ → ℕ
 ahead more hold n = if eqb hold 0 then more + 1 - n else hold + more
 
 -- p owns; p claims, and a hold of at most b ticks runs; m owns with at most b ticks left; m claims
-pub data Place (m : Master) (more n b : ℕ) (d : Device) : Type 0 where
-  mine : (g : Ground) → d .arb .turn ≡ Owns (partner m) g → Place m more n b d
-  first : (g : Ground) → d .arb .turn ≡ Claims (partner m) g → d .bus .hold ≤ b → Place m more n b d
-  theirs : (g : Ground) → d .arb .turn ≡ Owns m g → d .arb .reserve ≤ b → Place m more n b d
-  behind : (g : Ground) → d .arb .turn ≡ Claims m g → ahead more (d .bus .hold) n + 255 ≤ b → Place m more n b d
+pub data Place (m : Master) (most more n b : ℕ) (d : Device) : Type 0 where
+  mine : (g : Ground) → d .arb .turn ≡ Owns (partner m) g → Place m most more n b d
+  first : (g : Ground) → d .arb .turn ≡ Claims (partner m) g → d .bus .hold ≤ b → Place m most more n b d
+  theirs : (g : Ground) → d .arb .turn ≡ Owns m g → d .arb .reserve ≤ b → Place m most more n b d
+  behind : (g : Ground) → d .arb .turn ≡ Claims m g → ahead more (d .bus .hold) n + most ≤ b → Place m most more n b d
 
 -- whose claim it is now owns if it is due, and else a hold may run
-claim-place : (m : Master) (g : Ground) (more n b : ℕ) (d : Device) → d .arb .turn ≡ awaits (partner m) g d → d .bus .hold ≤ b → Place m more n b d
-claim-place m g more n b d t h =
+claim-place : (m : Master) (g : Ground) (most more n b : ℕ) (d : Device) → d .arb .turn ≡ awaits (partner m) g d → d .bus .hold ≤ b → Place m most more n b d
+claim-place m g most more n b d t h =
     split (due (partner m) d) (λ x. mine g (t ∙ if-true _ _ x)) (λ x. first g (t ∙ if-false _ _ x) h)
 
--- a reserve of a grant is at most 255, and more than 0
-pub well : (m : Master) (d : Device) → owns m d ≡ true → reservesWell m d ≡ true → (0 < reserveOf m d) × (reserveOf m d < 256)
-well m d o h =
-    let both = and-eq-true-iff (ltb 0 (reserveOf m d)) (ltb (reserveOf m d) 256) .0
-    (sym (ap (λ (b : Bool). not b || ltb 0 (reserveOf m d) && ltb (reserveOf m d) 256) o) ∙ h) in
-    (ltb-true 0 (reserveOf m d) (both .0), ltb-true (reserveOf m d) 256 (both .1))
+-- a reserve of a grant is at most `most`, and more than 0
+pub well : (m : Master) (most : ℕ) (d : Device) → owns m d ≡ true → reservesWithin most m d ≡ true → (0 < reserveOf m d) × (reserveOf m d < most + 1)
+well m most d o h =
+    let both = and-eq-true-iff (ltb 0 (reserveOf m d)) (ltb (reserveOf m d) (most + 1)) .0
+    (sym (ap (λ (b : Bool). not b || ltb 0 (reserveOf m d) && ltb (reserveOf m d) (most + 1)) o) ∙ h) in
+    (ltb-true 0 (reserveOf m d) (both .0), ltb-true (reserveOf m d) (most + 1) (both .1))
 
 -- ---- one event
 
-module _ (m : Master) (more n b : ℕ) (r : Raw) (d : Device) (i : Owned d) (s : Ready d) (ok : reset r d ≡ false)
-    (q : requests (partner m) (next d r) ≡ true) (w : reservesWell m (next d r) ≡ true) (late : delayed m n r d < more + 2) where
+module _ (m : Master) (most more n b : ℕ) (r : Raw) (d : Device) (i : Owned d) (s : Ready d) (ok : reset r d ≡ false)
+    (q : requests (partner m) (next d r) ≡ true) (w : reservesWithin most m (next d r) ≡ true) (late : delayed m n r d < more + 2) where
   abbrev x : Device
   x = next d r
 
@@ -139,7 +139,7 @@ module _ (m : Master) (more n b : ℕ) (r : Raw) (d : Device) (i : Owned d) (s :
 
   -- where p stands after it
   abbrev Then : Type 0
-  Then = Place m more (delayed m n r d) less x
+  Then = Place m most more (delayed m n r d) less x
 
   -- an owner p keeps the grant, for a loss or a withdrawal would take its request away
   mine-then : (g : Ground) → d .arb .turn ≡ Owns (partner m) g → Then
@@ -157,7 +157,7 @@ module _ (m : Master) (more n b : ℕ) (r : Raw) (d : Device) (i : Owned d) (s :
         | refuses y ↦ first g (ap (λ (z : Device). z .arb .turn) (y .after) ∙ t) (omega arith)
         | takes e y ↦
             (let no : isReset e ≡ false = sym (y .same λ f z. isReset f) ∙ ok in
-            claim-place m g more (delayed m n r d) less x
+            claim-place m g most more (delayed m n r d) less x
             (subst (λ (z : Device). requests (partner m) z ≡ true → z .arb .turn ≡ awaits (partner m) g z) (sym (y .after))
             (claim-stays (partner m) e d no t) q)
             (omega arith))
@@ -180,7 +180,7 @@ module _ (m : Master) (more n b : ℕ) (r : Raw) (d : Device) (i : Owned d) (s :
       ]
 
   -- a claimant m
-  module _ (g : Ground) (t : d .arb .turn ≡ Claims m g) (h : ahead more (d .bus .hold) n + 255 ≤ b) where
+  module _ (g : Ground) (t : d .arb .turn ≡ Claims m g) (h : ahead more (d .bus .hold) n + most ≤ b) where
     has : claims m d ≡ true
     has = ap (claimsTurn m) t ∙ same-self m
 
@@ -191,13 +191,13 @@ module _ (m : Master) (more n b : ℕ) (r : Raw) (d : Device) (i : Owned d) (s :
         ∙ sym (ap (λ (u : Turn). isDue u d) t) ∙ s .2
 
     -- what stands ahead with no hold, and with one
-    ahead-free : d .bus .hold ≡ 0 → more + 1 - n + 255 ≤ b
-    ahead-free z = subst (λ (k : ℕ). k + 255 ≤ b) (if-true (more + 1 - n) (d .bus .hold + more) (eq-eqb (d .bus .hold) 0 z)) h
+    ahead-free : d .bus .hold ≡ 0 → more + 1 - n + most ≤ b
+    ahead-free z = subst (λ (k : ℕ). k + most ≤ b) (if-true (more + 1 - n) (d .bus .hold + more) (eq-eqb (d .bus .hold) 0 z)) h
 
-    ahead-held : eqb (d .bus .hold) 0 ≡ false → d .bus .hold + more + 255 ≤ b
-    ahead-held z = subst (λ (k : ℕ). k + 255 ≤ b) (if-false (more + 1 - n) (d .bus .hold + more) z) h
+    ahead-held : eqb (d .bus .hold) 0 ≡ false → d .bus .hold + more + most ≤ b
+    ahead-held z = subst (λ (k : ℕ). k + most ≤ b) (if-false (more + 1 - n) (d .bus .hold + more) z) h
 
-    hold-ahead : d .bus .hold + 255 ≤ b
+    hold-ahead : d .bus .hold + most ≤ b
     hold-ahead =
         split (eqb (d .bus .hold) 0)
         (λ z. let none = eqb-true (d .bus .hold) 0 z in let all = ahead-free none in omega arith)
@@ -209,16 +209,16 @@ module _ (m : Master) (more n b : ℕ) (r : Raw) (d : Device) (i : Owned d) (s :
         let no : isReset e ≡ false = sym (y .same λ f z. isReset f) ∙ ok in
         let count : x .bus .hold ≡ d .bus .hold - worth 1 (tick r d) = hold-next r d ok in
         let all = hold-ahead in
-        claim-place m Sole more (delayed m n r d) less x
+        claim-place m Sole most more (delayed m n r d) less x
         (subst (λ (z : Device). requests m z ≡ false → requests (partner m) z ≡ true → z .arb .turn ≡ awaits (partner m) Sole z) (sym (y .after))
         (claim-passes m e d no t) a q)
         (omega arith)
 
     -- m is granted: at a tick by the end of the hold, and else by its STOP
-    room : resting m x ≡ true → 255 + worth 1 (tick r d) ≤ b
+    room : resting m x ≡ true → most + worth 1 (tick r d) ≤ b
     room a = go (tick r d) refl
       where
-        go : (k : Bool) → tick r d ≡ k → 255 + worth 1 k ≤ b
+        go : (k : Bool) → tick r d ≡ k → most + worth 1 k ≤ b
         go false e = let all = hold-ahead in omega arith
         go true e =
             split (eqb (d .bus .hold) 0)
@@ -230,7 +230,7 @@ module _ (m : Master) (more n b : ℕ) (r : Raw) (d : Device) (i : Owned d) (s :
         let own : owns m x ≡ true = turn-owns m (x .arb .turn) u in
         let new = ap₂ (λ (a b : Bool). not a && b) (ap (ownsTurn m) t) own in
         let fresh : x .arb .reserve ≡ reserveOf m x = taken-fresh m r d new .0 .reserve in
-        let top = well m x own w .1 in
+        let top = well m most x own w .1 in
         let all = room a in
         theirs g u (omega arith)
 
@@ -250,18 +250,18 @@ module _ (m : Master) (more n b : ℕ) (r : Raw) (d : Device) (i : Owned d) (s :
         go false e f = absurd (f (sym (sub-zero (d .bus .hold)) ∙ sym (ap (λ (k : Bool). d .bus .hold - worth 1 k) e) ∙ sym (hold-next r d ok) ∙ z))
 
     -- so what stands ahead has become less by the tick
-    waits-held : eqb (x .bus .hold) 0 ≡ false → ahead more (x .bus .hold) (delayed m n r d) + 255 ≤ less
+    waits-held : eqb (x .bus .hold) 0 ≡ false → ahead more (x .bus .hold) (delayed m n r d) + most ≤ less
     waits-held z =
         let count : x .bus .hold ≡ d .bus .hold - worth 1 (tick r d) = hold-next r d ok in
         let some = eqb-false (x .bus .hold) 0 z in
         let all = ahead-held (ne-eqb (d .bus .hold) 0 (λ e. omega arith)) in
-        subst (λ (k : ℕ). k + 255 ≤ less) (sym (if-false (more + 1 - delayed m n r d) (x .bus .hold + more) z)) (omega arith)
+        subst (λ (k : ℕ). k + most ≤ less) (sym (if-false (more + 1 - delayed m n r d) (x .bus .hold + more) z)) (omega arith)
 
-    waits-free : x .arb .turn ≡ Claims m g → resting m x ≡ false → x .bus .hold ≡ 0 → ahead more (x .bus .hold) (delayed m n r d) + 255 ≤ less
+    waits-free : x .arb .turn ≡ Claims m g → resting m x ≡ false → x .bus .hold ≡ 0 → ahead more (x .bus .hold) (delayed m n r d) + most ≤ less
     waits-free u a z =
         let count : x .bus .hold ≡ d .bus .hold - worth 1 (tick r d) = hold-next r d ok in
         let so : delayed m n r d ≡ n + worth 1 (tick r d) = counted a u (open-before a z) in
-        subst (λ (k : ℕ). k + 255 ≤ less) (sym (if-true (more + 1 - delayed m n r d) (x .bus .hold + more) (eq-eqb (x .bus .hold) 0 z)))
+        subst (λ (k : ℕ). k + most ≤ less) (sym (if-true (more + 1 - delayed m n r d) (x .bus .hold + more) (eq-eqb (x .bus .hold) 0 z)))
         (split (eqb (d .bus .hold) 0)
         (λ e. let all = ahead-free (eqb-true (d .bus .hold) 0 e) in omega arith)
         (λ e. let some = eqb-false (d .bus .hold) 0 e in let all = ahead-held e in omega arith))
@@ -292,7 +292,7 @@ module _ (m : Master) (more n b : ℕ) (r : Raw) (d : Device) (i : Owned d) (s :
               (λ a. behind-gone e y a))
         ]
 
-  pub place-then : Place m more n b d → Then
+  pub place-then : Place m most more n b d → Then
   place-then (mine g t) = mine-then g t
   place-then (first g t h) = first-then g t h
   place-then (theirs g t h) = theirs-then g t h

@@ -24,7 +24,7 @@ served-from [] d h = h
 served-from (r ∷ rs) d h = served-from rs (next d r) (step-served d r h)
 
 -- What is said of the events xs and ys is said of xs, and of ys from where xs lead.
-never-both : (such : Raw → Device → Bool) (xs ys : List Raw) (d : Device) → never such d (xs ++ ys) ≡ true
+pub never-both : (such : Raw → Device → Bool) (xs ys : List Raw) (d : Device) → never such d (xs ++ ys) ≡ true
     → (never such d xs ≡ true) × (never such (runFrom d xs) ys ≡ true)
 unfolding runFrom never
 never-both such [] ys d h = (refl, h)

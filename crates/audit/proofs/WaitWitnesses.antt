@@ -17,7 +17,7 @@ use Rattle.arbiter.specs.Effects.{commanded, written, paired, wasRead, lined, t
 use Rattle.arbiter.specs.Order.{levels, lost, lossesFrom, losses, cutFrom, cut, winner, claim, granted, grantFrom, grant, joined, clocked, keptJoined, connectFrom, connect}
 use Rattle.arbiter.specs.Steps.{parts, ownerByte, linesByte, byteRead, refused, taken, stepEvent, stepDecoded, step, runFrom, run}
 use Rattle.arbiter.specs.AuditWords.{next, requests, resting, reset, tick, ticksIn, never, throughout}
-use Rattle.audit.specs.WorstWait.{reservesWell, delayed, stopsAfter, WorstWait}
+use Rattle.audit.specs.WorstWait.{reservesWithin, delayed, stopsAfter, WorstWaitWithin, WorstWait}
 use Rattle.audit.specs.WaitWitnesses.{goesThrough, isFree, worstWait, waitWitnesses, WaitWitnessesMeet}
 
 pub wait-witnesses-meet : WaitWitnessesMeet
@@ -31,30 +31,30 @@ wait-witnesses-meet Tpt29641 = refl
 
 -- ---- what is found in one pass are the premises of the statement
 
-record Passed (ends : ℕ → Device → Bool) (more : ℕ) (m : Master) (n ticks : ℕ) (d : Device) (rs : List Raw) : Type 0 where
+record Passed (ends : ℕ → Device → Bool) (most more : ℕ) (m : Master) (n ticks : ℕ) (d : Device) (rs : List Raw) : Type 0 where
   asks : throughout (requests (partner m)) d rs ≡ true
   resets : never reset d rs ≡ true
-  well : throughout (reservesWell m) d rs ≡ true
+  well : throughout (reservesWithin most m) d rs ≡ true
   stops : stopsAfter m more n d rs ≡ true
   end : ends (ticks + ticksIn d rs) (runFrom d rs) ≡ true
 
-passed : (ends : ℕ → Device → Bool) (more : ℕ) (m : Master) (n ticks : ℕ) (rs : List Raw) (d : Device) → goesThrough ends more m n ticks d rs ≡ true
-    → Passed ends more m n ticks d rs
+passed : (ends : ℕ → Device → Bool) (most more : ℕ) (m : Master) (n ticks : ℕ) (rs : List Raw) (d : Device) → goesThrough ends most more m n ticks d rs ≡ true
+    → Passed ends most more m n ticks d rs
 unfolding goesThrough throughout never stopsAfter ticksIn runFrom
-passed ends more m n ticks [] d h =
-    let outer = and-eq-true-iff (requests (partner m) d && reservesWell m d) (ends ticks d) .0 h in
-    let inner = and-eq-true-iff (requests (partner m) d) (reservesWell m d) .0 (outer .0) in
+passed ends most more m n ticks [] d h =
+    let outer = and-eq-true-iff (requests (partner m) d && reservesWithin most m d) (ends ticks d) .0 h in
+    let inner = and-eq-true-iff (requests (partner m) d) (reservesWithin most m d) .0 (outer .0) in
     record { asks = inner .0; resets = refl; well = inner .1; stops = refl; end = ap (λ (k : ℕ). ends k d) (add-zero ticks) ∙ outer .1 }
-passed ends more m n ticks (r ∷ rs) d h =
+passed ends most more m n ticks (r ∷ rs) d h =
     let p : Master = partner m in
     let x : Device = next d r in
     let late : Bool = ltb (delayed m n r d) (more + 2) in
-    let on : Bool = goesThrough ends more m (delayed m n r d) (ticks + worth 1 (tick r d)) x rs in
-    let four = and-eq-true-iff (requests p d && reservesWell m d && not (reset r d) && late) on .0 h in
-    let three = and-eq-true-iff (requests p d && reservesWell m d && not (reset r d)) late .0 (four .0) in
-    let two = and-eq-true-iff (requests p d && reservesWell m d) (not (reset r d)) .0 (three .0) in
-    let one = and-eq-true-iff (requests p d) (reservesWell m d) .0 (two .0) in
-    let rest = passed ends more m (delayed m n r d) (ticks + worth 1 (tick r d)) rs x (four .1) in
+    let on : Bool = goesThrough ends most more m (delayed m n r d) (ticks + worth 1 (tick r d)) x rs in
+    let four = and-eq-true-iff (requests p d && reservesWithin most m d && not (reset r d) && late) on .0 h in
+    let three = and-eq-true-iff (requests p d && reservesWithin most m d && not (reset r d)) late .0 (four .0) in
+    let two = and-eq-true-iff (requests p d && reservesWithin most m d) (not (reset r d)) .0 (three .0) in
+    let one = and-eq-true-iff (requests p d) (reservesWithin most m d) .0 (two .0) in
+    let rest = passed ends most more m (delayed m n r d) (ticks + worth 1 (tick r d)) rs x (four .1) in
     let sum : ticks + worth 1 (tick r d) + ticksIn x rs ≡ ticks + (worth 1 (tick r d) + ticksIn x rs) = omega arith in
     record {
       asks = ap₂ _&&_ (one .0) (rest .asks);
@@ -65,12 +65,24 @@ passed ends more m n ticks (r ∷ rs) d h =
     }
 
 -- and so, by the statement, what it concludes
-pub worst-wait-met : WorstWait → (k : Kind) (m : Master) (rs later : List Raw) → worstWait 0 290 k m rs later ≡ true
+pub worst-wait-within-met : WorstWaitWithin → (k : Kind) (m : Master) (rs later : List Raw) (most more : ℕ) → 1 ≤ most
+    → worstWait most more (35 + most + more) k m rs later ≡ true → owns (partner m) (runFrom (run k rs) later) ≡ true
+worst-wait-within-met told k m rs later most more some h =
+    let figure : ℕ = 35 + most + more in
+    let d : Device = run k rs in
+    let end : Device = runFrom d later in
+    let x = passed (λ (ticks : ℕ) (d : Device). isFree m d && leb figure ticks) most more m 0 0 later d h in
+    let long = and-eq-true-iff (isFree m end) (leb figure (0 + ticksIn d later)) .0 (x .end) in
+    let free = and-eq-true-iff (isIdle (end .bus)) (resting (partner m) end) .0 (long .0) in
+    let many : figure ≤ 0 + ticksIn d later = leb-true figure (0 + ticksIn d later) (long .1) in
+    told k m rs later most more some (omega arith) (x .asks) (x .resets) (x .well) (x .stops) (free .0) (free .1)
+
+pub worst-wait-met : WorstWait → (k : Kind) (m : Master) (rs later : List Raw) → worstWait 255 0 290 k m rs later ≡ true
     → owns (partner m) (runFrom (run k rs) later) ≡ true
 worst-wait-met told k m rs later h =
     let d : Device = run k rs in
     let end : Device = runFrom d later in
-    let x = passed (λ (ticks : ℕ) (d : Device). isFree m d && leb 290 ticks) 0 m 0 0 later d h in
+    let x = passed (λ (ticks : ℕ) (d : Device). isFree m d && leb 290 ticks) 255 0 m 0 0 later d h in
     let long = and-eq-true-iff (isFree m end) (leb 290 (0 + ticksIn d later)) .0 (x .end) in
     let free = and-eq-true-iff (isIdle (end .bus)) (resting (partner m) end) .0 (long .0) in
     let many : 290 ≤ 0 + ticksIn d later = leb-true 290 (0 + ticksIn d later) (long .1) in

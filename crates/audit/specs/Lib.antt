@@ -3,5 +3,7 @@ pub mod Freed
 pub mod Connection
 pub mod MoreWitnesses
 pub mod WorstWait
+pub mod SettingsKept
+pub mod WaitAsSet
 pub mod WaitWitnesses
 pub mod Answers

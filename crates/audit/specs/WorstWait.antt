@@ -10,9 +10,13 @@ use Rattle.arbiter.specs.AuditWords.{next, requests, resting, reserveOf, reset,
 
 -- ---- what is asked of the other master, m
 
+-- if it owns, its reserve is 1 to `most`
+abbrev pub reservesWithin : ℕ → Master → Device → Bool
+reservesWithin most m d = not (owns m d) || ltb 0 (reserveOf m d) && ltb (reserveOf m d) (most + 1)
+
 -- if it owns, its reserve is 1 to 255
 abbrev pub reservesWell : Master → Device → Bool
-reservesWell m d = not (owns m d) || ltb 0 (reserveOf m d) && ltb (reserveOf m d) 256
+reservesWell m d = reservesWithin 255 m d
 
 -- it has the claim and has not sent its STOP
 abbrev pub delays : Master → Device → Bool
@@ -32,21 +36,38 @@ sendsStops more m d rs = stopsAfter m more 0 d rs
 
 -- ---- the statement
 
--- From d on through `later` the request of m's partner stands, no reset comes, and m reserves well and sends its STOPs. If then the bus is
--- idle and the partner's port at rest, the partner owns.
-abbrev pub WaitIsOver : ℕ → Master → Device → List Raw → Type 0
-WaitIsOver more m d later =
+-- From d on through `later` the request of m's partner stands, no reset comes, and m reserves no more than `most` and sends its STOPs. If then
+-- the bus is idle and the partner's port at rest, the partner owns.
+abbrev pub WaitIsOverWithin : ℕ → ℕ → Master → Device → List Raw → Type 0
+WaitIsOverWithin most more m d later =
     let p : Master = partner m in
     let end : Device = runFrom d later in
-    throughout (requests p) d later ≡ true → never reset d later ≡ true → throughout (reservesWell m) d later ≡ true
+    throughout (requests p) d later ≡ true → never reset d later ≡ true → throughout (reservesWithin most m) d later ≡ true
     → sendsStops more m d later ≡ true → isIdle (end .bus) ≡ true → resting p end ≡ true → owns p end ≡ true
 
--- It is so after 290 ticks, whatever the run was before: 35 for a hold that still runs, and 255 for the longest reserve of a master that had
--- the claim before. (The reserve of the waiting one itself does not matter.)
+-- It is so after 35 ticks for a hold that still runs, `most` for the reserve of a master that had the claim before, and as many more as
+-- the claimant takes for its STOP, whatever the run was before. (The reserve of the waiting one itself does not matter.)
+abbrev pub WorstWaitWithin : Type 0
+WorstWaitWithin =
+    (k : Kind) (m : Master) (rs : List Raw) (later : List Raw) (most more : ℕ) → 1 ≤ most → 35 + most + more ≤ ticksIn (run k rs) later
+    → WaitIsOverWithin most more m (run k rs) later
+
+-- Where no hold runs, after `most` and one in which the claimant sends its STOP, or so many more.
+abbrev pub WorstWaitWithinUnheld : Type 0
+WorstWaitWithinUnheld =
+    (k : Kind) (m : Master) (rs : List Raw) (later : List Raw) (most more : ℕ) → 1 ≤ most → (run k rs) .bus .hold ≡ 0
+    → most + 1 + more ≤ ticksIn (run k rs) later → WaitIsOverWithin most more m (run k rs) later
+
+-- ---- at the longest reserve there is, 255
+
+abbrev pub WaitIsOver : ℕ → Master → Device → List Raw → Type 0
+WaitIsOver more m d later = WaitIsOverWithin 255 more m d later
+
+-- After 290 ticks: 35 and 255.
 abbrev pub WorstWait : Type 0
 WorstWait = (k : Kind) (m : Master) (rs : List Raw) (later : List Raw) → 290 ≤ ticksIn (run k rs) later → WaitIsOver 0 m (run k rs) later
 
--- Where no hold runs, after 256: one in which the claimant sends its STOP, and 255.
+-- Where no hold runs, after 256.
 abbrev pub WorstWaitUnheld : Type 0
 WorstWaitUnheld =
     (k : Kind) (m : Master) (rs : List Raw) (later : List Raw) → (run k rs) .bus .hold ≡ 0 → 256 ≤ ticksIn (run k rs) later
