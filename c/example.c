@@ -1,7 +1,7 @@
 /* Lists a trace, says in words what part it is for, who owns the bus at its end and why its claim was won, steps its events one by one on an
  * image of the device, writes the trace again, takes its part away as in an old trace and has it converted, asks for the bus on a shelf of
  * three arbiters, counts the bus share of some traces, and shows straps both ways. With a capture it says what that has for the device at 71h, and
- * with two order sheets what they order, and who owns the bus at the end if the two controllers start up in any order.
+ * with two order sheets what they order, how long each controller can wait, and who owns the bus if the two start up in any order.
  * Usage: example TRACE-FILE [CAPTURE-FILE [BOARD-SHEET HOUSE-SHEET]] */
 #include <stdio.h>
 #include <string.h>
@@ -21,6 +21,8 @@ static uint8_t text[GUNWALEISH_MOST_TEXT];
 static const char *const owners[4] = {"nobody", "master 0", "master 1", "?"};
 static const char *const grounds[4] = {"no claim", "sole requester", "priority", "last granted"};
 static const char *const parts[2] = {"PCA9641", "TPT29641"};
+static const char *const waits[4] = {", which is no figure: refused", " at most, behind a holder that sends its STOPs",
+                                     " at most, behind a silent holder on an idle bus alone", ", which is no figure: without limit"};
 static const char *const sections[3] = {"Downstream reserve, ms", "Priority", "Idle timer"};
 
 /* Whether the first bytes of what was written are those of the trace. */
@@ -42,8 +44,7 @@ static void show_converted(size_t length) {
     uint64_t refused = gunwaleish_run_trace(trace, old_length, answers, sizeof answers);
     uint64_t result = gunwaleish_convert_trace(trace, old_length, written, sizeof written);
     size_t again = gunwaleish_length(result);
-    printf("without its part: refused, number %u; converted: %zu bytes, %s\n", gunwaleish_number(refused), again,
-           compared(again, length));
+    printf("without its part: refused, number %u; converted: %zu bytes, %s\n", gunwaleish_number(refused), again, compared(again, length));
 }
 
 /* The four bytes of an answer as gunwaleish_image_step packs them. */
@@ -88,8 +89,7 @@ static void show_trace(size_t length) {
     if (events > 0) {
         const uint8_t *last = answers + 4 * (events - 1);
         uint8_t bus = last[GUNWALEISH_ANSWER_BUS];
-        printf("at the end the bus is owned by %s; ground of the claim: %s\n", owners[gunwaleish_owner(bus)],
-               grounds[gunwaleish_ground(bus)]);
+        printf("at the end the bus is owned by %s; ground of the claim: %s\n", owners[gunwaleish_owner(bus)], grounds[gunwaleish_ground(bus)]);
     }
     show_image(trace + GUNWALEISH_TRACE_HEAD, events, kind);
     show_written(length, events, kind);
@@ -112,8 +112,7 @@ static void show_pins(uint8_t address) {
     if (gunwaleish_number(packed) != GUNWALEISH_DONE) {
         printf("no strapping, number %u\n", gunwaleish_number(packed));
     } else {
-        printf("straps %u,%u,%u,%u\n", gunwaleish_pin(packed, 3), gunwaleish_pin(packed, 2), gunwaleish_pin(packed, 1),
-               gunwaleish_pin(packed, 0));
+        printf("straps %u,%u,%u,%u\n", gunwaleish_pin(packed, 3), gunwaleish_pin(packed, 2), gunwaleish_pin(packed, 1), gunwaleish_pin(packed, 0));
     }
 }
 
@@ -141,6 +140,25 @@ static void show_box(size_t board_length, size_t house_length, uint8_t section, 
     } else {
         printf("%u, house sheet\n", house[value_at]);
     }
+}
+
+/* How long a controller can wait behind the other, the holder, by two sheets of 15 bytes. */
+static void show_wait(uint8_t controller, uint8_t kind) {
+    uint64_t packed = gunwaleish_sheet_wait(board, GUNWALEISH_SHEET_BYTES, house, GUNWALEISH_SHEET_BYTES, controller, kind);
+    printf("controller %u on a %s waits, number %u: %u ms%s\n", controller, parts[kind], gunwaleish_number(packed), gunwaleish_wait_ticks(packed),
+           waits[gunwaleish_wait_grade(packed)]);
+}
+
+/* The waits by the sheets; then with 00h for controller 0 on the board sheet, its idle timer on and off; and of a controller that there is not. */
+static void show_waits(void) {
+    show_wait(0, GUNWALEISH_PCA9641);
+    show_wait(1, GUNWALEISH_PCA9641);
+    memcpy(board, "\2\1\0\1\24\2\0\0\0\0\2\1\1\0\0", GUNWALEISH_SHEET_BYTES);
+    show_wait(1, GUNWALEISH_PCA9641);
+    show_wait(1, GUNWALEISH_TPT29641);
+    board[12] = 0;
+    show_wait(1, GUNWALEISH_PCA9641);
+    show_wait(2, GUNWALEISH_PCA9641);
 }
 
 /* How many orders of two start-up scripts end with each owner, with no owner though somebody asks, and neither. */
@@ -186,6 +204,7 @@ static void show_sheets(size_t board_length, size_t house_length) {
     show_orders("master 1's last STOP forgotten", ordered, half, ordered + half, half - 4, SIZE_MAX);
     show_orders("with a byte missing", ordered, half, ordered + half, half - 1, SIZE_MAX);
     show_orders("all as one script", ordered, sizeof ordered, ordered, 0, SIZE_MAX);
+    show_waits();
 }
 
 /* The owner that a packed answer shows. */

@@ -77,6 +77,14 @@ enum gunwaleish_sheets {
     GUNWALEISH_HOUSE_SHEET = 2
 };
 
+/* What two order sheets promise a controller that waits, as gunwaleish_wait_grade gives it. The holder is the other controller. */
+enum gunwaleish_grades {
+    GUNWALEISH_NO_GRADE = 0,               /* the call is refused */
+    GUNWALEISH_WAIT_LIVE = 1,              /* bounded behind a live holder, one that sends its STOPs */
+    GUNWALEISH_WAIT_SILENT = 2,            /* bounded only behind a silent holder on an idle bus, while the holder's CONTR keeps its idle timer on */
+    GUNWALEISH_WAIT_UNBOUNDED = 3          /* not bounded: the holder's reserve is without limit and its idle timer off */
+};
+
 /* The bytes of an order sheet: three sections, each with the count 2 and a box for each controller. A box is two bytes, its tick and its
  * value, which is 0 where it is not ticked. Then the events that a complete pair of sheets orders, and their bytes. */
 #define GUNWALEISH_SHEET_BYTES 15
@@ -209,6 +217,16 @@ uint64_t gunwaleish_sheet_box(const uint8_t *board, size_t board_len, const uint
 uint64_t gunwaleish_sheet_events(const uint8_t *board, size_t board_len, const uint8_t *house, size_t house_len, uint8_t *events,
                                  size_t events_len);
 
+/* How long a controller (0 or 1) can wait by a complete pair of sheets, on a part of this kind. The result is packed: number + 256 * the grade +
+ * 65536 * the ticks, a millisecond each. What counts is what is ordered for the other controller, the holder: with a reserve of 1 to 255 the grade is
+ * 1, and the ticks are the reserve and one; with 00h, which is without limit, the grade is 2 and the ticks are the part's idle limit, 101 or 151,
+ * counted from the holder's grant, if its idle timer is ordered on, and else the grade is 3 and the ticks are 0, which is no figure. The waiting
+ * one's request stands all that time, no reset comes and the holder's RT is not written anew; docs/SHEETS.md has it in full. Refusals: those of
+ * the sheets, as above; then 15 for the controller, 3 for the kind of part, 14 if one of the six boxes is ticked on neither. Grade and ticks are 0
+ * then. */
+uint64_t gunwaleish_sheet_wait(const uint8_t *board, size_t board_len, const uint8_t *house, size_t house_len, uint8_t controller,
+                               uint8_t kind);
+
 /* A device that stands between its events is an image of 38 bytes in a buffer of the caller's. Nothing else is kept anywhere. Make it with
  * gunwaleish_image_fresh; the calls keep every field in its range, so 16 tells that something else wrote there. A refusal leaves the buffer as
  * it was. Refusals, in this order: 9 if the buffer has another length than 38, 16 if a field is outside its range, then the call's own. */
@@ -322,6 +340,15 @@ static inline size_t gunwaleish_offset(uint64_t packed) {
 /* Out of what gunwaleish_sheet_events gave. */
 static inline size_t gunwaleish_ordered(uint64_t packed) {
     return (size_t)(packed >> 8);
+}
+
+/* A GUNWALEISH_WAIT_ of the above, and the ticks, out of what gunwaleish_sheet_wait gave. */
+static inline unsigned gunwaleish_wait_grade(uint64_t packed) {
+    return (unsigned)(packed >> 8 & 0xff);
+}
+
+static inline unsigned gunwaleish_wait_ticks(uint64_t packed) {
+    return (unsigned)(packed >> 16 & 0xffff);
 }
 
 /* One byte of the answer that gunwaleish_image_step, gunwaleish_shelf_step or gunwaleish_shelf_show gave, by its place, a GUNWALEISH_ANSWER_ of the above. There are four. */

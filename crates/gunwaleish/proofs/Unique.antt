@@ -9,6 +9,7 @@ use Rattle.gunwaleish.proofs.gunwaleish_listing.Reads as gunwaleish-lis
 use Rattle.gunwaleish.proofs.gunwaleish_import_capture.Reads as gunwaleish-import-capture
 use Rattle.gunwaleish.proofs.gunwaleish_sheet_box.Reads as gunwaleish-sheet-box
 use Rattle.gunwaleish.proofs.gunwaleish_sheet_events.Reads as gunwaleish-sheet-events
+use Rattle.gunwaleish.proofs.gunwaleish_sheet_wait.Reads as gunwaleish-sheet-wait
 use Rattle.gunwaleish.proofs.gunwaleish_image_fresh.Reads as gunwaleish-image-fresh
 use Rattle.gunwaleish.proofs.gunwaleish_image_step.Reads as gunwaleish-image-step
 use Rattle.gunwaleish.proofs.gunwaleish_image_advance.Reads as gunwaleish-image-advance
@@ -42,6 +43,9 @@ gunwaleish-sheet-box-once κ a x y s t p q = once p q
 
 pub gunwaleish-sheet-events-once : OneLeft (λ κ s. now (s .1 .1 .0)) gunwaleish-sheet-events.Post
 gunwaleish-sheet-events-once κ a x y s t p q = (once (p .0) (q .0), once (p .1) (q .1))
+
+pub gunwaleish-sheet-wait-once : OneResult gunwaleish-sheet-wait.Post
+gunwaleish-sheet-wait-once κ a x y s t p q = once p q
 
 pub gunwaleish-image-fresh-once : OneLeft (λ κ s. now (s .1 .0)) gunwaleish-image-fresh.Post
 gunwaleish-image-fresh-once κ a x y s t p q = (once (p .0) (q .0), once (p .1) (q .1))

@@ -16,12 +16,13 @@ ghost use Rattle.rowimage.specs.Calls.{rowAnswer, rowBuffer, rowShown};
 ghost use Rattle.rowimage.specs.Slots.{freshRowNumber, freshRowBuffer};
 ghost use Rattle.sheets.specs.Sheets.{placeOf};
 ghost use Rattle.sheets.specs.Orders.{ordered, orderedBuffer};
+ghost use Rattle.sheets.specs.Waits.{waitOf};
 ghost use Rattle.share.specs.Lent.{lentNumber, lentAfter, joinNumber, joinAfter};
 ghost use Rattle.packing.specs.Packed.{packedAnswer};
 ghost use Rattle.packed_captures.specs.Packed.{packedImport};
 ghost use Rattle.packed_images.specs.Packed.{packedShown, packedTold};
 ghost use Rattle.packed_orders.specs.Packed.{packedListed};
-ghost use Rattle.packed_sheets.specs.Packed.{packedBox, packedOrder};
+ghost use Rattle.packed_sheets.specs.Packed.{packedBox, packedOrder, packedWait};
 ghost use Rattle.packed_straps.specs.Packed.{packedAddress, packedPins};
 ghost use Rattle.packed_traces.specs.Packed.{packedReport, packedWritten};
 
@@ -98,6 +99,14 @@ pub extern "C" fn gunwaleish_sheet_events(board: &[u8], house: &[u8], events: &m
     ensures { λ r. ⌜ (r ≡ packedOrder (ordered (now (board .entry)) (now (house .entry)) (now (events .entry)))) × (now (events .exit) ≡ orderedBuffer (now (board .entry)) (now (house .entry)) (now (events .entry))) ⌝ }
 {
     packed_sheets::packed_events(board, house, events)
+}
+
+// How long a controller can wait by a board sheet and a house sheet, on a part of this kind.
+#[no_mangle]
+pub extern "C" fn gunwaleish_sheet_wait(board: &[u8], house: &[u8], controller: u8, kind: u8) -> u64
+    ensures { λ r. ⌜ r ≡ packedWait (waitOf controller kind (now (board .entry)) (now (house .entry))) ⌝ }
+{
+    packed_sheets::packed_wait(board, house, controller, kind)
 }
 
 // ---- a device as an image in a lent buffer

@@ -1,13 +1,15 @@
-// Order sheets for Rust and C: where a box is taken from and what is ordered, packed in one number.
+// Order sheets for Rust and C: where a box is taken from, what is ordered and how long a controller can wait, packed in one number.
 ghost use mathlib.Core.Path.{_≡_};
 ghost use Rattle.sheets.specs.Sheets.{placeOf};
 ghost use Rattle.sheets.specs.Orders.{ordered, orderedBuffer};
-ghost use Rattle.packed_sheets.specs.Packed.{packedBox, packedOrder};
+ghost use Rattle.sheets.specs.Waits.{waitOf};
+ghost use Rattle.packed_sheets.specs.Packed.{packedBox, packedOrder, packedWait};
 use packing::long_of;
 use sheets::Place;
 use sheets::lookup::place_of;
 use sheets::orders::order_events;
 use sheets::sheet::fault_number;
+use sheets::waits::wait_of;
 
 // Where the box of a section and a controller is taken from, of a board sheet and a house sheet.
 pub fn packed_box(board: &[u8], house: &[u8], section: u8, controller: u8) -> u64
@@ -27,4 +29,12 @@ pub fn packed_events(board: &[u8], house: &[u8], events: &mut [u8]) -> u64
 {
     let told = order_events(board, house, events);
     long_of(told.number) + 256 * (told.count as u64)
+}
+
+// How long a controller can wait by a board sheet and a house sheet, on a part of this kind.
+pub fn packed_wait(board: &[u8], house: &[u8], controller: u8, kind: u8) -> u64
+    ensures { λ r. ⌜ r ≡ packedWait (waitOf controller kind (now (board .entry)) (now (house .entry))) ⌝ }
+{
+    let told = wait_of(board, house, controller, kind);
+    long_of(told.number) + 256 * long_of(told.grade) + 65536 * (told.ticks as u64)
 }

@@ -3,9 +3,12 @@
 use mathlib.Core.Path.{refl}
 use Rattle.sheets.specs.Sheets.{countsRight, boxRight, flagRight, boxesRight, checkSheet, checkPair, placeAt, boxOn, placeOf, partOf}
 use Rattle.sheets.specs.Orders.{tickedOnEither, isComplete, valueAt, settingOf, orderOf, controlByte, orderEvents, readComplete, readOrder, orderedOf, bufferOf, ordered, orderedBuffer}
-use Rattle.sheets.specs.Examples.{lookups, calls, ExamplesHold}
+use Rattle.arbiter.specs.Rules.{rulesOf}
+use Rattle.sheets.specs.Waits.{waitBehind, waitOn, waitOf}
+use Rattle.sheets.specs.Examples.{lookups, calls, waits, ExamplesHold}
 
 pub examples-hold : ExamplesHold
 unfolding countsRight boxRight flagRight boxesRight checkSheet checkPair placeAt boxOn placeOf partOf tickedOnEither isComplete valueAt settingOf orderOf
-    controlByte orderEvents readComplete readOrder orderedOf bufferOf ordered orderedBuffer lookups calls
-examples-hold = (refl, refl)
+    controlByte orderEvents readComplete readOrder orderedOf bufferOf ordered orderedBuffer lookups calls rulesOf waitBehind waitOn waitOf
+    waits
+examples-hold = (refl, refl, refl)

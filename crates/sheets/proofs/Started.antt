@@ -99,17 +99,17 @@ and-false : (a : Bool) → a && false ≡ false
 and-false true = refl
 and-false false = refl
 
-unexpired : (k : Kind) (s : Side) (n : ℕ) (b : Bus) → n ≡ s .rt → b .idle ≡ 0 → runsOut (limitOf k) s n b ≡ false
+pub unexpired : (k : Kind) (s : Side) (n : ℕ) (b : Bus) → n ≡ s .rt → b .idle ≡ 0 → runsOut (limitOf k) s n b ≡ false
 unexpired k s n b whole none =
     either (λ (x : Bool). x ≡ false) (eqb (s .rt) 0)
     (λ _. ap (λ (c : ℕ). s .contr .idletimer && eqb c (limitOf k)) none ∙ ap (λ (t : Bool). s .contr .idletimer && t) (limit-some k) ∙ and-false (s .contr .idletimer))
     (λ no. ap (λ (c : ℕ). eqb c 0 && isIdle b) whole ∙ ap (λ (t : Bool). t && isIdle b) no)
 
-abbrev owned : Turn → Device → Device
+abbrev pub owned : Turn → Device → Device
 owned t d = withArb (withTurn t (d .arb)) d
 
 -- so parts 3 to 7 leave everything, and the switch stays open.
-parts-owned : (d : Device) → d .arb .reserve ≡ d .side0 .rt → d .bus .idle ≡ 0 → d .side0 .contr .busconnect ≡ false
+pub parts-owned : (d : Device) → d .arb .reserve ≡ d .side0 .rt → d .bus .idle ≡ 0 → d .side0 .contr .busconnect ≡ false
     → let x : Device = owned (Owns Zero Sole) d in connect NoClock (grant (claim (cut false (losses x)))) ≡ switched Apart x
 unfolding losses lossesFrom cut cutFrom claim grant grantFrom connect connectFrom
 parts-owned d whole none off =
@@ -120,33 +120,33 @@ parts-owned d whole none off =
 -- ---- master 1's events
 
 -- what such an event leaves
-abbrev left : Event → Device → Device
+abbrev pub left : Event → Device → Device
 left e d = switched Apart (mid e d)
 
-levels-none : (before : Bus) (d : Device) → d .bus .idle ≡ 0 → (levels false before d) .bus .idle ≡ 0
+pub levels-none : (before : Bus) (d : Device) → d .bus .idle ≡ 0 → (levels false before d) .bus .idle ≡ 0
 unfolding levels
 levels-none before d none = either (λ (n : ℕ). n ≡ 0) (not (busyAfter false before (d .bus)) && sclHigh (d .bus) && sdaHigh (d .bus)) (λ _. none) (λ _. refl)
 
 -- the six devices after its six events, from one that master 0 owns
-abbrev x0 : Device → Device
+abbrev pub x0 : Device → Device
 x0 d = owned (Owns Zero Sole) d
 
-abbrev x1 : Device → Device
+abbrev pub x1 : Device → Device
 x1 d = left (Command One 0x03) (x0 d)
 
-abbrev x2 : Setting → Device → Device
+abbrev pub x2 : Setting → Device → Device
 x2 s d = left (Write One (s .reserve)) (x1 d)
 
-abbrev x3 : Setting → Device → Device
+abbrev pub x3 : Setting → Device → Device
 x3 s d = left (Stop One) (x2 s d)
 
-abbrev x4 : Setting → Device → Device
+abbrev pub x4 : Setting → Device → Device
 x4 s d = left (Command One 0x01) (x3 s d)
 
-abbrev x5 : Setting → Device → Device
+abbrev pub x5 : Setting → Device → Device
 x5 s d = left (Write One (controlByte s)) (x4 s d)
 
-abbrev x6 : Setting → Device → Device
+abbrev pub x6 : Setting → Device → Device
 x6 s d = left (Stop One) (x5 s d)
 
 second-led : (d : Device) (s : Setting) → d .arb .reserve ≡ d .side0 .rt → d .bus .idle ≡ 0 → d .side0 .contr .busconnect ≡ false
@@ -168,6 +168,27 @@ second-led d s whole none off =
     ∙ ap done (seen-more (x3 s d) (x4 s d) (command 1 0x01) (r5 ∷ stop 1 ∷ []) (parts-owned (mid (Command One 0x01) (x3 s d)) whole n4 off) refl
     ∙ ap done (seen-more (x4 s d) (x5 s d) r5 (stop 1 ∷ []) (parts-owned (mid (Write One (controlByte s)) (x4 s d)) whole n5 off) refl
     ∙ ap done (seen-more (x5 s d) (x6 s d) (stop 1) [] (parts-owned (mid (Stop One) (x5 s d)) whole n6 off) refl)))))
+
+-- So the device after them is the sixth.
+pub second-device : (d : Device) (s : Setting) → d .arb .reserve ≡ d .side0 .rt → d .bus .idle ≡ 0 → d .side0 .contr .busconnect ≡ false
+    → runFrom (x0 d) (settingEvents 1 s) ≡ x6 s d
+unfolding ownWritten mailWritten drivesWritten turnWritten decode inSequence acknowledged outcome commanded written effect levels
+    parts taken stepEvent stepDecoded step runFrom
+second-device d s whole none off =
+    let n1 = levels-none (x0 d .bus) (effect (Command One 0x03) (x0 d)) none in
+    let n2 = levels-none (x1 d .bus) (effect (Write One (s .reserve)) (x1 d)) n1 in
+    let n3 = levels-none (x2 s d .bus) (effect (Stop One) (x2 s d)) n2 in
+    let n4 = levels-none (x3 s d .bus) (effect (Command One 0x01) (x3 s d)) n3 in
+    let n5 = levels-none (x4 s d .bus) (effect (Write One (controlByte s)) (x4 s d)) n4 in
+    let n6 = levels-none (x5 s d .bus) (effect (Stop One) (x5 s d)) n5 in
+    let r2 : Raw = write 1 (s .reserve) in
+    let r5 : Raw = write 1 (controlByte s) in
+    ap (λ (x : Device). runFrom x (r2 ∷ stop 1 ∷ command 1 0x01 ∷ r5 ∷ stop 1 ∷ [])) (parts-owned (mid (Command One 0x03) (x0 d)) whole n1 off)
+    ∙ ap (λ (x : Device). runFrom x (stop 1 ∷ command 1 0x01 ∷ r5 ∷ stop 1 ∷ [])) (parts-owned (mid (Write One (s .reserve)) (x1 d)) whole n2 off)
+    ∙ ap (λ (x : Device). runFrom x (command 1 0x01 ∷ r5 ∷ stop 1 ∷ [])) (parts-owned (mid (Stop One) (x2 s d)) whole n3 off)
+    ∙ ap (λ (x : Device). runFrom x (r5 ∷ stop 1 ∷ [])) (parts-owned (mid (Command One 0x01) (x3 s d)) whole n4 off)
+    ∙ ap (λ (x : Device). runFrom x (stop 1 ∷ [])) (parts-owned (mid (Write One (controlByte s)) (x4 s d)) whole n5 off)
+    ∙ parts-owned (mid (Stop One) (x5 s d)) whole n6 off
 
 abbrev last : Device → ℕ → Bool → Bool → Seen
 last d r p i = seen (x6 (setting r p i) d) []

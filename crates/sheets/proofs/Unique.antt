@@ -11,6 +11,7 @@ use Rattle.sheets.proofs.lookup.place_of.Reads as place-of
 use Rattle.sheets.proofs.orders.order_events.Reads as order-events
 use Rattle.sheets.proofs.sheet.check_pair.Reads as check-pair
 use Rattle.sheets.proofs.sheet.fault_number.Reads as fault-number
+use Rattle.sheets.proofs.waits.wait_of.Reads as wait-of
 
 -- Of a part that is handed back, where it lies and its bytes: its ghost name, by which the prover follows it, is nothing of the program's.
 module _ {ℓ₁ ℓ₂ ℓ₃} {K : Type ℓ₁} {A : K → Type ℓ₂} {S : K → Type ℓ₃} where
@@ -34,3 +35,6 @@ fault-number-once κ a x y s t p q = once p q
 
 pub order-events-once : OneLeft (λ κ s. now (s .1 .1 .0)) order-events.Post
 order-events-once κ a x y s t p q = (once (p .0) (q .0), once (p .1) (q .1))
+
+pub wait-of-once : OneResult wait-of.Post
+wait-of-once κ a x y s t p q = once p q

@@ -1,4 +1,4 @@
--- Small pairs of sheets, with what is found on them and the events of one, as tables that antt computes: proofs/Examples.antt.
+-- Small pairs of sheets, with what is found on them, the events of one and the waits by several, as tables that antt computes: proofs/Examples.antt.
 -- Assumes nothing.
 use Prim.Native.Nat.{ℕ}
 use mathlib.Core.Path.{_≡_}
@@ -6,7 +6,9 @@ use mathlib.Core.List.{List, [], _∷_, _++_, map}
 use lib.ListN.{take, drop, replicate}
 use Rattle.sheets.specs.declared.Place.{Place}
 use Rattle.sheets.specs.Sheets.{placeOf, placeNumber, partOf}
+use Rattle.sheets.specs.declared.Wait.{Wait}
 use Rattle.sheets.specs.Orders.{ordered, orderedBuffer}
+use Rattle.sheets.specs.Waits.{waitOf}
 
 -- ---- sheets
 
@@ -110,9 +112,48 @@ calls =
     ∷ call bare (take 14 house) 0 5 0 []
     ∷ []
 
+-- ---- waits
+
+-- by these sheets, of a controller, on a part of this kind: number, grade and ticks
+pub record Told : Type 0 where
+  pub found : Wait
+  pub paper : Wait
+
+abbrev pub told : List ℕ → List ℕ → ℕ → ℕ → ℕ → ℕ → ℕ → Told
+told b h controller kind number grade ticks =
+    record { found = waitOf controller kind b h; paper = record { number = number; grade = grade; ticks = ticks } }
+
+-- this reserve and idle setting for controller 0, and 20 with the idle timer on for controller 1
+abbrev pub holding : List ℕ → List ℕ → List ℕ
+holding reserve idle = sheet reserve (filled 20) (filled 1) (filled 1) idle (filled 1)
+
+unfoldable pub waits : List Told
+waits =
+    -- each controller waits behind the other's box: the board sheet's 30, the house sheet's 20
+    told board house 1 0 0 1 31
+    ∷ told board house 0 0 0 1 21
+    ∷ told board house 1 1 0 1 31
+    -- the least and the most reserve, whatever the idle box says
+    ∷ told (holding (filled 1) (filled 0)) bare 1 0 0 1 2
+    ∷ told (holding (filled 255) (filled 1)) bare 1 1 0 1 256
+    -- 00h: the idle limit of the part with the idle timer on, and no figure with it off
+    ∷ told (holding (filled 0) (filled 1)) bare 1 0 0 2 101
+    ∷ told (holding (filled 0) (filled 1)) bare 1 1 0 2 151
+    ∷ told (holding (filled 0) (filled 0)) bare 1 0 0 3 0
+    ∷ told (holding (filled 0) (filled 0)) bare 0 0 0 1 21
+    -- an empty box: 14, and of the controller behind whom the boxes are whole too
+    ∷ told box14Empty bare 1 0 14 0 0
+    ∷ told box14Empty bare 0 0 14 0 0
+    -- no such controller before no such kind, that before an empty box, and a faulty sheet before all
+    ∷ told box14Empty bare 2 2 15 0 0
+    ∷ told box14Empty bare 1 2 3 0 0
+    ∷ told board (take 14 house) 2 2 5 0 0
+    ∷ []
+
 -- ---- the one statement
 
 abbrev pub ExamplesHold : Type 0
 ExamplesHold =
     (map (λ (r : Row). r .found) lookups ≡ map (λ (r : Row). r .paper) lookups)
     × (map (λ (c : Call). c .found) calls ≡ map (λ (c : Call). c .paper) calls)
+    × (map (λ (t : Told). t .found) waits ≡ map (λ (t : Told). t .paper) waits)

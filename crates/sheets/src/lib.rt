@@ -1,8 +1,9 @@
-// The order sheet. Which bytes are a sheet is in `sheet`, a box looked up on a board sheet and a house sheet in `lookup`, and the events that a
-// complete pair of sheets orders in `orders`.
+// The order sheet. Which bytes are a sheet is in `sheet`, a box looked up on a board sheet and a house sheet in `lookup`, the events that a
+// complete pair of sheets orders in `orders`, and how long each controller can wait by them in `waits`.
 pub mod lookup;
 pub mod orders;
 pub mod sheet;
+pub mod waits;
 
 // Why a pair of sheets is refused: a sheet under 15 bytes, a count that is not 2, a box out of range, bytes after a sheet's end; no such
 // section or controller, a box unticked on both sheets, no room for the events.
@@ -52,4 +53,12 @@ pub enum OrderRead {
 pub struct Ordered {
     pub number: u8,
     pub count: usize,
+}
+
+// How long a controller can wait: 0, the grade of what is promised to it (1 behind a live holder, 2 behind a silent one alone, 3 nothing) and the
+// ticks of that, 0 for grade 3; or the refusal's number, 0 and 0.
+pub struct Wait {
+    pub number: u8,
+    pub grade: u8,
+    pub ticks: u16,
 }

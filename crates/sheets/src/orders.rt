@@ -24,7 +24,7 @@ fn ticked_on_either(board: &[u8], house: &[u8], at: usize) -> bool
     (board[at] == 1) | (house[at] == 1)
 }
 
-fn is_complete(board: &[u8], house: &[u8]) -> bool
+pub(crate) fn is_complete(board: &[u8], house: &[u8]) -> bool
     requires { ⌜ (15 ≤ length (now board)) × (15 ≤ length (now house)) ⌝ }
     ensures { λ r. ⌜ r ≡ isComplete (now (board .entry)) (now (house .entry)) ⌝ }
 {
@@ -48,7 +48,7 @@ fn value_at(board: &[u8], house: &[u8], at: usize) -> u8
     }
 }
 
-fn setting_of(board: &[u8], house: &[u8], controller: usize) -> Setting
+pub(crate) fn setting_of(board: &[u8], house: &[u8], controller: usize) -> Setting
     requires { ⌜ (controller < 2) × (15 ≤ length (now board)) × (15 ≤ length (now house)) ⌝ }
     ensures { λ r. ⌜ r ≡ settingOf controller (now (board .entry)) (now (house .entry)) ⌝ }
 {

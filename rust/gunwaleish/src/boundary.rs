@@ -62,6 +62,14 @@ extern "C" {
         events: *mut u8,
         events_len: usize,
     ) -> u64;
+    fn gunwaleish_sheet_wait(
+        board: *const u8,
+        board_len: usize,
+        house: *const u8,
+        house_len: usize,
+        controller: u8,
+        kind: u8,
+    ) -> u64;
     fn gunwaleish_image_fresh(kind: u8, image: *mut u8, image_len: usize) -> u32;
     fn gunwaleish_image_step(
         kind: u8,
@@ -185,6 +193,15 @@ pub fn sheet_events(board: &[u8], house: &[u8], events: &mut [u8]) -> u64 {
         let (to, to_len) = (events.as_mut_ptr(), events.len());
         gunwaleish_sheet_events(board, board_len, house, house_len, to, to_len)
     }
+}
+
+/// The number, then the grade (1 live, 2 silent, 3 unbounded) and the ticks, packed as 1, 256 and
+/// 65536. A refusal has 0 above its number.
+pub fn sheet_wait(board: &[u8], house: &[u8], controller: u8, kind: u8) -> u64 {
+    let (board, board_len) = (board.as_ptr(), board.len());
+    let (house, house_len) = (house.as_ptr(), house.len());
+    // SAFETY: see the head of this file.
+    unsafe { gunwaleish_sheet_wait(board, board_len, house, house_len, controller, kind) }
 }
 
 /// The number. The buffer has the image of a fresh device of this kind, or is as it was.

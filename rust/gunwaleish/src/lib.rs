@@ -28,8 +28,8 @@
 //! ```
 //!
 //! Where the events of a start-up come from is an order sheet: `sheet_box` looks up a box on a board
-//! sheet and a house sheet, and `sheet_events` gives the events that they order. An empty box is
-//! refused, and never becomes a value.
+//! sheet and a house sheet, `sheet_events` gives the events that they order, and `sheet_wait` tells how
+//! long a controller can wait by them. An empty box is refused, and never becomes a value.
 //!
 //! A `Device` stands between its events and is stepped one by one. It is the image of 38 bytes that a
 //! microcontroller keeps, so it can be kept as bytes too. Over quiet time it advances by many ticks at
@@ -61,6 +61,7 @@ mod run;
 mod share;
 mod sheet;
 mod shelf;
+mod wait;
 mod writing;
 
 pub use answer::{Answer, Bus, Ground, Outcome};
@@ -77,6 +78,7 @@ pub use sheet::{
     sheet_box, sheet_events, sheet_events_into, Found, Section, Sheet, SHEET_EVENTS, SHEET_LENGTH,
 };
 pub use shelf::{Shelf, MOST_RECORDS, RECORD_LENGTH};
+pub use wait::{sheet_wait, Wait};
 pub use writing::{convert_trace, convert_trace_into, write_trace, write_trace_into};
 
 /// The most events a trace may have.

@@ -117,6 +117,12 @@ fn device(part: Part) -> Device {
     Device { address: 0x71, pins: Pins { ad3: 0, ad2: 0, ad1: 0, ad0: 1 }, part }
 }
 
+/// The line that says when controller 1 has its turn after the start.
+fn turn_in(text: &str) -> &str {
+    let mut lines = text.lines().skip_while(|line| !line.starts_with("After them controller 0"));
+    lines.nth(1).expect("no line of the turn")
+}
+
 /// The words say when controller 1 is granted the bus after the start; a run on an idle bus shows it.
 #[test]
 fn the_turn_comes_as_it_is_told() {
@@ -132,7 +138,7 @@ fn the_turn_comes_as_it_is_told() {
                 (0, _, _) => (", at 151 on a TPT29641.".to_string(), Some(151)),
                 _ => (format!(" at tick {reserve} after the start"), Some(reserve.into())),
             };
-            assert!(text.lines().last().unwrap().contains(&said), "{text}");
+            assert!(turn_in(&text).contains(&said), "{text}");
             let script = make(&board, &rest, Wanted::Script(device(part))).output.unwrap();
             let bytes = [script, b"tick 400\n".to_vec()].concat();
             let trace = compose(&Input { name: String::new(), bytes }).output.unwrap();

@@ -20,7 +20,9 @@ pub const COMMAND: Command = Command {
            output says of each box what is ordered and from which sheet: the board sheet's if it is\n\
            ticked there, else the house sheet's. A box that is ticked on neither is empty and never\n\
            becomes a value: all empty boxes are named, and the pair is refused with 14. A ticked\n\
-           reserve of 0 is an order, without limit.\n\n\
+           reserve of 0 is an order, without limit. Of a complete pair it says how long each controller\n\
+           can wait for the bus, on either part, and of a priority or an idle timer ticked 1 which CONTR\n\
+           byte keeps it when the controller connects.\n\n\
            With a device, named by its address or the codes of its pins and by its part, PCA9641 or\n\
            TPT29641, the output is not the words but a trace: the twelve events that start the shelf.\n\
            They fit a fresh device. With --script it is their script, to which tick and lines are\n\

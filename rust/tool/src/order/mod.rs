@@ -1,14 +1,17 @@
 //! What two order sheets order, box by box. Document 02, #106.
 //!
-//! The library says which boxes there are, from which sheet each comes, and what is refused. Here it
-//! is put into words: `words` for what is ordered, `faults` for a sheet that is none.
+//! The library says which boxes there are, from which sheet each comes, how long the controllers can
+//! wait by them, and what is refused. Here it is put into words: `words` for what is ordered, `lasting`
+//! for the boxes that do not last, `waits` for the waits, `faults` for a sheet that is none.
 
 pub mod faults;
+mod lasting;
+mod waits;
 pub mod words;
 
 use std::fmt;
 
-use gunwaleish::{sheet_box, Found, Master, Refusal, Section};
+use gunwaleish::{sheet_box, sheet_wait, Found, Master, Part, Refusal, Section, Wait};
 
 /// One of the six boxes, by the name that the form has for it.
 #[derive(Clone, Copy, Debug, PartialEq, Eq)]
@@ -47,13 +50,24 @@ pub struct Entry {
 #[derive(Clone, Debug, PartialEq, Eq)]
 pub struct Order {
     pub entries: Vec<Entry>,
+    /// How long each controller can wait, where no box is empty.
+    pub waits: Vec<Waiting>,
+}
+
+/// How long a controller can wait, on each part.
+#[derive(Clone, Copy, Debug, PartialEq, Eq)]
+pub struct Waiting {
+    pub controller: Master,
+    pub on: [(Part, Wait); 2],
 }
 
 impl Order {
     /// Looks up every box. Empty boxes are no refusal here: all of them are to be named.
     pub fn read(board: &[u8], house: &[u8]) -> Result<Order, Refusal> {
         let entries = BoxName::all().map(|name| entry(name, board, house));
-        Ok(Order { entries: entries.collect::<Result<_, _>>()? })
+        let waits =
+            Master::BOTH.into_iter().filter_map(|master| waiting(master, board, house).ok());
+        Ok(Order { entries: entries.collect::<Result<_, _>>()?, waits: waits.collect() })
     }
 
     /// What a box orders.
@@ -83,4 +97,10 @@ fn look_up(name: BoxName, board: &[u8], house: &[u8]) -> Result<Option<Found>, R
         Err(Refusal::EmptyBox) => Ok(None),
         found => found.map(Some),
     }
+}
+
+fn waiting(controller: Master, board: &[u8], house: &[u8]) -> Result<Waiting, Refusal> {
+    let [first, second] =
+        Part::BOTH.map(|part| sheet_wait(board, house, controller, part).map(|wait| (part, wait)));
+    Ok(Waiting { controller, on: [first?, second?] })
 }

@@ -2,16 +2,20 @@
 
 use gunwaleish::{Master, Part, Section};
 
-use super::{BoxName, Entry, Order};
+use super::{lasting, waits, BoxName, Entry, Order};
 use crate::story::idle_limit;
 use crate::words::{count, ticks};
 
-/// The six boxes a line each, with the sheet that each comes from before it, and what comes of the
-/// order.
+/// The six boxes a line each, with the sheet that each comes from before it; those that do not last;
+/// and what comes of the order.
 pub fn told(order: &Order) -> String {
     let mut text = String::new();
     for entry in &order.entries {
         text.push_str(&format!("{:<11}  {}\n", from(entry), in_words(order, entry)));
+    }
+    let lasting = lasting::told(order);
+    if !lasting.is_empty() {
+        text.push_str(&format!("\n{lasting}"));
     }
     text.push_str(&format!("\n{}\n", outcome(order)));
     text
@@ -75,8 +79,8 @@ fn idle_limits() -> String {
     format!("at {at_first} idle ticks on a {first}, at {at_second} on a {second}")
 }
 
-/// What comes of the order, a sentence a line: the start, and when the one that waits has its turn;
-/// or no events.
+/// What comes of the order: the start, when the one that waits then has its turn, and how long each can
+/// wait from then on; or no events.
 fn outcome(order: &Order) -> String {
     let empty = order.empty().count();
     if empty > 0 {
@@ -88,9 +92,10 @@ fn outcome(order: &Order) -> String {
     }
     format!(
         "Complete: {} start the shelf, on a device fresh from power-up.\n\
-         After them controller 0, which asks first, owns the bus, and controller 1 waits.\n{}",
+         After them controller 0, which asks first, owns the bus, and controller 1 waits.\n{}\n\n{}",
         count(gunwaleish::SHEET_EVENTS, "event"),
-        turn(order)
+        turn(order),
+        waits::told(order)
     )
 }
 

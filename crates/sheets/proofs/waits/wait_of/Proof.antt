@@ -1,0 +1,43 @@
+-- `sheets::waits::wait_of` meets its contract.
+-- Assumes nothing.
+use mathlib.Core.Path.{sym, _∙_}
+use Rattle.sheets.specs.Waits.{waitOf}
+use Rattle.sheets.proofs.Sound.{pair-long}
+use borrow.Author.Needs.{needs}
+use Rattle.sheets.proofs.waits.wait_of.Statement.{statement}
+use Rattle.sheets.proofs.waits.wait_of.Tie as tie
+
+check-pair-requires : tie.Need-check-pair-requires
+check-pair-requires c κs = search needs
+
+enum-told : tie.Need-enum-told
+enum-told c = search needs
+
+wait-on-requires : tie.Need-wait-on-requires
+wait-on-requires c κs = pair-long _ _ (sym (c .before .before .check-pair .ensures .0) ∙ c .enum-told .given .1)
+
+enum-known-checked : tie.Need-enum-known-checked
+enum-known-checked c = search needs
+
+refused-requires : tie.Need-refused-requires
+refused-requires c κs = search needs
+
+returns : tie.Need-returns
+unfolding waitOf
+returns c = simp (← c .wait-on .ensures, c .before .enum-told .given .1, ← c .before .before .before .check-pair .ensures .0)
+
+returns-2 : tie.Need-returns-2
+unfolding waitOf
+returns-2 c = simp (← c .refused .ensures, c .before .before .checked .given .1, ← c .before .before .before .before .check-pair .ensures .0)
+
+pub wait-of-spec : {M : Type 1} → statement M
+wait-of-spec =
+    tie.close
+    (tie.spec
+    check-pair-requires
+    enum-told
+    wait-on-requires
+    enum-known-checked
+    refused-requires
+    returns
+    returns-2)
