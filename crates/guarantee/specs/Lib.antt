@@ -1,0 +1,9 @@
+pub mod Guarantee
+pub mod Necessary
+pub mod Boxes
+pub mod Starts
+pub mod Reboot
+pub mod Waits
+pub mod Witnesses
+pub mod StartsWitnesses
+pub mod Answers
