@@ -1,0 +1,4 @@
+pub mod Waiting
+pub mod Longest
+pub mod Witnesses
+pub mod Answers
