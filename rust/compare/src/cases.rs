@@ -15,11 +15,12 @@ use crate::ordering::sheet_calls;
 use crate::sharing::share_calls;
 use crate::shelving::shelf_calls;
 use crate::starting::order_calls;
+use crate::waiting::wait_calls;
 use crate::writing::writer_calls;
 
 /// Compares one round of cases: some 55 good traces with 16,000 events and ten times as many
 /// damaged ones, some 100 calls of the writer, 60 of the converter, 90 of the importer, 190 with
-/// order sheets, 3,000 steps on images, 9 calls with start-up scripts, 400 with shelves, 17 that
+/// order sheets, 140 about their waits, 3,000 steps on images, 9 calls with start-up scripts, 400 with shelves, 17 that
 /// add to totals, 7 that join them and 18 advances.
 pub fn round(seed: u64, figures: &mut Figures) {
     let mut rng = Rng::new(seed);
@@ -42,6 +43,7 @@ pub fn round(seed: u64, figures: &mut Figures) {
     shelf_calls(&mut rng, figures);
     share_calls(&mut rng, figures);
     advance_calls(&mut rng, figures);
+    wait_calls(&mut rng, figures);
 }
 
 /// Many short traces and a few long ones. A bus hangs only in those of 700 events and more.

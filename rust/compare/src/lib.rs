@@ -7,6 +7,7 @@
 //! - `converting`: the converter of old traces on both sides.
 //! - `importing`: the importer of captures on both sides.
 //! - `ordering`: the order sheet on both sides.
+//! - `waiting`: how long a controller can wait by its sheets, on both sides.
 //! - `imaging`: the flat image of a device on both sides.
 //! - `starting`: all orders of two start-up scripts on both sides.
 //! - `shelving`: a shelf of several arbiters on both sides.
@@ -30,6 +31,7 @@ pub mod ordering;
 pub mod sharing;
 pub mod shelving;
 pub mod starting;
+pub mod waiting;
 pub mod wanted;
 pub mod words;
 pub mod writing;

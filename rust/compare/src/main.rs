@@ -9,6 +9,7 @@ use compare::ordering::{sheets_one_by_one, sheets_side_by_side};
 use compare::sharing::{joins_about_the_most, shares_of_stored, totals_of_every_length};
 use compare::shelving::{names_on_rows, rows_of_every_length};
 use compare::starting::{limits_of_orders, orders_of_every_length};
+use compare::waiting::{waits_of_every_reserve, waits_one_by_one};
 use compare::{clock_seed, round, seed_or, Figures};
 use model::traces::seed_of;
 
@@ -36,6 +37,8 @@ fn main() {
     short_captures(&mut figures);
     sheets_one_by_one(&mut figures);
     sheets_side_by_side(&mut figures);
+    waits_one_by_one(&mut figures);
+    waits_of_every_reserve(&mut figures);
     images_byte_by_byte(&mut figures);
     images_of_every_length(&mut figures);
     orders_of_every_length(&mut figures);

@@ -7,6 +7,7 @@ use model::shares::SHARE_SIGHTS;
 use model::sheets::SHEET_SIGHTS;
 use model::shelf_sights::shelf_sights;
 use model::sightings::SIGHTS;
+use model::wait_sights::WAIT_SIGHTS;
 
 /// The calls that answer a number, each with the numbers that have to occur.
 pub const CALLS: &[(&str, &[u8])] = &[
@@ -16,6 +17,7 @@ pub const CALLS: &[(&str, &[u8])] = &[
     ("import", &[0, 9, 11, 12, 13]),
     ("look up", &[0, 3, 5, 7, 10, 14, 15]),
     ("sheet events", &[0, 3, 5, 7, 9, 10, 14]),
+    ("sheet wait", &[0, 3, 5, 7, 10, 14, 15]),
     ("image step", &[0, 1, 2, 3, 4, 9, 16]),
     ("image read", &[0, 3, 9, 16]),
     ("image fresh", &[0, 3, 9]),
@@ -29,7 +31,7 @@ pub const CALLS: &[(&str, &[u8])] = &[
 ];
 /// The names of all that has to be seen in calls other than runs.
 pub fn sights() -> Vec<String> {
-    let lists = [SIGHTS, SHEET_SIGHTS, ORDER_SIGHTS, SHARE_SIGHTS, ADVANCE_SIGHTS];
+    let lists = [SIGHTS, SHEET_SIGHTS, WAIT_SIGHTS, ORDER_SIGHTS, SHARE_SIGHTS, ADVANCE_SIGHTS];
     let mut names: Vec<String> = lists.concat().into_iter().map(str::to_string).collect();
     names.extend(image_sights());
     names.extend(shelf_sights());

@@ -10,6 +10,7 @@ use compare::ordering::{sheets_one_by_one, sheets_side_by_side};
 use compare::sharing::{joins_about_the_most, shares_of_stored, totals_of_every_length};
 use compare::shelving::{names_on_rows, rows_of_every_length};
 use compare::starting::{limits_of_orders, orders_of_every_length};
+use compare::waiting::{waits_of_every_reserve, waits_one_by_one};
 use compare::{clock_seed, round, seed_or, Figures};
 use model::traces::seed_of;
 
@@ -95,6 +96,16 @@ fn every_byte_of_an_order_sheet() {
 #[test]
 fn order_sheets_refused_side_by_side() {
     check_all(sheets_side_by_side);
+}
+
+#[test]
+fn every_question_about_a_wait() {
+    check_all(waits_one_by_one);
+}
+
+#[test]
+fn waits_behind_every_reserve() {
+    check_all(waits_of_every_reserve);
 }
 
 #[test]

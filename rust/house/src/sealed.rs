@@ -18,6 +18,7 @@ const CODE: &Openers = &[
     ("fields/proofs/idle_limit/Proof.antt", &["returns", "returns-2"]),
     ("fields/proofs/rolls_over/Proof.antt", &["returns", "returns-2"]),
     ("image/proofs/limit_of/Proof.antt", &["returns", "returns-2"]),
+    ("sheets/proofs/waits/idle_limit_of/Proof.antt", &["returns", "returns-2"]),
 ];
 
 /// Tables that are computed, row by row: examples, and runs that meet premises, reach values or come to a bound. A computed run has a part.
@@ -31,11 +32,19 @@ const TABLES: &Openers = &[
     ("arbiter/proofs/Witnesses.antt", &["witnesses-meet"]),
     ("audit/proofs/MoreWitnesses.antt", &["more-witnesses-meet"]),
     ("audit/proofs/WaitWitnesses.antt", &["wait-witnesses-meet"]),
+    ("guarantee/proofs/Boxes.antt", &["connected-05", "connected-25", "timed-ticks"]),
+    ("guarantee/proofs/Devices.antt", &["zero-again", "one-rest"]),
+    ("guarantee/proofs/Necessary.antt", &["transfer-good"]),
+    ("guarantee/proofs/Reboot.antt", &["reboot-rows-hold"]),
+    ("guarantee/proofs/StartsWitnesses.antt", &["computed"]),
+    ("guarantee/proofs/Witnesses.antt", &["guarantee-witnesses-meet"]),
     ("layout/proofs/Reached.antt", &["contr-tests"]),
+    ("longest/proofs/Witnesses.antt", &["longest-witnesses-meet"]),
     ("mail/proofs/Runs.antt", &["rows-hold", "premises-met"]),
     ("ranges/proofs/ExactWitnesses.antt", &["exact-witnesses-meet"]),
     ("ranges/proofs/RangeWitnesses.antt", &["all-cover"]),
     ("share/proofs/Examples.antt", &["rows-hold"]),
+    ("sheets/proofs/Examples.antt", &["examples-hold"]),
     ("sheets/proofs/InTime.antt", &["premises-met"]),
     ("shelf/proofs/Examples.antt", &["examples-hold"]),
 ];

@@ -19,6 +19,7 @@
 //! - `converter`: an old trace given its third section (document 02, #105).
 //! - `capture`: a logic-analyser capture turned into events (document 02, #104).
 //! - `sheet`: the order sheet (document 02, #106).
+//! - `wait_of`: how long a controller can wait by a pair of order sheets.
 //! - `image`, `image_fields`: the device as 38 bytes, and a step on them (document 02, #108).
 //! - `orders`: all orders of two start-up scripts (document 02, #109).
 //! - `shelf`, `row`: several devices with addresses, as records and as bytes (document 02, #110).
@@ -29,6 +30,8 @@
 //! - `happenings`, `hanging`, `second_part`, `grounds`, `kinds`: what happens in them.
 //! - `pen`, `captures`, `capture_damage`, `sightings`: random captures, and what is seen in them.
 //! - `sheets`: random order sheets, and what is seen in them.
+//! - `wait_sights`: what is seen in the waits that they come to.
+//! - `nights`: random runs of two controllers that ask, transfer, let go and wait.
 //! - `images`: random images, good and damaged, and what is seen in them.
 //! - `scripts`: random pairs of start-up scripts, and what is seen in their orders.
 //! - `shelves`, `shelf_sights`: random shelves and runs on them, and what is seen in them.
@@ -55,6 +58,7 @@ pub mod image;
 pub mod image_fields;
 pub mod images;
 pub mod kinds;
+pub mod nights;
 pub mod orders;
 pub mod part;
 pub mod pen;
@@ -78,6 +82,8 @@ pub mod stored_share;
 pub mod straps;
 pub mod trace;
 pub mod traces;
+pub mod wait_of;
+pub mod wait_sights;
 pub mod waits;
 pub mod writer;
 
@@ -95,4 +101,5 @@ pub use sheet::{look_up, sheet_events};
 pub use shelf::{Record, Shelf};
 pub use straps::{address_of, pins_of};
 pub use trace::{listing, read_trace, run_trace, Trace, TraceResult};
+pub use wait_of::{wait_of, Wait};
 pub use writer::{write_trace, Written};

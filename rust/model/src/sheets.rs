@@ -45,6 +45,14 @@ pub fn complete_pair(rng: &mut Rng) -> Pair {
     pair
 }
 
+/// A pair that lacks one box, whichever it is.
+pub fn pair_without_a_box(rng: &mut Rng) -> Pair {
+    let mut pair = complete_pair(rng);
+    let at = offset_of(rng.below(3) as u8, rng.below(2) as u8);
+    pair.iter_mut().for_each(|sheet| sheet[at..at + 2].copy_from_slice(&[0, 0]));
+    pair
+}
+
 /// Damages a sheet in some way. Often one of the others is wrong with it too.
 pub fn damage_sheet(rng: &mut Rng, sheet: &mut Vec<u8>) {
     let length = sheet.len().max(1) as u64;

@@ -74,3 +74,27 @@ pub fn scl_sda(answer: [u8; 4]) -> (u8, u8) {
 pub fn look(device: &Device) -> [u8; 4] {
     device.clone().step([255, 0, 0, 0])
 }
+
+/// A pair of sheets out of the values of all boxes, those of controller 0 first: the board sheet ticks
+/// every box, the house sheet none.
+pub fn sheets_of(reserves: [u8; 2], priorities: [u8; 2], idles: [u8; 2]) -> [Vec<u8>; 2] {
+    let section = |[v0, v1]: [u8; 2]| [2, 1, v0, 1, v1];
+    let board = [reserves, priorities, idles].map(section).concat();
+    [board, [2, 0, 0, 0, 0].repeat(3)]
+}
+
+/// The twelve events of those sheets, six for each controller.
+pub fn starts_of(reserves: [u8; 2], priorities: [u8; 2], idles: [u8; 2]) -> [Vec<[u8; 4]>; 2] {
+    let [board, house] = sheets_of(reserves, priorities, idles);
+    let events = model::sheet::events_of_sheets(&board, &house).expect("the pair is complete");
+    [events[..6].to_vec(), events[6..].to_vec()]
+}
+
+/// A fresh part of this kind after both starts, that of this controller first.
+pub fn started(kind: Kind, first: usize, starts: &[Vec<[u8; 4]>; 2]) -> Device {
+    let mut device = Device::power_up_of(kind);
+    run(&mut device, &starts[first]);
+    let answer = run(&mut device, &starts[1 - first]);
+    assert_eq!(owner(answer), Some(first as u8));
+    device
+}
