@@ -1,6 +1,6 @@
 -- Document 01, "Events": how four bytes read as an event, with refusals 2 and 3, and which events a device takes, with refusal 4.
 -- Assumes nothing.
-use Rattle.arbiter.specs.Types.{ℕ, _/_, _%_, Bool, true, false, not, _&&_, eqb, ltb, Master, Zero, One, Register, Id, Contr, Status, Rt, IntStatus, IntMask, MailLow, MailHigh, Raw, Event, Command, Write, Read, Stop, Pair, Lines, Tick, Pulse, Reset, GeneralCall, Decoded, Reads, UnknownKind, BadField, Outcome, Done, NotAcknowledged, OutOfSequence, Device}
+use Rattle.arbiter.specs.Types.{ℕ, _/_, _%_, Bool, true, false, not, _&&_, _||_, eqb, ltb, Master, Zero, One, Register, Id, Contr, Status, Rt, IntStatus, IntMask, MailLow, MailHigh, Raw, Event, Command, Write, Read, Stop, Pair, Lines, Tick, Pulse, Reset, GeneralCall, Decoded, Reads, UnknownKind, BadField, Outcome, Done, NotAcknowledged, OutOfSequence, Device}
 use Rattle.arbiter.specs.Words.{if_then_else_, side}
 use Rattle.arbiter.specs.State.{atRest, forWriting, isInitialising}
 
@@ -98,3 +98,26 @@ abbrev pub outcomeNumber : Outcome → ℕ
 outcomeNumber Done = 0
 outcomeNumber NotAcknowledged = 1
 outcomeNumber OutOfSequence = 4
+
+-- ---- the same numbers, said of the bytes: the ten kinds, and each field by its use
+
+abbrev pub isOf : ℕ → Raw → Bool
+isOf kind r = eqb (r .kind) kind
+
+-- the first field: of PAIR any byte, of TICK and RESET unused, of all others a master or a level
+abbrev pub firstFits : Raw → Bool
+firstFits r = isOf 4 r || (if isOf 6 r || isOf 8 r then unused (r .x) else zeroOrOne (r .x))
+
+-- the second: of COMMAND, WRITE, PAIR and GENERAL CALL any byte, of LINES a level, of all others unused
+abbrev pub secondFits : Raw → Bool
+secondFits r = isOf 0 r || isOf 1 r || isOf 4 r || isOf 9 r || (if isOf 5 r then zeroOrOne (r .y) else unused (r .y))
+
+-- the third: of LINES a level, of all others unused
+abbrev pub thirdFits : Raw → Bool
+thirdFits r = if isOf 5 r then zeroOrOne (r .z) else unused (r .z)
+
+unfoldable pub rawNumber : Raw → ℕ
+rawNumber r =
+    if not (ltb (r .kind) 10) then 2
+    else if not (firstFits r && secondFits r && thirdFits r) then 3
+    else 0

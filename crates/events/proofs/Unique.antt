@@ -9,7 +9,7 @@ use Rattle.events.proofs.is_tick.Reads as is-tick
 use Rattle.events.proofs.clock_of.Reads as clock-of
 
 pub decode-raw-once : OneResult decode-raw.Post
-decode-raw-once κ a x y s t p q = once p q
+decode-raw-once κ a x y s t p q = once (p .0) (q .0)
 
 pub decoded-number-once : OneResult decoded-number.Post
 decoded-number-once κ a x y s t p q = once p q

@@ -1,7 +1,7 @@
 // Four bytes as an event, and what the parts of a step ask of one.
 ghost use mathlib.Core.Path.{_≡_};
 ghost use Rattle.arbiter.specs.Words.{if_then_else_};
-ghost use Rattle.arbiter.specs.Events.{master, fitting, decode, decodedNumber, outcomeNumber};
+ghost use Rattle.arbiter.specs.Events.{master, fitting, decode, decodedNumber, rawNumber, outcomeNumber};
 ghost use Rattle.arbiter.specs.Order.{isTick, clockOf};
 ghost use Rattle.arbiter.specs.declared.Outcome.the-variants.{Done, NotAcknowledged};
 use arbiter::Clock;
@@ -30,6 +30,7 @@ fn fitting_if(ok: bool, e: Event) -> Decoded
 
 pub fn decode_raw(r: Raw) -> Decoded
     ensures { λ d. ⌜ d ≡ decode r ⌝ }
+    ensures { λ d. ⌜ decodedNumber d ≡ rawNumber r ⌝ }
 {
     let kind = r.kind;
     let m = master_of(r.x);

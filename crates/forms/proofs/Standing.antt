@@ -57,9 +57,6 @@ RowIs ys = Is Row ys (rowVal ys ∷ [])
 pub row-tells : Tells Row (Is Row) rowVals
 row-tells = array-tells T.the-row (LL.vals T.the-type T′.the-laws) (LL.tells T.the-type T′.the-laws) count
 
-row-has : (ys : List Record) → RowIs ys → length ys ≡ count
-row-has ys is = is .1 .0 .1
-
 row-room : Room T.the-row count
 row-room = (lit< tt, lit< tt)
 

@@ -32,14 +32,14 @@ returns c =
     let start = read .before .args in
     simp (c .ended-at .ensures, c .before .did-so .ensures, told .decoded-number .ensures)
     (short-refused (start .settled) (start .owner) (start .lines) _ (start .d) (told .before .match .keys2)
-    ∙ ap (λ (x : Decoded). shortDecoded (start .settled) (start .owner) (start .lines) x (start .d)) (read .decode-raw .ensures))
+    ∙ ap (λ (x : Decoded). shortDecoded (start .settled) (start .owner) (start .lines) x (start .d)) (read .decode-raw .ensures .0))
 
 event-settled-requires : tie.Need-event-settled-requires
 event-settled-requires c κs = search needs
 
 returns-2 : tie.Need-returns-2
 unfolding shortStep shortDecoded decode
-returns-2 c = simp (← c .event-settled .ensures, c .before .before .read .given .1, ← c .before .before .before .before .decode-raw .ensures)
+returns-2 c = simp (← c .event-settled .ensures, c .before .before .read .given .1, ← c .before .before .before .before .decode-raw .ensures .0)
 
 pub step-settled-spec : {M : Type 1} → statement M
 step-settled-spec =

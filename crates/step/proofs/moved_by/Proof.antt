@@ -23,7 +23,7 @@ did-so-requires c κs = search needs
 returns : tie.Need-returns
 returns c =
     simp (c .did-so .ensures, c .before .decoded-number .ensures)
-    (refused-law _ (c .before .before .before .before .args .d) (c .before .before .match .keys2) ∙ ap (λ (x : Decoded). moved x (c .before .before .before .before .args .d)) (c .before .before .before .decode-raw .ensures))
+    (refused-law _ (c .before .before .before .before .args .d) (c .before .before .match .keys2) ∙ ap (λ (x : Decoded). moved x (c .before .before .before .before .args .d)) (c .before .before .before .decode-raw .ensures .0))
 
 effect-of-requires : tie.Need-effect-of-requires
 effect-of-requires c κs = search needs
@@ -34,7 +34,7 @@ finish-requires c κs = search needs
 returns-2 : tie.Need-returns-2
 returns-2 c =
     simp (c .finish .ensures, c .before .effect-of .ensures)
-    (moved-law _ (c .before .before .before .before .before .before .args .d) ∙ ap (λ (x : Decoded). moved x (c .before .before .before .before .before .before .args .d)) (sym (c .before .before .before .read .given .1) ∙ c .before .before .before .before .before .decode-raw .ensures))
+    (moved-law _ (c .before .before .before .before .before .before .args .d) ∙ ap (λ (x : Decoded). moved x (c .before .before .before .before .before .before .args .d)) (sym (c .before .before .before .read .given .1) ∙ c .before .before .before .before .before .decode-raw .ensures .0))
 
 pub moved-by-spec : {M : Type 1} → statement M
 moved-by-spec =
