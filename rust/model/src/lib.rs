@@ -1,4 +1,4 @@
-//! A plain model of the shelf arbiter, written from the paper alone.
+//! A plain model of the shelf arbiter, written from the papers, and from what was asked of waits, and never from the definitions.
 //!
 //! The paper is document 01 (01-scope.md). Its open points are decided in
 //! readings.md, and comments here say "reading 5" for point 5 of that list.
