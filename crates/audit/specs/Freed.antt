@@ -47,7 +47,8 @@ abbrev pub ResetRestores : Type 0
 ResetRestores = (d : Device) (r : Raw) → reset r d ≡ true → next d r ≡ wasReset (worth 35 (heldReset r d)) d
 
 -- So the partner has its remedy in its own hands: whoever blocks the bus, p's GENERAL CALL of 06h, and then its COMMAND 01h, WRITE 01h and STOP,
--- make p the owner, if p has not set SMBUS_SWRST.
+-- make p the owner, if p has not set SMBUS_SWRST. But its RT is 00h then and its timer off, and nothing ends its grant by itself: the way back that
+-- has a reserve is in recovery/specs/Recipe.
 abbrev pub ResetRemedies : Type 0
 ResetRemedies =
     (d : Device) (p : Master) → (side p d) .contr .swrst ≡ false

@@ -6,4 +6,5 @@ pub mod WorstWait
 pub mod SettingsKept
 pub mod WaitAsSet
 pub mod WaitWitnesses
+pub mod FurtherWitnesses
 pub mod Answers

@@ -42,7 +42,7 @@ use Rattle.guarantee.proofs.Starts.{reserve-started, rest-started, star
 -- ---- a claim
 
 -- A device in which there is nothing to settle has a claim where somebody requests, and it is a requester's or an owner's.
-claimed : (m : Master) (d : Device) → Ready d → Asking m d → Silent (partner m) d → hasTurn m (d .arb .turn) ≡ true
+pub claimed : (m : Master) (d : Device) → Ready d → Asking m d → Silent (partner m) d → hasTurn m (d .arb .turn) ≡ true
 claimed m d ready a s = go m (d .arb .turn) refl a s
   where
     silent : (j : Master) → requests j d ≡ true → d .arb .turn ≡ Nobody → ⊥
@@ -64,7 +64,7 @@ claimed m d ready a s = go m (d .arb .turn) refl a s
     go One (Owns One g) t a s = ap (hasTurn One) t
 
 -- With its port at rest and no hold, whose claim it is owns.
-due-owns : (m : Master) (d : Device) → Ready d → hasTurn m (d .arb .turn) ≡ true → resting m d ≡ true → d .bus .hold ≡ 0 → owns m d ≡ true
+pub due-owns : (m : Master) (d : Device) → Ready d → hasTurn m (d .arb .turn) ≡ true → resting m d ≡ true → d .bus .hold ≡ 0 → owns m d ≡ true
 due-owns m d ready h rest z = go m (d .arb .turn) refl h rest
   where
     waits : (j : Master) (g : Ground) → d .arb .turn ≡ Claims j g → resting j d ≡ true → ⊥
@@ -82,7 +82,7 @@ due-owns m d ready h rest z = go m (d .arb .turn) refl h rest
 -- ---- who asks first
 
 -- An event of m's port is not one of its partner's.
-not-by : (m : Master) (r : Raw) → isBy (number m) r ≡ true → isBy (number (partner m)) r ≡ false
+pub not-by : (m : Master) (r : Raw) → isBy (number m) r ≡ true → isBy (number (partner m)) r ≡ false
 not-by Zero r h =
     ap (λ (x : ℕ). ltb (r .kind) 4 && eqb x 1) (eqb-true (r .x) 0 (and-eq-true-iff (ltb (r .kind) 4) (eqb (r .x) 0) .0 h .1)) ∙ and-false (ltb (r .kind) 4)
 not-by One r h =

@@ -54,7 +54,7 @@ Asking m d = (owns m d ≡ false) × (requests m d ≡ true)
 abbrev Reserved : Master → Setting → Device → Type 0
 Reserved m s d = reserveOf m d ≡ s .reserve
 
-abbrev Set : Master → Setting → Device → Type 0
+abbrev pub Set : Master → Setting → Device → Type 0
 Set m s d = (reserveOf m d ≡ s .reserve) × (bitsOf m d ≡ (s .priority, false, s .idle, false))
 
 -- What stands at each stage. At the last, m still asks if Q says that it has not been granted.
@@ -80,7 +80,7 @@ unrested m r d o up =
 ungranted : (m : Master) (r : Raw) (d : Device) → owns m d ≡ false → grantTaken m r d ≡ false → owns m (next d r) ≡ false
 ungranted m r d o h = sym (ap (λ (b : Bool). not b && owns m (next d r)) o) ∙ h
 
-silent-on : (m : Master) (r : Raw) (d : Device) → requests m (next d r) ≡ requests m d → Silent m d → Silent m (next d r)
+pub silent-on : (m : Master) (r : Raw) (d : Device) → requests m (next d r) ≡ requests m d → Silent m d → Silent m (next d r)
 silent-on m r d same s = (unasked m r d (s .0) (same ∙ s .1), same ∙ s .1)
 
 -- ---- an event of others

@@ -15,12 +15,12 @@ use Rattle.arbiter.proofs.Bitwise.{same}
 -- ---- an operation on two bytes, digit by digit
 
 -- f gives a digit of two digits, and of truth values it is `like`
-abbrev digitTest : (ℕ → ℕ → ℕ) → (Bool → Bool → Bool) → ℕ → ℕ → Bool
+abbrev pub digitTest : (ℕ → ℕ → ℕ) → (Bool → Bool → Bool) → ℕ → ℕ → Bool
 digitTest f like x y = ltb (f x y) 2 && Bool·beq (eqb (f x y) 1) (like (eqb x 1) (eqb y 1))
 
 module _ (f : ℕ → ℕ → ℕ) (like : Bool → Bool → Bool) (digits : every (λ x. every (λ y. digitTest f like x y) 2) 2 ≡ true)
     (g : ℕ → ℕ → ℕ) (step : (a b : ℕ) → g a b ≡ g (a / 2) (b / 2) * 2 + f (a % 2) (b % 2)) where
-  digit : (a b : ℕ) → (f (a % 2) (b % 2) < 2) × (eqb (f (a % 2) (b % 2)) 1 ≡ like (eqb (a % 2) 1) (eqb (b % 2) 1))
+  pub digit : (a b : ℕ) → (f (a % 2) (b % 2) < 2) × (eqb (f (a % 2) (b % 2)) 1 ≡ like (eqb (a % 2) 1) (eqb (b % 2) 1))
   digit a b =
       let x : ℕ = a % 2 in
       let y : ℕ = b % 2 in
@@ -28,10 +28,10 @@ module _ (f : ℕ → ℕ → ℕ) (like : Bool → Bool → Bool) (digits : eve
       let two = and-eq-true-iff (ltb (f x y) 2) _ .0 (every-at (λ y. digitTest f like x y) 2 row y (omega arith)) in
       (ltb-true (f x y) 2 (two .0), same _ _ (two .1))
 
-  half : (a b : ℕ) → g a b / 2 ≡ g (a / 2) (b / 2)
+  pub half : (a b : ℕ) → g a b / 2 ≡ g (a / 2) (b / 2)
   half a b = omega (arith, step a b, digit a b .0)
 
-  last : (a b : ℕ) → g a b % 2 ≡ f (a % 2) (b % 2)
+  pub last : (a b : ℕ) → g a b % 2 ≡ f (a % 2) (b % 2)
   last a b = omega (arith, step a b, digit a b .0)
 
   sixteenth : (a b : ℕ) → g a b / 16 ≡ g (a / 16) (b / 16)

@@ -48,7 +48,7 @@ clashing k m rs v w =
 abbrev pub powerUpIsReset : Device → Raw → List Bool
 powerUpIsReset d r = reset r d ∷ eqb ((next d r) .bus .hold) 0 ∷ outsideHigh (d .bus) ∷ []
 
--- m owns and is connected with RT 50, has mail, and the bus is busy
+-- m owns and is connected with RT 50, its partner's port is open at the mailbox, and the bus is idle again after a transfer of three ticks
 abbrev pub used : Kind → Master → Device
 used k m = run k (setsRt m 50 ++ setsContr m 0x05 ++ command (number (partner m)) 7 ∷ lines 1 0 1 ∷ times 3 tick ++ lines 1 1 1 ∷ [])
 

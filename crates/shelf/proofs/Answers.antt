@@ -7,6 +7,7 @@ use Rattle.shelf.proofs.Shown.{shown-at-place}
 use Rattle.shelf.proofs.Places.{at-place, answer-at-place, every-run-at-place, one-connected-at-place, later-at-place, reserve-lasts-at-place, partner-in-time-at-place}
 use Rattle.shelf.proofs.Turns.{partner-in-time-throughout-at-place, partner-next-at-place}
 use Rattle.shelf.proofs.Examples.{examples-hold}
+use Rattle.shelf.proofs.ShelfWitnesses.{one-event-met, shelf-witnesses-meet}
 
 pub answers : Answers
 answers =
@@ -29,4 +30,6 @@ answers =
       partnerInTimeThroughoutAtPlace = partner-in-time-throughout-at-place;
       partnerNextAtPlace = partner-next-at-place;
       examplesHold = examples-hold;
+      oneEventMet = one-event-met;
+      shelfWitnessesMeet = shelf-witnesses-meet;
     }

@@ -4,4 +4,5 @@ pub mod Places
 pub mod Shown
 pub mod Turns
 pub mod Examples
+pub mod ShelfWitnesses
 pub mod Answers

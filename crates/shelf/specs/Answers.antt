@@ -3,6 +3,7 @@
 -- Assumes nothing.
 use Rattle.shelf.specs.Runs.{KeepsAddresses, OthersSame, ReachedSteps, AnswerAlone, RefusedSame, ReachedInRow, UnknownChangesNone, ShownAtPlace, AtPlace, AnswerAtPlace, EveryRunAtPlace, OneConnectedAtPlace, LaterAtPlace, ReserveLastsAtPlace, PartnerInTimeAtPlace, PartnerInTimeThroughoutAtPlace, PartnerNextAtPlace}
 use Rattle.shelf.specs.Examples.{ExamplesHold}
+use Rattle.shelf.specs.ShelfWitnesses.{OneEventMet, ShelfWitnessesMeet}
 
 pub record Answers : Type 1 where
   pub keepsAddresses : KeepsAddresses
@@ -23,3 +24,5 @@ pub record Answers : Type 1 where
   pub partnerInTimeThroughoutAtPlace : PartnerInTimeThroughoutAtPlace
   pub partnerNextAtPlace : PartnerNextAtPlace
   pub examplesHold : ExamplesHold
+  pub oneEventMet : OneEventMet
+  pub shelfWitnessesMeet : ShelfWitnessesMeet

@@ -30,6 +30,7 @@ const TABLES: &Openers = &[
     ),
     ("arbiter/proofs/Marks.antt", &["marks-hold", "readings-hold"]),
     ("arbiter/proofs/Witnesses.antt", &["witnesses-meet"]),
+    ("audit/proofs/FurtherWitnesses.antt", &["grounds-meet", "slow-steady"]),
     ("audit/proofs/MoreWitnesses.antt", &["more-witnesses-meet"]),
     ("audit/proofs/WaitWitnesses.antt", &["wait-witnesses-meet"]),
     ("guarantee/proofs/Boxes.antt", &["connected-05", "connected-25", "timed-ticks"]),
@@ -43,10 +44,14 @@ const TABLES: &Openers = &[
     ("mail/proofs/Runs.antt", &["rows-hold", "premises-met"]),
     ("ranges/proofs/ExactWitnesses.antt", &["exact-witnesses-meet"]),
     ("ranges/proofs/RangeWitnesses.antt", &["all-cover"]),
+    ("recovery/proofs/CrashWitnesses.antt", &["reached", "keptOut"]),
+    ("recovery/proofs/RecipeWitnesses.antt", &["recipe-witnesses-meet"]),
+    ("recovery/proofs/ToldWitnesses.antt", &["told-witnesses-meet"]),
     ("share/proofs/Examples.antt", &["rows-hold"]),
     ("sheets/proofs/Examples.antt", &["examples-hold"]),
     ("sheets/proofs/InTime.antt", &["premises-met"]),
     ("shelf/proofs/Examples.antt", &["examples-hold"]),
+    ("shelf/proofs/ShelfWitnesses.antt", &["shelf-witnesses-meet"]),
 ];
 
 /// The proofs that open the rules of a kind and may not, and those that may and do not, a sentence each.
