@@ -32,6 +32,7 @@
 //! - `sheets`: random order sheets, and what is seen in them.
 //! - `wait_sights`: what is seen in the waits that they come to.
 //! - `nights`: random runs of two controllers that ask, transfer, let go and wait.
+//! - `crashes`: random states at which a controller falls silent, and what may still come then.
 //! - `images`: random images, good and damaged, and what is seen in them.
 //! - `scripts`: random pairs of start-up scripts, and what is seen in their orders.
 //! - `shelves`, `shelf_sights`: random shelves and runs on them, and what is seen in them.
@@ -48,6 +49,7 @@ pub mod capture_damage;
 pub mod captures;
 pub mod claim;
 pub mod converter;
+pub mod crashes;
 pub mod damage;
 pub mod device;
 pub mod event;

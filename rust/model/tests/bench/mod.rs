@@ -4,6 +4,8 @@
 pub use model::event::make::*;
 pub use model::{Device, Kind};
 
+pub mod stalled;
+
 /// Steps all events, each of which must be done (outcome 0). Gives the last answer.
 pub fn run(device: &mut Device, events: &[[u8; 4]]) -> [u8; 4] {
     let mut answer = [0; 4];
