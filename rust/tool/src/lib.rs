@@ -4,7 +4,7 @@
 //! cores, or counts over many traces how the bus was shared.
 //!
 //! Every answer comes from the proved library. What is here is words and pictures: `story` follows
-//! a run and says what changed, `order` says what is on two sheets, `startup` how the orders of two
+//! a run and says what changed, `stuck` why one still waits at its end, `order` says what is on two sheets, `startup` how the orders of two
 //! scripts end, `shelf` what happens at each place of a shelf, `share` how the bus was shared,
 //! `commands` has a file for each subcommand, and `arguments`, `files` and `each` are the way from the
 //! command line to the files and back.
@@ -24,6 +24,7 @@ pub mod share;
 pub mod shelf;
 pub mod startup;
 pub mod story;
+pub mod stuck;
 pub mod summary;
 pub mod svg;
 pub mod words;

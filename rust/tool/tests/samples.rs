@@ -83,9 +83,17 @@ fn composing_what_was_decomposed_gives_the_sample_again() {
 #[test]
 fn box_14_is_told_in_words() {
     let empty = told("box14-rt00");
-    let last = empty.lines().last().unwrap();
-    assert!(last.starts_with("controller 1 waited 300 ticks and was never granted"), "{last}");
-    assert!(last.contains("RT 00h, which holds until let go"), "{last}");
+    let [verdict, last] = *empty.lines().collect::<Vec<_>>().last_chunk().unwrap();
+    assert!(
+        verdict.starts_with("controller 1 waited 300 ticks and was never granted"),
+        "{verdict}"
+    );
+    assert!(verdict.contains("RT 00h, which holds until let go"), "{verdict}");
+    assert!(
+        last.starts_with("Waiting does not help controller 1: controller 0 has RT 00h "),
+        "{last}"
+    );
+    assert!(last.contains("Its own way out is GENERAL CALL 06h, then RT and CONTR anew"), "{last}");
     assert!(empty.contains("ticks 1 to 300: nothing changes"));
     let filled = told("box14-rt50");
     assert!(
@@ -96,6 +104,29 @@ fn box_14_is_told_in_words() {
          granted the bus"
     ));
     assert!(!filled.contains("never granted"));
+}
+
+/// The way back: the word is read before the reset, the bus is taken with a reserve, and controller 0,
+/// which comes back at tick 310, is in 40 ticks later. Both lines tell of that tick.
+#[test]
+fn the_way_back_is_told_in_words() {
+    let told = told("recovery");
+    let places = [
+        "1 READ D9h from STATUS ",
+        "1 READ 34h from mailbox low",
+        "1 READ 12h from mailbox high",
+        "1 GENERAL CALL 06h (soft reset)",
+        "controller 1 is granted the bus with RT 32h, which holds for 50 ticks",
+        "310  0 STOP ",
+        "350  TICK ",
+        "controller 1 loses the bus; controller 0 claims the bus: it alone asks; controller 0 is granted",
+        "INT0 is asserted; INT1 is asserted",
+        "0 READ 04h from INT_STATUS ",
+    ];
+    let places = places.map(|words| told.find(words).unwrap_or_else(|| panic!("{words}: {told}")));
+    assert!(places.is_sorted(), "{places:?}");
+    assert!(told.contains("waited 300; 1 grant taken, 1 lost"), "{told}");
+    assert!(!told.contains("aiting "), "nobody waits at the end");
 }
 
 /// The words of a sample's run.
@@ -138,7 +169,7 @@ fn the_second_source_differs_in_two_things() {
 
 #[test]
 fn the_pictures_are_those_of_the_samples() {
-    for name in ["box14-rt00", "box14-rt50"] {
+    for name in ["box14-rt00", "box14-rt50", "recovery"] {
         let drawn = output(picture::picture(&input(&format!("traces/{name}.trace"))));
         let path = format!("docs/pictures/{name}.svg");
         assert!(

@@ -7,7 +7,7 @@ use crate::each::{each_trace, refused, Made};
 use crate::files::Input;
 use crate::story::{follow, Scene, Step, Story};
 use crate::summary::{self, HOW_COUNTED};
-use crate::words;
+use crate::{stuck, words};
 
 pub const COMMAND: Command = Command {
     name: "explain",
@@ -19,7 +19,8 @@ pub const COMMAND: Command = Command {
            SCL and SDA, all after the event; then the names of the byte's bits, whether a full\n\
            mailbox drops it, and what changed, a claim with its ground.\n\
            What a controller does begins with its number. Ticks in which nothing changes share a\n\
-           line.",
+           line. If one still waits at the end, the last lines say why, whether waiting helps, and\n\
+           what else does: docs/RECOVERY.md.",
     options: &[],
     example: "build/release/gunwaleish explain traces/box14-rt00.trace",
     run: |arguments| each_trace(arguments, "txt", explain),
@@ -149,7 +150,7 @@ fn totals(story: &Story) -> String {
         words::count(ticks, "tick"),
         words::count(story.steps.len() - ticks, "other event"),
     );
-    for line in summary::in_words(story) {
+    for line in summary::in_words(story).into_iter().chain(stuck::in_words(story)) {
         text.push_str(&line);
         text.push('\n');
     }
