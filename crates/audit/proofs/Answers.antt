@@ -13,6 +13,7 @@ use Rattle.audit.proofs.SettingsKept.{rt-kept, bits-kept, mask-kept, se
 use Rattle.audit.proofs.WaitAsSet.{reserves-kept, reserves-as-set, both-reserve, wait-as-set}
 use Rattle.audit.proofs.MoreWitnesses.{more-witnesses-meet}
 use Rattle.audit.proofs.WaitWitnesses.{wait-witnesses-meet}
+use Rattle.audit.proofs.SettingsWitnesses.{settings-witnesses-meet}
 use Rattle.audit.proofs.FurtherWitnesses.{further-witnesses-meet, slow-clock-runs}
 
 pub answers : Answers
@@ -56,6 +57,7 @@ answers =
       waitAsSet = wait-as-set;
       moreWitnessesMeet = more-witnesses-meet;
       waitWitnessesMeet = wait-witnesses-meet;
+      settingsWitnessesMeet = settings-witnesses-meet;
       furtherWitnessesMeet = further-witnesses-meet;
       slowClockRuns = slow-clock-runs;
     }

@@ -9,6 +9,7 @@ use Rattle.audit.specs.SettingsKept.{RtKept, BitsKept, MaskKept, Setting
 use Rattle.audit.specs.WaitAsSet.{ReservesKept, ReservesAsSet, WaitAsSet, BothReserve}
 use Rattle.audit.specs.MoreWitnesses.{MoreWitnessesMeet}
 use Rattle.audit.specs.WaitWitnesses.{WaitWitnessesMeet}
+use Rattle.audit.specs.SettingsWitnesses.{SettingsWitnessesMeet}
 use Rattle.audit.specs.FurtherWitnesses.{FurtherWitnessesMeet, SlowClockRuns}
 
 pub record Answers : Type 0 where
@@ -59,5 +60,6 @@ pub record Answers : Type 0 where
   -- Are there runs that meet the premises, and that reach the figures?
   pub moreWitnessesMeet : MoreWitnessesMeet
   pub waitWitnessesMeet : WaitWitnessesMeet
+  pub settingsWitnessesMeet : SettingsWitnessesMeet
   pub furtherWitnessesMeet : FurtherWitnessesMeet
   pub slowClockRuns : SlowClockRuns

@@ -6,5 +6,6 @@ pub mod WorstWait
 pub mod SettingsKept
 pub mod WaitAsSet
 pub mod WaitWitnesses
+pub mod SettingsWitnesses
 pub mod FurtherWitnesses
 pub mod Answers

@@ -32,6 +32,7 @@ const TABLES: &Openers = &[
     ("arbiter/proofs/Witnesses.antt", &["witnesses-meet"]),
     ("audit/proofs/FurtherWitnesses.antt", &["grounds-meet", "slow-steady"]),
     ("audit/proofs/MoreWitnesses.antt", &["more-witnesses-meet"]),
+    ("audit/proofs/SettingsWitnesses.antt", &["settings-witnesses-meet"]),
     ("audit/proofs/WaitWitnesses.antt", &["wait-witnesses-meet"]),
     ("guarantee/proofs/Boxes.antt", &["connected-05", "connected-25", "timed-ticks"]),
     ("guarantee/proofs/Devices.antt", &["zero-again", "one-rest"]),
