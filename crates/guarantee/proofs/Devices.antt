@@ -3,7 +3,7 @@
 -- Assumes nothing.
 use Prim.Native.Nat.{ℕ}
 use mathlib.Core.Path.{_≡_, refl, sym, ap, ap₂, _∙_}
-use mathlib.Core.Bool.{Bool, true, false}
+use mathlib.Core.Bool.{Bool, true, false, not, _&&_}
 use mathlib.Core.List.{List, [], _∷_, _++_}
 use Rattle.arbiter.specs.Rules.{rulesOf}
 use Rattle.arbiter.specs.Words.{partner}
@@ -31,8 +31,8 @@ use Rattle.arbiter.specs.declared.Kind.{Kind}
 use Rattle.arbiter.specs.declared.Kind.the-variants.{Pca9641, Tpt29641}
 use Rattle.arbiter.specs.declared.Device.{Device}
 use Rattle.arbiter.specs.declared.Raw.{Raw}
-use Rattle.arbiter.specs.declared.Event.the-variants.{Command}
-use Rattle.audit.specs.SettingsKept.{storesRt}
+use Rattle.arbiter.specs.declared.Event.the-variants.{Command, Write, Stop}
+use Rattle.audit.specs.SettingsKept.{storesRt, writesToContr}
 use Rattle.sheets.specs.declared.Setting.{Setting}
 use Rattle.sheets.specs.declared.Order.{Order}
 use Rattle.sheets.specs.Orders.{controlByte, settingEvents, orderEvents}
@@ -106,6 +106,27 @@ starts k o =
 -- m's partner withdraws and asks again
 abbrev pub again : Master → List Raw
 again m = setsContr (partner m) 0x00 ++ setsContr (partner m) 0x01
+
+-- None of it is a byte of m's in CONTR, from whatever device.
+none-then : (a c : Bool) → c ≡ true → not (a && false) && c ≡ true
+none-then true c h = h
+none-then false c h = h
+
+unwritten-sets : (m : Master) (v : ℕ) (rs : List Raw) (d : Device) → never (writesToContr m) (runFrom d (setsContr (partner m) v)) rs ≡ true
+    → never (writesToContr m) d (setsContr (partner m) v ++ rs) ≡ true
+unfolding never decode runFrom
+unwritten-sets Zero v rs d h =
+    let x : Device = next d (command 1 0x01) in
+    let y : Device = next x (write 1 v) in
+    none-then (inSequence (Command One 0x01) d) _ (none-then (inSequence (Write One v) x) _ (none-then (inSequence (Stop One) y) _ h))
+unwritten-sets One v rs d h =
+    let x : Device = next d (command 0 0x01) in
+    let y : Device = next x (write 0 v) in
+    none-then (inSequence (Command Zero 0x01) d) _ (none-then (inSequence (Write Zero v) x) _ (none-then (inSequence (Stop Zero) y) _ h))
+
+pub again-unwritten : (m : Master) (d : Device) → never (writesToContr m) d (again m) ≡ true
+unfolding never
+again-unwritten m d = unwritten-sets m 0x00 (setsContr (partner m) 0x01) d (unwritten-sets m 0x01 [] (runFrom d (setsContr (partner m) 0x00)) refl)
 
 -- then m holds, with its own setting and that of its partner, of which only the reserve is left
 abbrev pub holding : Master → Kind → Setting → Setting → Device

@@ -10,11 +10,13 @@ pub mod StartRaws
 pub mod StartStages
 pub mod StartWalk
 pub mod Starts
+pub mod StartLost
 pub mod StartCalm
 pub mod StartAsks
 pub mod StartOwner
 pub mod Reboot
 pub mod Waits
 pub mod Witnesses
+pub mod MoreWitnesses
 pub mod StartsWitnesses
 pub mod Answers

@@ -21,7 +21,7 @@ use Rattle.arbiter.specs.declared.Kind.{Kind}
 use Rattle.arbiter.specs.declared.Kind.the-variants.{Pca9641, Tpt29641}
 use Rattle.arbiter.specs.declared.Device.{Device}
 use Rattle.arbiter.specs.declared.Raw.{Raw}
-use Rattle.audit.specs.SettingsKept.{storesRt}
+use Rattle.audit.specs.SettingsKept.{storesRt, writesToContr}
 use Rattle.sheets.specs.declared.Setting.{Setting}
 use Rattle.sheets.specs.declared.Order.{Order}
 use Rattle.sheets.specs.Orders.{orderOf, orderEvents}
@@ -33,13 +33,13 @@ use Rattle.arbiter.proofs.Connected.{partner-not}
 use Rattle.audit.proofs.WorstWait.{at-end}
 use Rattle.guarantee.proofs.Guarantee.{order-guarantees}
 use Rattle.guarantee.proofs.Rounds.{never-append, rounds-same, rounds-never, rounds-throughout, rounds-ticks, owner-stops}
-use Rattle.guarantee.proofs.Devices.{again, holding, Came, came, holds-again}
+use Rattle.guarantee.proofs.Devices.{again, again-unwritten, holding, Came, came, holds-again}
 
 -- ---- over one short transfer
 
 -- what is seen of a device, and that is good
 abbrev Seen : Type 0
-Seen = Device × Bool × Bool × Bool × Bool × Bool × Bool × ℕ
+Seen = Device × Bool × Bool × Bool × Bool × Bool × Bool × ℕ × Bool
 
 abbrev seen : Master → Device → Seen
 seen m d = (
@@ -51,10 +51,11 @@ seen m d = (
   isIdle (d .bus),
   resting (partner m) d,
   ticksIn d shortTransfer,
+  never (writesToContr m) d shortTransfer,
 )
 
 abbrev good : Device → Seen
-good d = (d, true, true, true, true, true, true, 1)
+good d = (d, true, true, true, true, true, true, 1, true)
 
 -- the holder's idle timer is on or off
 transfer-good : (m : Master) (k : Kind) (s t : Setting) (i : Bool) → let s' : Setting = record { reserve = s .reserve; priority = s .priority; idle = i } in
@@ -95,6 +96,9 @@ still k rs m d n there here =
       unstored =
           never-append (storesRt m) (again m) (shortTransfers n) (run k rs) (ap (λ (c : Came). c .2) there)
           (ap (λ (x : Device). never (storesRt m) x (shortTransfers n)) at ∙ rounds-never d same (storesRt m) (ap (λ (x : Seen). x .2) here) n);
+      unwritten =
+          never-append (writesToContr m) (again m) (shortTransfers n) (run k rs) (again-unwritten m (run k rs))
+          (ap (λ (x : Device). never (writesToContr m) x (shortTransfers n)) at ∙ rounds-never d same (writesToContr m) (ap (λ (x : Seen). x .8) here) n);
       long = ap (λ (x : Device). ticksIn x (shortTransfers n)) at ∙ rounds-ticks d same (ap (λ (x : Seen). x .7) here) n;
       asks =
           ap (λ (x : Device). throughout (requests (partner m)) x (shortTransfers n)) at

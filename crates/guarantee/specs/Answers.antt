@@ -4,10 +4,11 @@
 use Rattle.guarantee.specs.Guarantee.{OrderGuarantees, SheetsGuarantee, OrderGuaranteesWithin, SheetsGuaranteeWithin}
 use Rattle.guarantee.specs.Necessary.{ReserveNecessary, BoundedExactly}
 use Rattle.guarantee.specs.Boxes.{BoxesOverwritten, BoxesKept, IdleBoxDropped, IdleBoxKept}
-use Rattle.guarantee.specs.Starts.{StartsInAnyOrder, StartsGuarantee, OneAsksFirst, FirstOwns, EitherInTime}
+use Rattle.guarantee.specs.Starts.{StartsInAnyOrder, RequestLost, StartsGuarantee, OneAsksFirst, FirstOwns, EitherInTime}
 use Rattle.guarantee.specs.Reboot.{RebootStores, RebootWhileOwning, RebootRowsHold}
 use Rattle.guarantee.specs.Waits.{WaitTells}
 use Rattle.guarantee.specs.Witnesses.{GuaranteeWitnessesMeet}
+use Rattle.guarantee.specs.MoreWitnesses.{MoreWitnessesMeet}
 use Rattle.guarantee.specs.StartsWitnesses.{StartsWitnessesMeet}
 
 pub record Answers : Type 0 where
@@ -26,6 +27,7 @@ pub record Answers : Type 0 where
   pub idleBoxKept : IdleBoxKept
   -- Does it matter in which order both start?
   pub startsInAnyOrder : StartsInAnyOrder
+  pub requestLost : RequestLost
   pub startsGuarantee : StartsGuarantee
   pub oneAsksFirst : OneAsksFirst
   pub firstOwns : FirstOwns
@@ -38,4 +40,5 @@ pub record Answers : Type 0 where
   pub waitTells : WaitTells
   -- Are there orders and runs that reach it?
   pub guaranteeWitnessesMeet : GuaranteeWitnessesMeet
+  pub moreWitnessesMeet : MoreWitnessesMeet
   pub startsWitnessesMeet : StartsWitnessesMeet

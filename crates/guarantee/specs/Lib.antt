@@ -5,5 +5,6 @@ pub mod Starts
 pub mod Reboot
 pub mod Waits
 pub mod Witnesses
+pub mod MoreWitnesses
 pub mod StartsWitnesses
 pub mod Answers

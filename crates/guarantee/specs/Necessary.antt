@@ -16,7 +16,7 @@ use Rattle.arbiter.specs.declared.Master.{Master}
 use Rattle.arbiter.specs.declared.Kind.{Kind}
 use Rattle.arbiter.specs.declared.Device.{Device}
 use Rattle.arbiter.specs.declared.Raw.{Raw}
-use Rattle.audit.specs.SettingsKept.{storesRt}
+use Rattle.audit.specs.SettingsKept.{storesRt, writesToContr}
 use Rattle.audit.specs.WorstWait.{sendsStops}
 use Rattle.audit.specs.WaitAsSet.{Served}
 use Rattle.sheets.specs.declared.Order.{Order}
@@ -29,13 +29,15 @@ use Rattle.guarantee.specs.Guarantee.{reserveIn}
 abbrev pub waitsFrom : Kind → List Raw → List Raw → Device
 waitsFrom k rs before = runFrom (run k rs) before
 
--- After a start by the events rs, with no reset and no byte of m's that is stored in its RT: the request of m's partner stands over n ticks, and
--- all the while m owns and is live. At the end the bus is idle and the partner's port at rest, and still it waits.
+-- After a start by the events rs, with no reset, no byte of m's that is stored in its RT and none in its CONTR, so that its idle timer is as ordered:
+-- the request of m's partner stands over n ticks, and all the while m owns and is live. At the end the bus is idle and the partner's port at rest, and
+-- still it waits.
 pub record StillWaits (k : Kind) (rs : List Raw) (m : Master) (n : ℕ) : Type 0 where
   pub before : List Raw
   pub later : List Raw
   pub unreset : never reset (run k rs) (before ++ later) ≡ true
   pub unstored : never (storesRt m) (run k rs) (before ++ later) ≡ true
+  pub unwritten : never (writesToContr m) (run k rs) (before ++ later) ≡ true
   pub long : ticksIn (waitsFrom k rs before) later ≡ n
   pub asks : throughout (requests (partner m)) (waitsFrom k rs before) later ≡ true
   pub holds : throughout (owns m) (waitsFrom k rs before) later ≡ true
@@ -43,7 +45,7 @@ pub record StillWaits (k : Kind) (rs : List Raw) (m : Master) (n : ℕ) : Type 0
   pub idle : isIdle ((runFrom (waitsFrom k rs before) later) .bus) ≡ true
   pub rest : resting (partner m) (runFrom (waitsFrom k rs before) later) ≡ true
 
--- By every order that gives m a reserve of 0, whatever else it says, there is one for every n.
+-- By every order that gives m a reserve of 0, whatever else it says, its idle timer on among it, there is one for every n.
 abbrev pub ReserveNecessary : Type 0
 ReserveNecessary = (k : Kind) (o : Order) (m : Master) (n : ℕ) → reserveIn m o ≡ 0 → StillWaits k (orderEvents o) m n
 

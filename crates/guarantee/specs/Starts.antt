@@ -12,7 +12,7 @@ use Rattle.arbiter.specs.Words.{partner}
 use Rattle.arbiter.specs.State.{owns, isIdle}
 use Rattle.arbiter.specs.Effects.{powerUp}
 use Rattle.arbiter.specs.Steps.{runFrom, run}
-use Rattle.arbiter.specs.AuditWords.{next, requests, resting, reserveOf, reset, tick, withdrawalOf, grantTaken, ticksIn, never}
+use Rattle.arbiter.specs.AuditWords.{next, requests, resting, reserveOf, reset, tick, withdrawalOf, grantTaken, grantEnded, ticksIn, never}
 use Rattle.arbiter.specs.Witnesses.{number}
 use Rattle.arbiter.specs.declared.Master.{Master}
 use Rattle.arbiter.specs.declared.Master.the-variants.{Zero, One}
@@ -68,6 +68,13 @@ pub record StandsAs (k : Kind) (rs : List Raw) (m : Master) (s : Setting) : Type
 
 abbrev pub StartsInAnyOrder : Type 0
 StartsInAnyOrder = (k : Kind) (o : Order) (rs : List Raw) → Starts o rs → StandsAs k rs Zero (o .master0) × StandsAs k rs One (o .master1)
+
+-- Where it does not stand, a grant of m's has ended at some point of rs. There is neither a reset nor a withdrawal among them: it was lost.
+abbrev pub wasEnded : Master → Kind → List Raw → Bool
+wasEnded m k rs = not (never (grantEnded m) (powerUp k) rs)
+
+abbrev pub RequestLost : Type 0
+RequestLost = (k : Kind) (o : Order) (rs : List Raw) (m : Master) → Starts o rs → requests m (run k rs) || wasEnded m k rs ≡ true
 
 -- So what the sheets guarantee they guarantee from every such start.
 abbrev pub StartsGuarantee : Type 0

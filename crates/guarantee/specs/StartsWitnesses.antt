@@ -20,7 +20,7 @@ use Rattle.sheets.specs.declared.Order.{Order}
 use Rattle.sheets.specs.Orders.{controlByte, settingEvents}
 use Rattle.sheets.specs.Started.{setting, orders}
 use Rattle.guarantee.specs.Guarantee.{reserveIn}
-use Rattle.guarantee.specs.Starts.{Starts, wasGranted, Tickless, AsksFirst}
+use Rattle.guarantee.specs.Starts.{Starts, wasGranted, wasEnded, Tickless, AsksFirst}
 use Rattle.guarantee.specs.Witnesses.{reaches}
 
 -- ---- the order, and three starts by it for either controller m; p is its partner
@@ -82,7 +82,7 @@ owned k rs m = owns m (run k rs) ∷ requests m (run k rs) ∷ requests (partner
 abbrev pub lost : Kind → List Raw → Master → List Bool
 lost k rs m =
     let d : Device = run k rs in
-    not (requests m d) ∷ wasGranted m k rs ∷ eqb (reserveOf m d) (reserveFor m) ∷ owns (partner m) d ∷ []
+    not (requests m d) ∷ wasGranted m k rs ∷ wasEnded m k rs ∷ eqb (reserveOf m d) (reserveFor m) ∷ owns (partner m) d ∷ []
 
 -- the premises of EitherInTime with nothing but ticks: p owns after the last one, and not before
 abbrev pub inTime : Kind → List Raw → Master → List Bool

@@ -36,6 +36,7 @@ const TABLES: &Openers = &[
     ("audit/proofs/WaitWitnesses.antt", &["wait-witnesses-meet"]),
     ("guarantee/proofs/Boxes.antt", &["connected-05", "connected-25", "timed-ticks"]),
     ("guarantee/proofs/Devices.antt", &["zero-again", "one-rest"]),
+    ("guarantee/proofs/MoreWitnesses.antt", &["more-witnesses-meet"]),
     ("guarantee/proofs/Necessary.antt", &["transfer-good"]),
     ("guarantee/proofs/Reboot.antt", &["reboot-rows-hold"]),
     ("guarantee/proofs/StartsWitnesses.antt", &["computed"]),

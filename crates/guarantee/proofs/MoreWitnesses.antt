@@ -1,0 +1,32 @@
+-- Every row of specs/MoreWitnesses.antt meets its premises and comes to what it says: antt computes each.
+-- Assumes nothing.
+use mathlib.Core.Path.{refl}
+use Rattle.arbiter.specs.Rules.{rulesOf}
+use Rattle.arbiter.specs.Words.{byteOf}
+use Rattle.arbiter.specs.Registers.{contrByte, statusByte, registerByte, isAsserted, ownWritten, mailWritten, drivesWritten, turnWritten}
+use Rattle.arbiter.specs.Events.{decode, inSequence, acknowledged, outcome}
+use Rattle.arbiter.specs.Effects.{commanded, written, paired, wasRead, lined, ticked, freshSide, wasReset, powerUp, effect}
+use Rattle.arbiter.specs.Order.{levels, lost, lossesFrom, losses, cutFrom, cut, winner, claim, granted, grantFrom, grant, joined, clocked, keptJoined, connectFrom, connect}
+use Rattle.arbiter.specs.Steps.{parts, ownerByte, linesByte, byteRead, refused, taken, stepEvent, stepDecoded, step, runFrom, run}
+use Rattle.arbiter.specs.AuditWords.{ticksIn, never, throughout}
+use Rattle.arbiter.specs.Traces.{rawsIn}
+use Rattle.arbiter.specs.declared.Master.the-variants.{Zero, One}
+use Rattle.arbiter.specs.declared.Kind.the-variants.{Pca9641, Tpt29641}
+use Rattle.audit.specs.WorstWait.{stopsAfter}
+use Rattle.sheets.specs.Sheets.{countsRight, boxRight, flagRight, boxesRight, checkSheet, checkPair}
+use Rattle.sheets.specs.Orders.{tickedOnEither, isComplete, valueAt, settingOf, orderOf, controlByte, orderEvents, readComplete, readOrder, orderedOf, bufferOf, ordered, orderedBuffer}
+use Rattle.sheets.specs.Waits.{waitBehind, waitOn, waitOf}
+use Rattle.guarantee.specs.MoreWitnesses.{moreWitnesses, MoreWitnessesMeet}
+
+pub more-witnesses-meet : MoreWitnessesMeet
+unfolding rulesOf byteOf contrByte statusByte registerByte isAsserted ownWritten mailWritten drivesWritten turnWritten
+    decode inSequence acknowledged outcome commanded written paired wasRead lined ticked freshSide wasReset powerUp effect
+    levels lost lossesFrom losses cutFrom cut winner claim granted grantFrom grant joined clocked keptJoined connectFrom connect
+    parts ownerByte linesByte byteRead refused taken stepEvent stepDecoded step runFrom run
+    ticksIn never throughout stopsAfter countsRight boxRight flagRight boxesRight checkSheet checkPair
+    tickedOnEither isComplete valueAt settingOf orderOf controlByte orderEvents readComplete readOrder orderedOf bufferOf ordered orderedBuffer
+    rawsIn waitBehind waitOn waitOf moreWitnesses
+more-witnesses-meet Pca9641 Zero = refl
+more-witnesses-meet Pca9641 One = refl
+more-witnesses-meet Tpt29641 Zero = refl
+more-witnesses-meet Tpt29641 One = refl
