@@ -15,13 +15,17 @@ use Rattle.arbiter.specs.Effects.{commanded, written, paired, wasRead, lined, t
 use Rattle.arbiter.specs.Order.{levels, lost, lossesFrom, losses, cutFrom, cut, winner, claim, granted, grantFrom, grant, joined, clocked, keptJoined, connectFrom, connect}
 use Rattle.arbiter.specs.Steps.{parts, ownerByte, linesByte, byteRead, refused, taken, stepEvent, stepDecoded, step}
 use Rattle.arbiter.specs.AuditWords.{never, throughout}
+use Rattle.arbiter.specs.Straps.{addressOf}
+use Rattle.arbiter.specs.Traces.{rawsIn, readKind, readCounted, readStrapped, readTrace}
+use Rattle.arbiter.specs.Writing.{traceOf}
 use Rattle.arbiter.specs.declared.Master.{Master}
 use Rattle.arbiter.specs.declared.Kind.{Kind}
 use Rattle.arbiter.specs.declared.Kind.the-variants.{Pca9641, Tpt29641}
 use Rattle.arbiter.specs.declared.Raw.{Raw}
 use Rattle.audit.specs.WorstWait.{reservesWithin, stopsAfter, sendsStops}
 use Rattle.share.specs.Numbers.{larger}
-use Rattle.share.specs.States.{statesFrom, tickStates, front, longest}
+use Rattle.share.specs.States.{statesFrom, tickStates, count, front, longest}
+use Rattle.share.specs.Share.{sharesIn, totalsOf}
 use Rattle.longest.specs.Longest.{keepsAsking, waitsUnready, Meets}
 use Rattle.longest.specs.Witnesses.{holdsBack, asksOn, readyBut, meets, longestWitnesses, LongestWitnessesMeet}
 
@@ -30,7 +34,7 @@ unfolding rulesOf byteOf contrByte statusByte registerByte isAsserted ownWritten
     decode inSequence acknowledged outcome commanded written paired wasRead lined ticked freshSide wasReset powerUp effect
     levels lost lossesFrom losses cutFrom cut winner claim granted grantFrom grant joined clocked keptJoined connectFrom connect
     parts ownerByte linesByte byteRead refused taken stepEvent stepDecoded step never throughout stopsAfter
-    larger statesFrom front longest keepsAsking longestWitnesses
+    addressOf rawsIn readKind readCounted readStrapped readTrace traceOf larger statesFrom count front longest sharesIn totalsOf keepsAsking longestWitnesses
 longest-witnesses-meet Pca9641 = refl
 longest-witnesses-meet Tpt29641 = refl
 

@@ -5,19 +5,26 @@ use Prim.Native.Nat.{ℕ, _+_, _-_}
 use mathlib.Core.Path.{_≡_}
 use mathlib.Core.Bool.{Bool, true, false, not, _&&_}
 use mathlib.Core.List.{List, [], _∷_, _++_}
+use lib.ListN.{length}
 use lib.Dec.{eqb, ltb, leb}
 use Rattle.arbiter.specs.Words.{partner}
 use Rattle.arbiter.specs.Effects.{powerUp}
 use Rattle.arbiter.specs.AuditWords.{reset as aReset, never, throughout}
+use Rattle.arbiter.specs.Straps.{pins}
+use Rattle.arbiter.specs.Traces.{kindNumber}
+use Rattle.arbiter.specs.Writing.{traceOf}
 use Rattle.arbiter.specs.Marks.{command, tick, reset, times}
 use Rattle.arbiter.specs.Witnesses.{number, setsRt, setsContr, stopOn, busStart, busStop, allMet}
 use Rattle.arbiter.specs.declared.Master.{Master}
 use Rattle.arbiter.specs.declared.Kind.{Kind}
 use Rattle.arbiter.specs.declared.Raw.{Raw}
+use Rattle.arbiter.specs.declared.TraceRead.{TraceRead}
+use Rattle.arbiter.specs.declared.TraceRead.the-variants.{Accepted, Refused}
 use Rattle.audit.specs.WorstWait.{reservesWithin, sendsStops}
 use Rattle.audit.specs.WaitWitnesses.{afterHold, beforeStop, lateStop, forBoth}
 use Rattle.share.specs.States.{tickStates, waits, longest}
-use Rattle.longest.specs.Longest.{keepsAsking, waitsUnready}
+use Rattle.share.specs.Share.{readAlone, totalsOf}
+use Rattle.longest.specs.Longest.{keepsAsking, waitsUnready, longestOf}
 
 -- ---- the premises of Meets, as tests
 
@@ -77,12 +84,27 @@ bothAsk rt m = setsRt m rt ++ setsContr m 0x01 ++ setsContr (partner m) 0x01
 abbrev pub asksAnew : Master → List Raw
 asksAnew m = setsContr (partner m) 0x00 ++ setsContr m 0x00 ++ setsContr m 0x01 ++ setsContr (partner m) 0x01
 
+-- ---- a trace of such a run, byte by byte
+
+-- accepted with this address, count and kind
+abbrev pub isAccepted : ℕ → ℕ → Kind → TraceRead → Bool
+isAccepted address n k (Accepted b c j) = eqb address b && eqb n c && eqb (kindNumber k) (kindNumber j)
+isAccepted address n k (Refused r) = false
+
+-- All is met by its events, and in its totals the longest wait is the figure but for one tick.
+abbrev pub traceReaches : ℕ → Kind → Master → List Raw → Bool
+traceReaches most k m rs =
+    let t : List ℕ = traceOf (pins 0 0 0 1) rs k in
+    isAccepted 0x71 (length rs) k (readAlone t) && meets most 0 0 k m rs && eqb (longestOf (partner m) (totalsOf (readAlone t) t) + 1) (35 + most)
+
 unfoldable pub longestWitnesses : Kind → List Bool
 longestWitnesses k =
     -- a hold of 35 ticks and a reserve of 3, and of 50; the same with m's STOP two ticks late
     forBoth (λ m. reaches 3 0 0 k m (afterHold 3 m ++ times 38 tick))
     ∷ forBoth (λ m. reaches 50 0 0 k m (afterHold 50 m ++ times 85 tick))
     ∷ forBoth (λ m. reaches 3 2 0 k m (afterHold 3 m ++ lateStop m 2 3))
+    -- the first as the bytes of a trace
+    ∷ forBoth (λ m. traceReaches 3 k m (afterHold 3 m ++ times 38 tick))
     -- no hold
     ∷ forBoth (λ m. reachesUnheld 3 0 0 k m (waitsOut 3 0 m ++ tick ∷ []))
     ∷ forBoth (λ m. reachesUnheld 50 0 0 k m (waitsOut 50 0 m ++ tick ∷ []))
