@@ -11,6 +11,7 @@ pub mod RecipeRaws
 pub mod RecipeWalk
 pub mod RecipeEnd
 pub mod Recipe
+pub mod RecipeRefused
 pub mod Flags
 pub mod Turns
 pub mod Interrupts

@@ -15,7 +15,7 @@ use Rattle.arbiter.specs.Witnesses.{number}
 use Rattle.audit.specs.WaitAsSet.{isWithin}
 use Rattle.sheets.specs.declared.Setting.{Setting}
 use Rattle.guarantee.specs.Starts.{those}
-use Rattle.recovery.specs.Recipe.{isFrom, Recovers, HasBus, ticksSince, RecoveryRecipe, RecoveryHeld, RecoveryHold, RecoveryGuarantees}
+use Rattle.recovery.specs.Recipe.{isFrom, Recovers, HasBus, ticksSince, RecoveryRecipe, RecoveryHeld, RecoveryHold, RecoveryGuarantees, RecoveryGuaranteesWithin}
 use Rattle.arbiter.proofs.Choice.{owns-turn}
 use Rattle.arbiter.proofs.Runs.{from-append}
 use Rattle.arbiter.proofs.Tenure.{run-owned}
@@ -102,6 +102,12 @@ recovery-hold d p s rs h =
 
 -- ---- the wait
 
+-- With the bus p owns, so no hold runs, and its RT is its reserve.
+pub recovery-guarantees-within : RecoveryGuaranteesWithin
+recovery-guarantees-within k rs p s has past later most more within nr ns long =
+    let turn = owns-turn p ((run k rs) .arb .turn) (has .owner) in
+    wait-as-set k p rs past later most more (ap (isWithin most) (has .reserve) ∙ within) (run-owned k rs p (turn .0) (turn .1) .hold) nr ns long
+
 pub recovery-guarantees : RecoveryGuarantees
 unfolding run
 recovery-guarantees k before rs p s h past later more some nr ns long =
@@ -113,7 +119,5 @@ recovery-guarantees k before rs p s h past later more some nr ns long =
     let same : run k all ≡ runFrom x (times (x .bus .hold) tick) =
     from-append (before ++ rs) (times hold tick) (powerUp k) ∙ ap (λ (y : Device). runFrom y (times (y .bus .hold) tick)) joined in
     let has : HasBus p s (run k all) = subst (HasBus p s) (sym same) (recovery-recipe d p s rs h .1) in
-    let turn = owns-turn p ((run k all) .arb .turn) (has .owner) in
     let most : ℕ = s .reserve in
-    wait-as-set k p all past later most more (ap (isWithin most) (has .reserve) ∙ within-self most some)
-    (run-owned k all p (turn .0) (turn .1) .hold) nr (never-beyond most p (past ++ later) (run k all) ns) long
+    recovery-guarantees-within k all p s has past later most more (within-self most some) nr (never-beyond most p (past ++ later) (run k all) ns) long

@@ -3,10 +3,10 @@
 -- Assumes nothing.
 use Rattle.recovery.specs.Crash.{CrashExact, CrashFree, StalledOnlyIf}
 use Rattle.recovery.specs.Diagnosis.{Diagnosis, DiagnosisRead, WordWaits, InitEnds, InitGoesOn, InitCounts}
-use Rattle.recovery.specs.Recipe.{RecoveryRecipe, RecoveryHeld, RecoveryHold, RecoveryGuarantees}
+use Rattle.recovery.specs.Recipe.{RecoveryRecipe, RecoveryHeld, RecoveryHold, RecoveryGuarantees, RecoveryGuaranteesWithin, RefusedLeftOut, RecoveryAmongRefused}
 use Rattle.recovery.specs.Told.{GrantTold, LossTold, LineTells, SheetsMasked}
 use Rattle.recovery.specs.CrashWitnesses.{CrashWitnessesMeet}
-use Rattle.recovery.specs.RecipeWitnesses.{RecipesRecover, RecipeWitnessesMeet}
+use Rattle.recovery.specs.RecipeWitnesses.{RecipesRecover, RefusedRecover, RecipeWitnessesMeet}
 use Rattle.recovery.specs.ToldWitnesses.{ToldWitnessesMeet}
 
 pub record Answers : Type 0 where
@@ -26,6 +26,9 @@ pub record Answers : Type 0 where
   pub recoveryHeld : RecoveryHeld
   pub recoveryHold : RecoveryHold
   pub recoveryGuarantees : RecoveryGuarantees
+  pub recoveryGuaranteesWithin : RecoveryGuaranteesWithin
+  pub refusedLeftOut : RefusedLeftOut
+  pub recoveryAmongRefused : RecoveryAmongRefused
   -- What of a word that was sent, and of an initialisation?
   pub wordWaits : WordWaits
   pub initEnds : InitEnds
@@ -34,5 +37,6 @@ pub record Answers : Type 0 where
   -- Are there such runs?
   pub crashWitnessesMeet : CrashWitnessesMeet
   pub recipesRecover : RecipesRecover
+  pub refusedRecover : RefusedRecover
   pub recipeWitnessesMeet : RecipeWitnessesMeet
   pub toldWitnessesMeet : ToldWitnessesMeet

@@ -8,14 +8,14 @@ use Rattle.arbiter.specs.Words.{if_then_else_, side}
 use Rattle.arbiter.specs.State.{owns, claims}
 use Rattle.arbiter.specs.Events.{decode}
 use Rattle.arbiter.specs.Steps.{runFrom, run}
-use Rattle.arbiter.specs.AuditWords.{next, reserveOf, resting, tick as isTick, ticksIn}
+use Rattle.arbiter.specs.AuditWords.{next, reserveOf, resting, isAccepted, tick as isTick, ticksIn}
 use Rattle.arbiter.specs.Marks.{stop, generalCall, tick, times}
 use Rattle.arbiter.specs.Witnesses.{number}
 use Rattle.audit.specs.SettingsKept.{bitsOf}
 use Rattle.sheets.specs.declared.Setting.{Setting}
 use Rattle.sheets.specs.Orders.{settingEvents}
-use Rattle.guarantee.specs.Guarantee.{Guaranteed}
-use Rattle.guarantee.specs.Starts.{isBetween, those}
+use Rattle.guarantee.specs.Guarantee.{Guaranteed, GuaranteedWithin}
+use Rattle.guarantee.specs.Starts.{isBetween, keptIf, those}
 
 -- ---- the recipe
 
@@ -60,12 +60,14 @@ pub record AwaitsBus (p : Master) (d : Device) : Type 0 where
   pub rest : resting p d ≡ true
   pub unowned : (m : Master) → owns m d ≡ false
 
--- From any device: at its last STOP p has the bus if no hold runs then. If one does, p claims over as many ticks less one, and has the bus at the
--- tick after them.
-abbrev pub RecoveryRecipe : Type 0
-RecoveryRecipe =
-    (d : Device) (p : Master) (s : Setting) (rs : List Raw) → Recovers p s rs → let x : Device = runFrom d rs in
+-- In x p has the bus if no hold runs. If one does, p claims over as many ticks less one, and has the bus at the tick after them.
+abbrev pub GetsBus : Master → Setting → Device → Type 0
+GetsBus p s x =
     ((n : ℕ) → n < x .bus .hold → AwaitsBus p (runFrom x (times n tick))) × HasBus p s (runFrom x (times (x .bus .hold) tick))
+
+-- From any device: so it is at its last STOP.
+abbrev pub RecoveryRecipe : Type 0
+RecoveryRecipe = (d : Device) (p : Master) (s : Setting) (rs : List Raw) → Recovers p s rs → GetsBus p s (runFrom d rs)
 
 -- So too where line changes and bytes that read as no event come among the ticks after the STOP: until the hold is over p claims, and at the tick t
 -- that ends it p has the bus.
@@ -92,3 +94,24 @@ abbrev pub RecoveryGuarantees : Type 0
 RecoveryGuarantees =
     (k : Kind) (before rs : List Raw) (p : Master) (s : Setting) → Recovers p s rs
     → Guaranteed k (before ++ rs ++ times ((run k (before ++ rs)) .bus .hold) tick) p (s .reserve)
+
+-- And so from wherever p has the bus like that, also where it stores its RT anew: with 1 to `most` the other is in by `most` and one.
+abbrev pub RecoveryGuaranteesWithin : Type 0
+RecoveryGuaranteesWithin = (k : Kind) (rs : List Raw) (p : Master) (s : Setting) → HasBus p s (run k rs) → GuaranteedWithin k rs p (s .reserve)
+
+-- ---- with refused events between
+
+-- the events of a list that are accepted, each in the state that it meets
+unfoldable pub acceptedOf : Device → List Raw → List Raw
+acceptedOf d [] = []
+acceptedOf d (r ∷ rs) = keptIf (isAccepted r d) r (acceptedOf (next d r) rs)
+
+-- The others, of unknown kind, with a field out of range or out of sequence, can be left out.
+abbrev pub RefusedLeftOut : Type 0
+RefusedLeftOut = (d : Device) (rs : List Raw) → runFrom d rs ≡ runFrom d (acceptedOf d rs)
+
+-- So any refused events may come between, whoever sends them: where those of rs that are accepted are p's recipe, rs leads to the same.
+abbrev pub RecoveryAmongRefused : Type 0
+RecoveryAmongRefused =
+    (d : Device) (p : Master) (s : Setting) (rs : List Raw) → Recovers p s (acceptedOf d rs) → let x : Device = runFrom d rs in
+    (x .bus .hold ≡ (if (side p d) .contr .swrst then 35 - ticksSince (number p) d (acceptedOf d rs) else 0)) × GetsBus p s x

@@ -7,13 +7,13 @@ use Rattle.arbiter.specs.Words.{partner}
 use Rattle.arbiter.specs.State.{owns, claims, isIdle}
 use Rattle.arbiter.specs.Steps.{runFrom, run}
 use Rattle.arbiter.specs.AuditWords.{next, requests, resting, reserveOf, idleTimerOn, tick as isTick, ticksIn}
-use Rattle.arbiter.specs.Marks.{raw, command, write, stop, lines, tick, generalCall, times}
+use Rattle.arbiter.specs.Marks.{raw, command, write, stop, pair, lines, tick, pulse, generalCall, times}
 use Rattle.arbiter.specs.Witnesses.{number, setsContr, writesContr, busStart, allMet}
 use Rattle.sheets.specs.declared.Setting.{Setting}
 use Rattle.sheets.specs.Orders.{controlByte}
 use Rattle.guarantee.specs.Starts.{isBetween, those}
 use Rattle.guarantee.specs.Witnesses.{reaches}
-use Rattle.recovery.specs.Recipe.{recipe, isNone, Recovers}
+use Rattle.recovery.specs.Recipe.{recipe, isNone, Recovers, acceptedOf}
 
 -- ---- the events of a recovery
 
@@ -97,6 +97,33 @@ recoversBehind k p hangs =
     ++ recoversHeld k p (hangs ++ waitsWith p 0x11 3 ++ recipe p twenty) 35
     ++ recoversHeld k p (hangs ++ waitsWith p 0x11 3 ++ spread p twenty) 29
 
+-- ---- with refused events between
+
+-- p's recipe with events between that are out of sequence there: its partner's WRITE and STOP, a PAIR, a PULSE, and its own WRITE and STOP at rest
+abbrev pub refusedBefore : Master → Setting → List Raw
+refusedBefore p s =
+    let n : ℕ = number p in
+    let m : ℕ = number (partner p) in
+    tick ∷ pulse 1 ∷ generalCall n 0x06
+    ∷ stop n ∷ write n 0x55 ∷ command n 0x03
+    ∷ write m 0x01 ∷ pair 0x01 0x01 ∷ write n (s .reserve)
+    ∷ stop m ∷ tick ∷ stop n
+    ∷ stop n ∷ pulse 0 ∷ command n 0x01
+    ∷ pair 0x00 0x00 ∷ raw 6 1 0 0 ∷ write n (controlByte s)
+    ∷ write m 0x00 ∷ []
+
+abbrev pub amongRefused : Master → Setting → List Raw
+amongRefused p s = refusedBefore p s ++ stop (number p) ∷ stop (number p) ∷ []
+
+-- p asks behind a partner that hangs owning, and waits three ticks. Twelve of these events are then refused, and the others are a recovery.
+abbrev pub behindOwner : Kind → Master → ℕ → Device
+behindOwner k p v = run k (hangsOwning (partner p) ++ waitsWith p v 3)
+
+abbrev pub RefusedRecover : Type 0
+RefusedRecover =
+    (k : Kind) (p : Master) → Recovers p twenty (acceptedOf (behindOwner k p 0x01) (amongRefused p twenty))
+    × Recovers p twenty (acceptedOf (behindOwner k p 0x11) (amongRefused p twenty))
+
 -- ---- the short way
 
 -- After p's GENERAL CALL 06h, COMMAND 01h, WRITE 01h and STOP it owns, with RT 00h and its timer off: its partner, coming back, asks, and still
@@ -112,7 +139,9 @@ trapped k p hangs =
 
 unfoldable pub recipeWitnesses : Kind → Master → List Bool
 recipeWitnesses k p =
-    recoversBehind k p (hangsOwning (partner p)) ++ recoversBehind k p (hangsInside (partner p)) ++ trapped k p (hangsOwning (partner p))
+    recovers k p (hangsOwning (partner p) ++ waitsWith p 0x01 3) (amongRefused p twenty) 0
+    ++ recovers k p (hangsOwning (partner p) ++ waitsWith p 0x11 3) (amongRefused p twenty) 34
+    ++ recoversBehind k p (hangsOwning (partner p)) ++ recoversBehind k p (hangsInside (partner p)) ++ trapped k p (hangsOwning (partner p))
 
 abbrev pub RecipeWitnessesMeet : Type 0
 RecipeWitnessesMeet = (k : Kind) (p : Master) → allMet (recipeWitnesses k p) ≡ true

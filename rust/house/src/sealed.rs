@@ -47,7 +47,7 @@ const TABLES: &Openers = &[
     ("ranges/proofs/ExactWitnesses.antt", &["exact-witnesses-meet"]),
     ("ranges/proofs/RangeWitnesses.antt", &["all-cover"]),
     ("recovery/proofs/CrashWitnesses.antt", &["reached", "keptOut"]),
-    ("recovery/proofs/RecipeWitnesses.antt", &["recipe-witnesses-meet"]),
+    ("recovery/proofs/RecipeWitnesses.antt", &["refused-out", "recipe-witnesses-meet"]),
     ("recovery/proofs/ToldWitnesses.antt", &["told-witnesses-meet"]),
     ("share/proofs/Examples.antt", &["rows-hold"]),
     ("sheets/proofs/Examples.antt", &["examples-hold"]),
