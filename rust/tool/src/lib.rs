@@ -19,6 +19,7 @@ pub mod files;
 pub mod many;
 pub mod order;
 pub mod picture;
+pub mod release;
 pub mod script;
 pub mod share;
 pub mod shelf;
