@@ -21,6 +21,7 @@ pub mod order;
 pub mod picture;
 pub mod release;
 pub mod script;
+pub mod sha256;
 pub mod share;
 pub mod shelf;
 pub mod startup;
