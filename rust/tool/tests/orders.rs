@@ -3,15 +3,16 @@
 
 use std::collections::BTreeMap;
 
-use gunwaleish::{Bus, Event, Master, Pins};
+use gunwaleish::{Bus, Event, Master, Part, Pins, Refusal};
 use gunwaleish_tool::commands::orders::{orders, Wanted};
 use gunwaleish_tool::each::Made;
 use gunwaleish_tool::files::Input;
 use gunwaleish_tool::script::write_script;
-use gunwaleish_tool::startup::{words, Pattern, Scripts, PART};
+use gunwaleish_tool::startup::{words, Left, Pattern, Scripts, PART};
 use gunwaleish_tool::story::follow;
 use model::device::LOCK_REQ;
 use model::orders::{order_of, patterns};
+use model::part::Kind;
 use model::rng::Rng;
 use model::scripts::good_scripts;
 use model::trace::four;
@@ -83,7 +84,7 @@ fn endings_are_the_models() {
         let of_model =
             bytes.each_ref().map(|script| script.chunks(4).map(four).collect::<Vec<_>>());
         let events = of_model.each_ref().map(|script| script.iter().map(|&e| e.into()).collect());
-        let scripts = Scripts { pins: pins(), events };
+        let scripts = Scripts { pins: pins(), part: PART, events };
         let endings = scripts.endings().unwrap();
         let patterns = patterns(of_model[0].len(), of_model[1].len());
         assert_eq!(endings.len(), patterns.len());
@@ -97,6 +98,9 @@ fn endings_are_the_models() {
                 [0, 1].map(|m| device.masters[m].has(LOCK_REQ) && device.owner() != Some(m));
             assert_eq!(ending.waits, waits);
             assert_eq!(ending.refused, answers.iter().filter(|answer| answer[0] > 1).count());
+            assert_eq!(ending.left, left_of(&device));
+            // A bus read off the run is the listed one.
+            assert_eq!(scripts.bus_after(&ending.pattern), Ok(ending.bus));
             seen[0] += usize::from(ending.is_stuck());
             seen[1] += usize::from(waits[0]);
             seen[2] += usize::from(waits[1]);
@@ -110,6 +114,47 @@ fn endings_are_the_models() {
     assert!(seen.iter().all(|count| *count > 100), "{seen:?}");
 }
 
+/// What the model's registers hold, as a READ shows them: LOCK_GRANT stands in CONTR too.
+fn left_of(device: &Device) -> [Left; 2] {
+    [0, 1].map(|m| Left { contr: device.register(m, 1), rt: device.register(m, 3) })
+}
+
+/// The orders on a TPT29641, for which the library lists none, are the model's too; and scripts too long for
+/// a list have no endings there either.
+#[test]
+fn endings_on_the_other_part_are_the_models() {
+    let mut rng = Rng::new(209);
+    for _ in 0..60 {
+        let bytes = good_scripts(&mut rng);
+        let of_model =
+            bytes.each_ref().map(|script| script.chunks(4).map(four).collect::<Vec<_>>());
+        let events = of_model.each_ref().map(|script| script.iter().map(|&e| e.into()).collect());
+        let scripts = Scripts { pins: pins(), part: Part::Tpt29641, events };
+        let patterns = patterns(of_model[0].len(), of_model[1].len());
+        for (ending, pattern) in scripts.endings().unwrap().iter().zip(&patterns) {
+            let mut device = Device::power_up_of(Kind::Tpt29641);
+            order_of(pattern, &of_model).iter().for_each(|&event| {
+                device.step(event);
+            });
+            assert_eq!(ending.bus, Bus::from(device.answer(0, 0)[2]));
+            assert_eq!(ending.left, left_of(&device));
+        }
+    }
+    // Its write pointer rolls from 7 to 0, so that the third byte comes to CONTR and asks for the bus.
+    let master = Master::Zero;
+    let mut rolls = vec![Event::Command { master, code: 0x87 }];
+    rolls.extend([0, 0, 1].map(|value| Event::Write { master, value }));
+    rolls.push(Event::Stop { master });
+    let owner = |part| {
+        let scripts = Scripts { pins: pins(), part, events: [rolls.clone(), vec![]] };
+        scripts.endings().unwrap()[0].bus.owner
+    };
+    assert_eq!(Part::BOTH.map(owner), [None, Some(master)]);
+    let long = [vec![Event::Tick; 7], vec![]];
+    let long = Scripts { pins: pins(), part: Part::Tpt29641, events: long };
+    assert_eq!(long.endings(), Err(Refusal::LongScript));
+}
+
 /// Each order is in one group, which is told with its count, and with its first order.
 #[test]
 fn groups_hold_every_order() {
@@ -118,7 +163,7 @@ fn groups_hold_every_order() {
         let bytes = good_scripts(&mut rng);
         let events =
             bytes.each_ref().map(|script| script.chunks(4).map(|e| four(e).into()).collect());
-        let scripts = Scripts { pins: pins(), events };
+        let scripts = Scripts { pins: pins(), part: PART, events };
         let endings = scripts.endings().unwrap();
         let groups = scripts.groups(&endings).unwrap();
         assert_eq!(groups.iter().map(|group| group.count).sum::<usize>(), endings.len());

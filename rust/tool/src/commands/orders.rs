@@ -172,7 +172,7 @@ fn read_both(script0: &Input, script1: &Input) -> Result<Scripts, String> {
             script0.name, first.pins_line, first.pins, script1.name, second.pins_line, second.pins
         ));
     }
-    Ok(Scripts { pins: first.pins, events: [first.events, second.events] })
+    Ok(Scripts { pins: first.pins, part: PART, events: [first.events, second.events] })
 }
 
 fn read_one(input: &Input) -> Result<Script, String> {

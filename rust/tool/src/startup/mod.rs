@@ -1,25 +1,30 @@
 //! Two start-up scripts in all the orders that keep each script's own order, and how each order ends.
 //! Document 02, #109.
 //!
-//! The library lists how the bus stands at the end of each order. Who waits then is no part of that.
-//! It is asked of the library too: each order is run with a READ of both CONTR after it, and LOCK_REQ
-//! stands there. `words` puts it all into words.
+//! The library lists how the bus stands at the end of each order. Who waits then is no part of that, nor
+//! what the registers hold. It is asked of the library too: each order is run with a READ of both CONTR
+//! and both RT after it, and LOCK_REQ stands in CONTR. `words` puts it all into words.
 
 pub mod words;
 
 use std::fmt;
 
 use gunwaleish::{
-    list_orders, run, write_trace, Bus, Event, Ground, Master, Part, Pins, Refusal, MOST_ORDERS,
+    list_orders, run, run_trace, write_trace, Answer, Bus, Event, Ground, Master, Part, Pins,
+    Refusal, MOST_ORDERS,
 };
 
 use crate::story::follow;
 use crate::words::why_it_waits;
 
-/// The one part on which the orders are tried.
+/// The part on which the library lists the orders.
 pub const PART: Part = Part::Pca9641;
 
 const LOCK_REQ: u8 = 0x01;
+
+/// The registers that are read after an order, by their numbers.
+const CONTR: u8 = 1;
+const RT: u8 = 3;
 
 /// An order: for each of its events the script that it comes from, 0 or 1.
 #[derive(Clone, Debug, PartialEq, Eq)]
@@ -67,7 +72,15 @@ impl fmt::Display for Pattern {
 #[derive(Clone, Debug, PartialEq, Eq)]
 pub struct Scripts {
     pub pins: Pins,
+    pub part: Part,
     pub events: [Vec<Event>; 2],
+}
+
+/// What an order leaves in a controller's registers.
+#[derive(Clone, Copy, Debug, PartialEq, Eq)]
+pub struct Left {
+    pub contr: u8,
+    pub rt: u8,
 }
 
 /// How an order ends.
@@ -81,6 +94,8 @@ pub struct Ending {
     pub waits: [bool; 2],
     /// How many of its events are refused.
     pub refused: usize,
+    /// What the registers hold. Controller 0's first.
+    pub left: [Left; 2],
 }
 
 impl Ending {
@@ -103,7 +118,7 @@ impl Scripts {
 
     /// An order as a trace.
     pub fn trace(&self, pattern: &Pattern) -> Result<Vec<u8>, Refusal> {
-        write_trace(self.pins, PART, &self.order(pattern))
+        write_trace(self.pins, self.part, &self.order(pattern))
     }
 
     /// How every order ends, in their sequence.
@@ -115,19 +130,41 @@ impl Scripts {
         endings.map(|((pattern, bus), number)| self.ending(number, pattern, bus)).collect()
     }
 
-    fn ending(&self, number: usize, pattern: Pattern, bus: Bus) -> Result<Ending, Refusal> {
+    fn ending(&self, number: usize, pattern: Pattern, listed: Bus) -> Result<Ending, Refusal> {
         let order = self.order(&pattern);
-        let ask = |master| [Event::Command { master, code: 1 }, Event::Read { master }];
-        let asked = [&order[..], &Master::BOTH.map(ask).concat()].concat();
-        let answers = run(&write_trace(self.pins, PART, &asked)?)?.answers;
-        // The two bytes read, controller 0's first.
-        let contr = |m: Master| {
-            let place = order.len() + 2 * usize::from(m.number()) + 1;
-            answers.get(place).map_or(0, |answer| answer.byte_read)
+        let bus = match self.part {
+            PART => listed,
+            _ => self.bus_after(&pattern)?,
         };
-        let waits = Master::BOTH.map(|m| contr(m) & LOCK_REQ != 0 && bus.owner != Some(m));
-        let refused = answers.iter().take(order.len()).filter(|a| a.outcome.is_refused()).count();
-        Ok(Ending { number, pattern, bus, waits, refused })
+        let answers = self.ask(&order)?;
+        let (own, read) = answers.split_at(order.len());
+        // Of each controller the two bytes read, each after its COMMAND.
+        let byte = |place: usize| read.get(2 * place + 1).map_or(0, |answer| answer.byte_read);
+        let left = |m: Master| {
+            let first = 2 * usize::from(m.number());
+            Left { contr: byte(first), rt: byte(first + 1) }
+        };
+        let left = Master::BOTH.map(left);
+        let asks = |m: Master| left[m as usize].contr & LOCK_REQ != 0;
+        let waits = Master::BOTH.map(|m| asks(m) && bus.owner != Some(m));
+        let refused = own.iter().filter(|answer| answer.outcome.is_refused()).count();
+        Ok(Ending { number, pattern, bus, waits, refused, left })
+    }
+
+    /// The answers to an order, and to what is read of the registers after it.
+    fn ask(&self, order: &[Event]) -> Result<Vec<Answer>, Refusal> {
+        let read = |master, code| [Event::Command { master, code }, Event::Read { master }];
+        let both = |master| [read(master, CONTR), read(master, RT)].concat();
+        let asked = [order, &Master::BOTH.map(both).concat()].concat();
+        Ok(run(&write_trace(self.pins, self.part, &asked)?)?.answers)
+    }
+
+    /// How the bus stands after an order, by the answer to its last event: on a part for which the
+    /// library lists no orders.
+    pub fn bus_after(&self, pattern: &Pattern) -> Result<Bus, Refusal> {
+        let mut answers = vec![0; 4 * self.order(pattern).len()];
+        run_trace(&self.trace(pattern)?, &mut answers)?;
+        Ok(answers.chunks_exact(4).last().map_or(0, |answer| answer[2]).into())
     }
 
     /// Why each that waits does so, where nobody owns the bus: a sentence each.

@@ -40,7 +40,7 @@ fn first_and_some(endings: &[Ending], so: fn(&Ending) -> bool) -> Option<(String
 }
 
 /// So many orders of all.
-fn some(number: usize, all: usize) -> String {
+pub fn some(number: usize, all: usize) -> String {
     match (number, all) {
         (1, 1) => "in the one order".to_string(),
         _ if number == all => format!("in all {all} orders"),
