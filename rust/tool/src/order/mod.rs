@@ -6,7 +6,7 @@
 
 pub mod faults;
 mod lasting;
-mod waits;
+pub mod waits;
 pub mod words;
 
 use std::fmt;

@@ -17,7 +17,8 @@ pub fn told(order: &Order) -> String {
     )
 }
 
-fn in_words(waiting: &Waiting) -> String {
+/// How long a controller can wait, a sentence.
+pub fn in_words(waiting: &Waiting) -> String {
     let controller = waiting.controller;
     let holder = controller.partner();
     // The grade does not go by the part, and neither does what a reserve gives.

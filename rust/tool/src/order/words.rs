@@ -9,16 +9,19 @@ use crate::words::{count, ticks};
 /// The six boxes a line each, with the sheet that each comes from before it; those that do not last;
 /// and what comes of the order.
 pub fn told(order: &Order) -> String {
-    let mut text = String::new();
-    for entry in &order.entries {
-        text.push_str(&format!("{:<11}  {}\n", from(entry), in_words(order, entry)));
-    }
+    let mut text = boxes(order);
     let lasting = lasting::told(order);
     if !lasting.is_empty() {
         text.push_str(&format!("\n{lasting}"));
     }
     text.push_str(&format!("\n{}\n", outcome(order)));
     text
+}
+
+/// The six boxes a line each.
+pub fn boxes(order: &Order) -> String {
+    let line = |entry| format!("{:<11}  {}\n", from(entry), in_words(order, entry));
+    order.entries.iter().map(line).collect()
 }
 
 fn from(entry: &Entry) -> String {

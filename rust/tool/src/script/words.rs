@@ -13,12 +13,19 @@ pub struct Unread {
     pub expected: &'static str,
 }
 
+impl Unread {
+    /// What stands there, and what was expected.
+    pub fn why(&self) -> String {
+        match self.word.is_empty() {
+            true => format!("the line ends, expected {}", self.expected),
+            false => format!("'{}', expected {}", self.word, self.expected),
+        }
+    }
+}
+
 impl std::fmt::Display for Unread {
     fn fmt(&self, f: &mut std::fmt::Formatter) -> std::fmt::Result {
-        match self.word.is_empty() {
-            true => write!(f, "line {}: the line ends, expected {}", self.line, self.expected),
-            false => write!(f, "line {}: '{}', expected {}", self.line, self.word, self.expected),
-        }
+        write!(f, "line {}: {}", self.line, self.why())
     }
 }
 

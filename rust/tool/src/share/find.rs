@@ -14,6 +14,11 @@ pub struct Found {
     pub files: Vec<PathBuf>,
     /// What each folder has, and what was skipped in it.
     pub said: Vec<String>,
+    /// What is in the folders and is no trace, sorted: files of another name, and what is neither a
+    /// file nor a folder.
+    pub others: Vec<PathBuf>,
+    /// Links to folders, which are not followed, since they could lead in a circle.
+    pub links: Vec<PathBuf>,
     /// Folders that cannot be read.
     pub unread: Vec<Failure>,
 }
@@ -34,9 +39,13 @@ impl Found {
     fn search(&mut self, folder: &Path) {
         let mut here = Search::default();
         here.look_into(folder, &mut self.unread);
-        here.files.sort();
+        for paths in [&mut here.files, &mut here.others, &mut here.links] {
+            paths.sort();
+        }
         self.said.push(format!("{}: {}", folder.display(), here.told()));
         self.files.extend(here.files);
+        self.others.extend(here.others);
+        self.links.extend(here.links);
     }
 }
 
@@ -44,10 +53,8 @@ impl Found {
 #[derive(Default)]
 struct Search {
     files: Vec<PathBuf>,
-    /// Files of another name, and what is neither a file nor a folder.
-    others: usize,
-    /// Links to folders, which could lead in a circle.
-    links: usize,
+    others: Vec<PathBuf>,
+    links: Vec<PathBuf>,
 }
 
 impl Search {
@@ -78,20 +85,21 @@ impl Search {
         let file = kind.is_file() || kind.is_symlink() && !path.is_dir();
         match (trace && file, kind.is_symlink() && path.is_dir()) {
             (true, _) => self.files.push(path),
-            (false, true) => self.links += 1,
-            (false, false) => self.others += 1,
+            (false, true) => self.links.push(path),
+            (false, false) => self.others.push(path),
         }
         Ok(None)
     }
 
     fn told(&self) -> String {
         let mut skipped = vec![];
-        if self.others > 0 {
-            let verb = if self.others == 1 { "does" } else { "do" };
-            skipped.push(format!("{} that {verb} not end in .trace", count(self.others, "file")));
+        let (others, links) = (self.others.len(), self.links.len());
+        if others > 0 {
+            let verb = if others == 1 { "does" } else { "do" };
+            skipped.push(format!("{} that {verb} not end in .trace", count(others, "file")));
         }
-        if self.links > 0 {
-            skipped.push(format!("{} to folders", count(self.links, "link")));
+        if links > 0 {
+            skipped.push(format!("{} to folders", count(links, "link")));
         }
         let traces = count(self.files.len(), "trace");
         match skipped.is_empty() {

@@ -30,6 +30,14 @@ fn take_line(words: &mut Words, slots: &mut Vec<Slot>) -> Result<(), Unread> {
 
 /// Why the shelf is refused, with the line of its file.
 pub fn refused(slots: &[Slot], last: usize, refusal: Refusal) -> String {
+    match seen_at(slots, last, refusal) {
+        (Some(line), why) => format!("line {line}: {why}"),
+        (None, why) => why,
+    }
+}
+
+/// The line that a refusal of the shelf is about, and why it is refused.
+pub fn seen_at(slots: &[Slot], last: usize, refusal: Refusal) -> (Option<usize>, String) {
     let (line, why) = match refusal {
         Refusal::EmptyRow => (last, "the shelf has no device".to_string()),
         Refusal::LongRow => {
@@ -42,9 +50,9 @@ pub fn refused(slots: &[Slot], last: usize, refusal: Refusal) -> String {
         Refusal::EqualAddresses => {
             equal(slots).unwrap_or((last, "two devices have the same address".to_string()))
         }
-        _ => return refusal.to_string(),
+        _ => return (None, refusal.to_string()),
     };
-    format!("line {line}: refusal {}: {why}", refusal.number())
+    (Some(line), format!("refusal {}: {why}", refusal.number()))
 }
 
 /// The first device whose address stands there before it.
