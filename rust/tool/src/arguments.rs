@@ -23,7 +23,12 @@ pub struct Arguments {
     pub output: Option<PathBuf>,
     /// The command's own options that are there, each with the words after it.
     pub options: BTreeMap<&'static str, Vec<String>>,
+    /// The same words as they came, of options that name files: a path need not be text.
+    pub paths: BTreeMap<&'static str, Vec<PathBuf>>,
 }
+
+/// The options that may be there more than once: each time they name one file more.
+const REPEATED: &[&str] = &["--shelf-script", "--traces"];
 
 pub fn read_arguments(words: Vec<OsString>) -> Result<Asked, Failure> {
     let mut words = words.into_iter();
@@ -68,9 +73,13 @@ fn read_rest(
             }
             option if option.starts_with('-') && option != "-" => {
                 let (name, values) = own_option(command, option, &mut words)?;
-                if arguments.options.insert(name, values).is_some() {
+                if arguments.options.contains_key(name) && !REPEATED.contains(&name) {
                     return Err(wrong(&format!("{name} is there twice")));
                 }
+                let text = values.iter().map(|word| word.to_string_lossy().into_owned());
+                arguments.options.entry(name).or_default().extend(text);
+                let paths = values.into_iter().map(PathBuf::from);
+                arguments.paths.entry(name).or_default().extend(paths);
             }
             _ => arguments.files.push(word.into()),
         }
@@ -83,12 +92,11 @@ fn own_option(
     command: &'static Command,
     option: &str,
     words: &mut impl Iterator<Item = OsString>,
-) -> Result<(&'static str, Vec<String>), Failure> {
+) -> Result<(&'static str, Vec<OsString>), Failure> {
     let Some(&(name, count)) = command.options.iter().find(|(name, _)| *name == option) else {
         return Err(wrong(&format!("{} has no option '{option}'", command.name)));
     };
-    let values: Vec<String> =
-        words.take(count).map(|word| word.to_string_lossy().into_owned()).collect();
+    let values: Vec<OsString> = words.take(count).collect();
     match values.len() == count {
         true => Ok((name, values)),
         false => Err(wrong(&format!("{name} needs {count} after it, and has {}", values.len()))),

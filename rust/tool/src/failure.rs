@@ -11,6 +11,8 @@ pub enum Failure {
     Wrong(String),
     /// Some of many files are refused or cannot be read. Each was told already.
     OfMany { refused: bool },
+    /// A bundle is not released. The verdict was told already, with its reasons.
+    NotReleased,
     /// Nobody reads the output any more.
     Closed,
 }
@@ -31,7 +33,7 @@ impl Failure {
     pub fn code(&self) -> u8 {
         match self {
             Failure::Closed => 0,
-            Failure::Refused(_) | Failure::OfMany { refused: true } => 1,
+            Failure::Refused(_) | Failure::NotReleased | Failure::OfMany { refused: true } => 1,
             Failure::Wrong(_) | Failure::OfMany { refused: false } => 2,
         }
     }

@@ -8,6 +8,7 @@ pub mod import;
 pub mod list;
 pub mod orders;
 pub mod picture;
+pub mod release;
 pub mod run;
 pub mod share;
 pub mod sheet;
@@ -34,6 +35,7 @@ pub struct Command {
 const TRACES: &str = "[TRACE...] [-o OUT]";
 
 pub const COMMANDS: &[Command] = &[
+    release::COMMAND,
     sheet::COMMAND,
     orders::COMMAND,
     shelf::COMMAND,

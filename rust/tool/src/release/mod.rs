@@ -1,9 +1,16 @@
 //! Is this bundle safe? One verdict over what a release folder holds.
 //!
-//! `find` has the files, `judge` the reasons, and `words` the text on a terminal. Every judgement is the
-//! library's: the boxes and the waits are those of `sheet_box` and `sheet_wait`, an order of the two
+//! `find` has the files, `judge` the reasons, out of `sheets`, `orders` and `bench`, and `words` the text
+//! on a terminal. Every judgement is the library's: the boxes and the waits are those of `sheet_box` and `sheet_wait`, an order of the two
 //! start-up scripts ends as `list_orders` says, and a trace or a place of a shelf waits as long as its
 //! proved `Totals` tell. Here they are put side by side and into words.
+
+pub mod bench;
+pub mod find;
+pub mod judge;
+pub mod orders;
+pub mod sheets;
+pub mod words;
 
 use std::path::PathBuf;
 

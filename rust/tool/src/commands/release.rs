@@ -1,0 +1,107 @@
+//! `release`: one verdict over all that a release folder holds.
+
+use super::Command;
+use crate::arguments::Arguments;
+use crate::failure::Failure;
+use crate::files;
+use crate::release::find::{read_bundle, Named};
+use crate::release::judge::examine;
+use crate::release::{words, Asked};
+
+pub const COMMAND: Command = Command {
+    name: "release",
+    summary: "is this bundle safe? one verdict over its sheets, scripts, shelf and traces",
+    usage: "FOLDER [--most MS] [--without-limit 0|1|both] [file by file, as below]",
+    help: "FOLDER has the order sheets of a bundle, board.sheet and house.sheet, and, if they are there, the\n\
+           start-up scripts start0.script and start1.script, a shelf NAME.shelf (here or in shelf/) with\n\
+           the scripts for it beside it, and the traces of the bench, NAME.trace, also in the folders\n\
+           inside. Files are named by option too, instead of the folder's or without one:\n\n\
+           --board FILE --house FILE --start0 FILE --start1 FILE --shelf FILE\n\
+           --shelf-script FILE --traces PATH      these two also several times\n\n\
+           The output says what was found and what was not, what is ordered, and how long each controller\n\
+           can wait by it. Then comes the verdict, RELEASED or NOT RELEASED, with every reason against it,\n\
+           the worst first: where it is, what is so, and what would mend it. Reasons are an empty box; a\n\
+           file that is no sheet; a wait that is not bounded, or behind a silent controller alone; one\n\
+           above --most MS; an order of the start-up scripts after which nobody owns the bus though\n\
+           somebody asks, or that leaves other settings than the sheets order, or in which an event is\n\
+           refused; a refused script, shelf or trace; a wait in a trace or on the shelf that is longer\n\
+           than the sheets promise.\n\n\
+           --without-limit 0 passes a ticked reserve of 0 of controller 0, which is then without limit on\n\
+           purpose, and is told with the verdict. Where its reserve is not 0, that is a reason too. An\n\
+           empty box is never passed.\n\n\
+           Exit code: 0 released; 1 not released; 2 wrong use, a folder without both sheets, or a file\n\
+           that cannot be read: there is no verdict then.",
+    options: &[
+        ("--most", 1),
+        ("--without-limit", 1),
+        ("--board", 1),
+        ("--house", 1),
+        ("--start0", 1),
+        ("--start1", 1),
+        ("--shelf", 1),
+        ("--shelf-script", 1),
+        ("--traces", 1),
+    ],
+    example: "build/release/gunwaleish release releases/safe",
+    run,
+};
+
+fn run(arguments: &Arguments) -> Result<(), Failure> {
+    let folder = match arguments.files.as_slice() {
+        [] => None,
+        [one] => Some(one.as_path()),
+        many => {
+            return Err(wrong(&format!("release needs one folder, and has {}", many.len())));
+        }
+    };
+    let asked = asked(arguments)?;
+    let examined = examine(read_bundle(folder, &named(arguments))?, asked);
+    let printed = files::print(&words::told(&examined));
+    match (printed, examined.is_released()) {
+        (Err(failure @ Failure::Wrong(_)), _) => Err(failure),
+        // The exit code tells the verdict also if nobody reads the text to its end.
+        (_, false) => Err(Failure::NotReleased),
+        (printed, true) => printed,
+    }
+}
+
+fn wrong(what: &str) -> Failure {
+    Failure::Wrong(format!("{what}; gunwaleish release --help tells more"))
+}
+
+fn asked(arguments: &Arguments) -> Result<Asked, Failure> {
+    let word = |name| arguments.options.get(name).and_then(|words| words.first());
+    let most = word("--most").map(|word| milliseconds(word)).transpose()?;
+    let without_limit = match word("--without-limit").map(String::as_str) {
+        None => [false, false],
+        Some("0") => [true, false],
+        Some("1") => [false, true],
+        Some("both") => [true, true],
+        Some(other) => {
+            let found = other.escape_debug();
+            return Err(wrong(&format!("--without-limit '{found}', expected 0, 1 or both")));
+        }
+    };
+    Ok(Asked { most, without_limit })
+}
+
+fn milliseconds(word: &str) -> Result<u64, Failure> {
+    let digits = word.bytes().all(|byte| byte.is_ascii_digit());
+    word.parse().ok().filter(|_| digits).ok_or_else(|| {
+        wrong(&format!("--most '{}', expected a count of milliseconds", word.escape_debug()))
+    })
+}
+
+/// The files that are named by option.
+fn named(arguments: &Arguments) -> Named {
+    let all = |name| arguments.paths.get(name).cloned().unwrap_or_default();
+    let one = |name| all(name).into_iter().next();
+    Named {
+        board: one("--board"),
+        house: one("--house"),
+        starts: ["--start0", "--start1"].map(one),
+        shelf: one("--shelf"),
+        shelf_scripts: all("--shelf-script"),
+        traces: all("--traces"),
+    }
+}

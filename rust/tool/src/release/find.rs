@@ -1,0 +1,251 @@
+//! The files of a release: by their names in a folder, or named one by one.
+
+use std::collections::BTreeSet;
+use std::fs::File;
+use std::io::{self, Read as _};
+use std::path::{Path, PathBuf};
+use std::time::UNIX_EPOCH;
+
+use gunwaleish::{MOST_TRACE, SHEET_LENGTH};
+
+use super::{Bundle, Read, ShelfRead};
+use crate::commands::compose::MOST_TEXT;
+use crate::failure::Failure;
+use crate::files::is_standard;
+use crate::sha256::{hex, Sha256};
+use crate::share::find::{find, Found};
+
+/// The files that are named by options. They take the place of what the folder has.
+#[derive(Clone, Debug, Default, PartialEq, Eq)]
+pub struct Named {
+    pub board: Option<PathBuf>,
+    pub house: Option<PathBuf>,
+    /// The start-up scripts, controller 0's first.
+    pub starts: [Option<PathBuf>; 2],
+    pub shelf: Option<PathBuf>,
+    pub shelf_scripts: Vec<PathBuf>,
+    /// Traces, and folders of them.
+    pub traces: Vec<PathBuf>,
+}
+
+/// What the files of a folder are called. Any other `.script` beside the shelf is for it.
+pub const BOARD: &str = "board.sheet";
+pub const HOUSE: &str = "house.sheet";
+pub const STARTS: [&str; 2] = ["start0.script", "start1.script"];
+
+/// Finds the files and reads them all. What cannot be read, or is not there and has to be, is a failure:
+/// there is no verdict over a part of a release.
+pub fn read_bundle(folder: Option<&Path>, named: &Named) -> Result<Bundle, Failure> {
+    let here = folder.map_or(Ok(Here::default()), Here::look_into)?;
+    let named = here.fill_in(named)?;
+    let board = named.board.as_ref().ok_or_else(|| here.lacks(BOARD, "--board"))?;
+    let house = named.house.as_ref().ok_or_else(|| here.lacks(HOUSE, "--house"))?;
+    let traces = traces_of(&named.traces)?;
+    let mut bundle = Bundle {
+        folder: folder.map(|folder| folder.display().to_string()),
+        board: read(board, SHEET_LENGTH)?,
+        house: read(house, SHEET_LENGTH)?,
+        scripts: read_starts(&named.starts)?,
+        shelf: read_shelf(&named)?,
+        traces: traces.iter().map(|path| read(path, MOST_TRACE)).collect::<Result<_, _>>()?,
+        others: vec![],
+    };
+    bundle.others = here.not_read(&bundle);
+    Ok(bundle)
+}
+
+fn read_starts(starts: &[Option<PathBuf>; 2]) -> Result<Option<[Read; 2]>, Failure> {
+    match starts {
+        [Some(first), Some(second)] => Ok(Some([read(first, MOST_TEXT)?, read(second, MOST_TEXT)?])),
+        [None, None] => Ok(None),
+        [Some(one), None] | [None, Some(one)] => Err(wrong(&format!(
+            "{} is there without the other controller's start-up script, and their orders need both",
+            one.display()
+        ))),
+    }
+}
+
+fn read_shelf(named: &Named) -> Result<Option<ShelfRead>, Failure> {
+    let read = |path: &PathBuf| read(path, MOST_TEXT);
+    match &named.shelf {
+        Some(shelf) => {
+            let scripts = named.shelf_scripts.iter().map(read).collect::<Result<_, _>>()?;
+            Ok(Some(ShelfRead { shelf: read(shelf)?, scripts }))
+        }
+        None if named.shelf_scripts.is_empty() => Ok(None),
+        None => Err(wrong("--shelf-script needs a shelf: --shelf FILE")),
+    }
+}
+
+/// The traces among these names and in these folders.
+fn traces_of(names: &[PathBuf]) -> Result<Vec<PathBuf>, Failure> {
+    let Found { files, unread, .. } = find(names);
+    unread.into_iter().next().map_or(Ok(files), Err)
+}
+
+/// What a folder has.
+#[derive(Default)]
+struct Here {
+    folder: PathBuf,
+    found: Found,
+}
+
+impl Here {
+    fn look_into(folder: &Path) -> Result<Here, Failure> {
+        let name = folder.display();
+        if is_standard(folder) {
+            return Err(wrong("standard input is no folder"));
+        }
+        let metadata = folder
+            .metadata()
+            .map_err(|error| Failure::Wrong(format!("{name} cannot be read: {error}")))?;
+        if !metadata.is_dir() {
+            return Err(wrong(&format!(
+                "{name} is no folder; single files are named by option, the sheets with --board and --house"
+            )));
+        }
+        let mut found = find(&[folder.to_path_buf()]);
+        match found.unread.is_empty() {
+            true => Ok(Here { folder: folder.to_path_buf(), found }),
+            false => Err(found.unread.remove(0)),
+        }
+    }
+
+    /// The files of the folder, where none is named instead.
+    fn fill_in(&self, named: &Named) -> Result<Named, Failure> {
+        let mut named = named.clone();
+        named.board = named.board.or_else(|| self.file(BOARD));
+        named.house = named.house.or_else(|| self.file(HOUSE));
+        for (start, name) in named.starts.iter_mut().zip(STARTS) {
+            *start = start.take().or_else(|| self.file(name));
+        }
+        let shelf = if named.shelf.is_some() { None } else { self.shelf()? };
+        if named.shelf_scripts.is_empty() {
+            named.shelf_scripts = shelf.as_deref().map_or(vec![], |shelf| self.beside(shelf));
+        }
+        named.shelf = named.shelf.or(shelf);
+        if named.traces.is_empty() {
+            named.traces = self.found.files.clone();
+        }
+        Ok(named)
+    }
+
+    /// A file of the folder itself, if it has one of this name.
+    fn file(&self, name: &str) -> Option<PathBuf> {
+        let path = self.folder.join(name);
+        self.found.others.iter().find(|other| **other == path).cloned()
+    }
+
+    /// The one shelf, in the folder itself or in its folder `shelf`.
+    fn shelf(&self) -> Result<Option<PathBuf>, Failure> {
+        let places = [self.folder.clone(), self.folder.join("shelf")];
+        let is_shelf = |path: &&PathBuf| {
+            ends_in(path, "shelf") && places.iter().any(|place| path.parent() == Some(place))
+        };
+        let shelves: Vec<&PathBuf> = self.found.others.iter().filter(is_shelf).collect();
+        match shelves.as_slice() {
+            [] => Ok(None),
+            [one] => Ok(Some(one.to_path_buf())),
+            [first, second, ..] => Err(wrong(&format!(
+                "a release has one shelf, and {} and {} are there; --shelf names the one",
+                first.display(),
+                second.display()
+            ))),
+        }
+    }
+
+    /// The scripts beside a shelf, without those of the start.
+    fn beside(&self, shelf: &Path) -> Vec<PathBuf> {
+        let starts = STARTS.map(|name| self.folder.join(name));
+        let is_for_it = |path: &&PathBuf| {
+            ends_in(path, "script") && path.parent() == shelf.parent() && !starts.contains(path)
+        };
+        self.found.others.iter().filter(is_for_it).cloned().collect()
+    }
+
+    /// That a sheet is not there, and how it comes there.
+    fn lacks(&self, name: &str, option: &str) -> Failure {
+        if self.folder.as_os_str().is_empty() {
+            return wrong(&format!(
+                "release needs a folder, or both sheets by option, and {option} is not there"
+            ));
+        }
+        let (folder, path) = (self.folder.display(), self.folder.join(name));
+        let text = path.with_extension("txt");
+        if self.found.others.contains(&text) {
+            return Failure::Wrong(format!(
+                "{folder} has no {name}, but its text: gunwaleish fill {} -o {} makes the sheet",
+                text.display(),
+                path.display()
+            ));
+        }
+        wrong(&format!("{folder} has no {name}; {option} names another file"))
+    }
+
+    /// The names of what is in the folder and was not read.
+    fn not_read(&self, bundle: &Bundle) -> Vec<String> {
+        let Found { files, others, links, .. } = &self.found;
+        let mut all: Vec<&PathBuf> = files.iter().chain(others).chain(links).collect();
+        all.sort();
+        let read: BTreeSet<&PathBuf> = bundle.files().map(|file| &file.path).collect();
+        all.retain(|path| !read.contains(path));
+        all.into_iter().map(|path| path.display().to_string()).collect()
+    }
+}
+
+fn ends_in(path: &Path, ending: &str) -> bool {
+    path.extension().is_some_and(|found| found == ending)
+}
+
+fn wrong(what: &str) -> Failure {
+    Failure::Wrong(format!("{what}; gunwaleish release --help tells more"))
+}
+
+/// How much is read at once.
+const PIECE: usize = 1 << 16;
+
+/// Reads a file to its end for its size and its hash, and keeps so many bytes of it and one more. That
+/// byte shows that there is more.
+pub fn read(path: &Path, most: usize) -> Result<Read, Failure> {
+    let name = path.display().to_string();
+    let cannot = |why: String| Failure::Wrong(format!("{name} cannot be read: {why}"));
+    let open = || -> io::Result<Option<Read>> {
+        // A pipe or a device may have no end, and nobody can look at it again.
+        match path.metadata()?.is_file() {
+            true => read_whole(File::open(path)?, path, most).map(Some),
+            false => Ok(None),
+        }
+    };
+    match open() {
+        Ok(Some(read)) => Ok(read),
+        Ok(None) => Err(cannot("it is no file".to_string())),
+        Err(error) => Err(cannot(error.to_string())),
+    }
+}
+
+fn read_whole(mut file: File, path: &Path, most: usize) -> io::Result<Read> {
+    let changed = file.metadata()?.modified().ok();
+    let changed = changed.and_then(|time| time.duration_since(UNIX_EPOCH).ok());
+    let (mut bytes, mut size, mut hash) = (vec![], 0, Sha256::new());
+    let mut piece = vec![0; PIECE];
+    loop {
+        let count = match file.read(&mut piece) {
+            Ok(0) => break,
+            Ok(count) => count,
+            Err(error) if error.kind() == io::ErrorKind::Interrupted => continue,
+            Err(error) => return Err(error),
+        };
+        hash.update(&piece[..count]);
+        size += count as u64;
+        let room = (most + 1).saturating_sub(bytes.len());
+        bytes.extend_from_slice(&piece[..count.min(room)]);
+    }
+    Ok(Read {
+        path: path.to_path_buf(),
+        name: path.display().to_string(),
+        bytes,
+        size,
+        changed: changed.map(|time| time.as_secs()),
+        sha256: hex(&hash.finish()),
+    })
+}

@@ -1,0 +1,141 @@
+//! The reasons that stand on the two sheets: empty boxes, what is no sheet, and the waits that they promise.
+
+use gunwaleish::{Found, Master, Section, Sheet, Wait};
+
+use super::{Allowed, Asked, Bundle, Rank, Read, Reason};
+use crate::order::{faults, waits, BoxName, Order, Waiting};
+
+/// What a sheet that is none is told with.
+const A_SHEET: &str = "A sheet has 15 bytes (docs/SHEETS.md). If this is its text, gunwaleish fill makes the sheet of it.";
+
+/// Why the two files are no pair of sheets: each that is none, with what is seen at its bytes.
+pub fn no_sheets(bundle: &Bundle) -> Vec<Reason> {
+    let sheets = [(&bundle.board, Sheet::Board), (&bundle.house, Sheet::House)];
+    sheets.into_iter().filter_map(|(read, which)| no_sheet(read, which)).collect()
+}
+
+fn no_sheet(read: &Read, which: Sheet) -> Option<Reason> {
+    let refusal = faults::fault(&read.bytes, which)?;
+    let seen = faults::seen(&read.bytes, refusal);
+    let words: Vec<String> = seen.iter().map(ToString::to_string).collect();
+    Some(Reason {
+        rank: Rank::NoSheet,
+        file: read.name.clone(),
+        place: seen.first().map(|seen| format!("byte {}", seen.byte)),
+        what: format!("It is no {which}: {refusal} ({}).", words.join("; ")),
+        mend: A_SHEET.to_string(),
+    })
+}
+
+/// A reason that is about a box: the sheet that has it, or both if it is empty.
+fn about(bundle: &Bundle, rank: Rank, name: BoxName, found: Option<Found>) -> Reason {
+    let (board, house) = (&bundle.board.name, &bundle.house.name);
+    let file = match found.map(|found| found.sheet) {
+        Some(Sheet::Board) => board.clone(),
+        Some(Sheet::House) => house.clone(),
+        None => format!("{board} and {house}"),
+    };
+    let place = Some(name.to_string());
+    Reason { rank, file, place, what: String::new(), mend: String::new() }
+}
+
+/// Each box that is ticked on neither sheet.
+pub fn empty_boxes(bundle: &Bundle, order: &Order) -> Vec<Reason> {
+    let reason = |name: BoxName| {
+        Reason {
+        what: match name.section {
+            Section::Reserve => {
+                "It is empty on both sheets, and an empty box is no value; packed as 00h it would be a reserve without limit.".to_string()
+            }
+            _ => "It is empty on both sheets, and an empty box is no value.".to_string(),
+        },
+        mend: format!(
+            "Tick it on {}, for this board, or on {}, for every board that leaves it open, and fill in its value.",
+            bundle.board.name, bundle.house.name
+        ),
+        ..about(bundle, Rank::EmptyBox, name, None)
+    }
+    };
+    order.empty().map(reason).collect()
+}
+
+/// The reserve box of a controller, and what is found in it.
+fn reserve_of(order: &Order, controller: Master) -> (BoxName, Option<Found>) {
+    let name = BoxName { section: Section::Reserve, controller };
+    (name, order.entries.iter().find(|entry| entry.name == name).and_then(|entry| entry.found))
+}
+
+/// True if this controller's reserve is a ticked 0, and was said to be so on purpose.
+fn is_allowed(order: &Order, asked: &Asked, controller: Master) -> bool {
+    asked.without_limit[controller as usize] && order.value(Section::Reserve, controller) == Some(0)
+}
+
+/// The waits that are not bounded, or only behind a silent holder, and those above what is allowed.
+pub fn long_waits(bundle: &Bundle, order: &Order, asked: &Asked) -> Vec<Reason> {
+    let reason = |waiting: &Waiting| {
+        let holder = waiting.controller.partner();
+        // The grade does not go by the part, and neither does what a reserve gives.
+        let (rank, what, mend) = match waiting.on[0].1 {
+            Wait::Live { ticks } => above(waiting, ticks.into(), asked.most?),
+            _ if is_allowed(order, asked, holder) => return None,
+            Wait::Silent { .. } => not_bounded(Rank::SilentAlone, waiting),
+            Wait::Unbounded => not_bounded(Rank::Unbounded, waiting),
+        }?;
+        let (name, found) = reserve_of(order, holder);
+        Some(Reason { what, mend, ..about(bundle, rank, name, found) })
+    };
+    order.waits.iter().filter_map(reason).collect()
+}
+
+fn not_bounded(rank: Rank, waiting: &Waiting) -> Option<(Rank, String, String)> {
+    let holder = waiting.controller.partner();
+    let mend = format!(
+        "Fill in a reserve of 1 to 255 ms. If controller {holder} is to keep the bus until it lets go, and on purpose, \
+         --without-limit {holder} says so."
+    );
+    Some((rank, waits::in_words(waiting), mend))
+}
+
+/// That a promised wait is above the most that is allowed, if it is.
+fn above(waiting: &Waiting, ticks: u64, most: u64) -> Option<(Rank, String, String)> {
+    let controller = waiting.controller;
+    let what = format!("Controller {controller} may wait {ticks} ms, and --most allows {most} ms.");
+    let mend = match most {
+        0 | 1 => {
+            "No reserve gives so short a wait: with 1 ms, the shortest, it is 2 ms.".to_string()
+        }
+        _ => format!(
+            "Fill in a reserve of at most {} ms: the wait is the reserve and 1 ms.",
+            most - 1
+        ),
+    };
+    (ticks > most).then_some((Rank::AboveMost, what, mend))
+}
+
+/// The reserves without limit that are there on purpose, with what the partner is promised then.
+pub fn allowed(order: &Order, asked: &Asked) -> Vec<Allowed> {
+    let behind =
+        |holder: Master| order.waits.iter().find(|wait| wait.controller == holder.partner());
+    let holders = Master::BOTH.into_iter().filter(|&m| is_allowed(order, asked, m));
+    holders
+        .filter_map(|m| Some(Allowed { controller: m, what: waits::in_words(behind(m)?) }))
+        .collect()
+}
+
+/// The reserves that were said to be without limit, and are not. An option that stays in a command
+/// line would let the next accident pass.
+pub fn not_without_limit(bundle: &Bundle, order: &Order, asked: &Asked) -> Vec<Reason> {
+    let reason = |controller: Master| {
+        let (name, found) = reserve_of(order, controller);
+        let is = match found.map(|found| found.value) {
+            Some(0) => return None,
+            Some(value) => format!("{value} ms is ordered"),
+            None => "its box is empty, and that is no 0".to_string(),
+        };
+        let what = format!("--without-limit says that controller {controller}'s reserve is without limit on purpose, but {is}.");
+        let mend = format!("Leave out --without-limit for controller {controller}: left in a command line, it would let the next accident pass.");
+        Some(Reason { what, mend, ..about(bundle, Rank::NotWithoutLimit, name, found) })
+    };
+    let said = Master::BOTH.into_iter().filter(|&m| asked.without_limit[m as usize]);
+    said.filter_map(reason).collect()
+}
