@@ -1,10 +1,10 @@
-//! Finds the proved library and has it linked.
+//! Finds the proved library, has it linked, and hands on what is written of it beside it.
 //!
 //! It stands where `tools/library` writes it, or in the folder that GUNWALEISH_LIB_DIR
 //! names (a full path).
 
-use std::env;
-use std::path::PathBuf;
+use std::path::{Path, PathBuf};
+use std::{env, fs};
 
 fn main() {
     println!("cargo::rerun-if-env-changed=GUNWALEISH_LIB_DIR");
@@ -24,4 +24,21 @@ fn main() {
     }
     println!("cargo::rustc-link-search=native={}", folder.display());
     println!("cargo::rustc-link-lib=static=gunwaleish");
+    hand_on(&folder.join("libgunwaleish.identity"));
+}
+
+/// The lines of the identity, each a word and what it names, for `src/identity.rs`.
+fn hand_on(identity: &Path) {
+    // One that is not there is not waited for, or cargo would build anew each time: it is written after the library, with it.
+    if identity.exists() {
+        println!("cargo::rerun-if-changed={}", identity.display());
+    }
+    let text = fs::read_to_string(identity).unwrap_or_default();
+    let named = |word: &str| {
+        let line = text.lines().find_map(|line| line.strip_prefix(word)?.strip_prefix(' '));
+        line.map(str::trim).filter(|rest| !rest.is_empty()).unwrap_or("unknown").to_string()
+    };
+    for word in ["commit", "kit", "machine"] {
+        println!("cargo::rustc-env=GUNWALEISH_{}={}", word.to_uppercase(), named(word));
+    }
 }

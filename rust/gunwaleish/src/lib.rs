@@ -43,6 +43,8 @@
 //! Before both controllers' start-up scripts are packaged, `list_orders` tries them in all the orders
 //! that keep each script's own order, and says for each how the bus stands at its end.
 //!
+//! `library_identity` tells which library is linked, for a paper that has to name it.
+//!
 //! The calls whose names end in `_into`, and `run_trace`, work on bytes in lent buffers and
 //! allocate nothing.
 
@@ -53,6 +55,7 @@ pub mod boundary;
 mod capture;
 mod device;
 mod event;
+mod identity;
 mod orders;
 mod part;
 mod pins;
@@ -68,6 +71,7 @@ pub use answer::{Answer, Bus, Ground, Outcome};
 pub use capture::{import_capture, import_capture_into, MOST_CAPTURED, MOST_SAMPLES};
 pub use device::{Device, Register, IMAGE_LENGTH, MOST_TICKS};
 pub use event::{Event, Master};
+pub use identity::{library_identity, Identity};
 pub use orders::{list_orders, list_orders_into, MOST_ORDERS, MOST_SCRIPT};
 pub use part::Part;
 pub use pins::Pins;
