@@ -71,6 +71,16 @@ impl Drawing {
             self.shapes
         )
     }
+
+    /// A picture that stands in a page of HTML and is as wide as that lets it be. The page has its
+    /// style, and `label` tells it to those who do not see it.
+    pub fn in_page(self, width: f64, height: f64, class: &str, label: &str) -> String {
+        format!(
+            "<svg class=\"{class}\" role=\"img\" aria-label=\"{}\" viewBox=\"0 0 {width:.0} {height:.0}\">\n{}</svg>\n",
+            escaped(label),
+            self.shapes
+        )
+    }
 }
 
 fn title(tip: &str) -> String {
@@ -80,7 +90,7 @@ fn title(tip: &str) -> String {
     }
 }
 
-/// Text as it may stand in a file of XML, where control characters may not.
+/// Text as it may stand in a file of XML, where control characters and two others may not.
 pub fn escaped(words: &str) -> String {
     let mut text = String::new();
     for letter in words.chars() {
@@ -89,6 +99,7 @@ pub fn escaped(words: &str) -> String {
             '<' => text.push_str("&lt;"),
             '>' => text.push_str("&gt;"),
             '"' => text.push_str("&quot;"),
+            '\u{FFFE}' | '\u{FFFF}' => text.push('?'),
             letter if letter.is_control() => text.push('?'),
             letter => text.push(letter),
         }

@@ -68,7 +68,9 @@ impl Lane {
             if !self.shows(step.event) {
                 continue;
             }
-            drawing.line("axis", [x, y - 4.0], [x, y + 4.0]);
+            if places.marked {
+                drawing.line("axis", [x, y - 4.0], [x, y + 4.0]);
+            }
             if places.wordy {
                 let look = if step.answer.outcome == Outcome::Done { "event" } else { "bad" };
                 drawing.upward_text(look, [x + 3.5, y - 7.0], &short(step), &tip(step));

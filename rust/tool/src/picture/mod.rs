@@ -9,9 +9,10 @@ use crate::story::Story;
 use crate::svg::Drawing;
 use crate::{summary, words};
 use lanes::Lane;
-use places::{Places, LEFT};
+use places::{Places, FILE, LEFT, PAGE};
 
-const STYLE: &str = "<style>
+/// A rule a line.
+const STYLE: &str = "\
 text { font: 11px 'DejaVu Sans', Verdana, Arial, sans-serif; fill: #222 }
 .title { font-size: 16px; font-weight: bold }
 .verdict { font-size: 12px; font-weight: bold; fill: #b00020 }
@@ -38,8 +39,10 @@ text { font: 11px 'DejaVu Sans', Verdana, Arial, sans-serif; fill: #222 }
 .paper-line { stroke: #fff; stroke-width: 3 }
 .axis { stroke: #888 }
 .cross { stroke: #b00020; stroke-width: 2 }
-</style>
 ";
+
+/// The class of a picture in a page.
+const IN_PAGE: &str = "run";
 
 const RIGHT: f64 = 24.0;
 /// The width of a letter of the lines of text, and of the bold ones.
@@ -50,33 +53,62 @@ const BOLD_LETTER: f64 = 7.4;
 pub fn draw(story: &Story, name: &str) -> String {
     let lines = summary::in_words(story);
     let (totals, verdicts) = lines.split_at(lines.len().min(2));
-    let places = Places::new(story);
+    let places = Places::new(story, FILE);
     let top = 40.0 + 17.0 * verdicts.len() as f64;
-    let lanes = [Lane::Controller(Master::Zero), Lane::Controller(Master::One), Lane::Bus];
-    let axis = top + lanes.iter().map(|lane| lane.height(story, &places)).sum::<f64>();
+    let axis = top + height_of_lanes(story, &places);
     let height = axis + 82.0 + 16.0 * totals.len() as f64;
     let width = width(&places, totals, verdicts);
 
     let mut drawing = Drawing::default();
     drawing.rect("paper", [0.0, 0.0, width, height], "");
     head(&mut drawing, story, name, verdicts);
-    drawing.rect("ground", [LEFT, top, places.end - LEFT, axis - top], "");
-    for [from, to] in &places.apart {
-        drawing.rect("apart", [*from, top, to - from, axis - top], "");
-    }
-    let mut y = top;
-    for lane in lanes {
-        drawing.line("paper-line", [LEFT, y], [places.end, y]);
-        lane.draw(&mut drawing, story, &places, y);
-        y += lane.height(story, &places);
-    }
+    lanes(&mut drawing, story, &places, top);
     ticks(&mut drawing, story, &places, axis);
-    legend(&mut drawing, axis + 28.0);
+    legend(&mut drawing, axis + 28.0, f64::INFINITY);
     for (place, line) in totals.iter().enumerate() {
         drawing.text("line", [14.0, axis + 64.0 + 16.0 * place as f64], line);
     }
     drawing.text("small", [14.0, height - 10.0], summary::HOW_COUNTED);
-    drawing.finish(width, height, STYLE)
+    drawing.finish(width, height, &format!("<style>\n{STYLE}</style>\n"))
+}
+
+/// The lanes, the ticks and what the colours say, for a page of HTML that says the rest. `label` tells
+/// the picture to those who do not see it.
+pub fn draw_in_page(story: &Story, label: &str) -> String {
+    let places = Places::new(story, PAGE);
+    let axis = height_of_lanes(story, &places);
+    let width = (places.end + RIGHT).max(600.0);
+    let mut drawing = Drawing::default();
+    lanes(&mut drawing, story, &places, 0.0);
+    ticks(&mut drawing, story, &places, axis);
+    let bottom = legend(&mut drawing, axis + 28.0, width);
+    drawing.in_page(width, bottom + 4.0, IN_PAGE, label)
+}
+
+/// The style of all pictures in a page. It bears on nothing else there.
+pub fn style_in_page() -> String {
+    STYLE.lines().map(|rule| format!("svg.{IN_PAGE} {rule}\n")).collect()
+}
+
+const LANES: [Lane; 3] = [Lane::Controller(Master::Zero), Lane::Controller(Master::One), Lane::Bus];
+
+fn height_of_lanes(story: &Story, places: &Places) -> f64 {
+    LANES.iter().map(|lane| lane.height(story, places)).sum()
+}
+
+/// All lanes on their ground, one below the other.
+fn lanes(drawing: &mut Drawing, story: &Story, places: &Places, top: f64) {
+    let height = height_of_lanes(story, places);
+    drawing.rect("ground", [LEFT, top, places.end - LEFT, height], "");
+    for [from, to] in &places.apart {
+        drawing.rect("apart", [*from, top, to - from, height], "");
+    }
+    let mut y = top;
+    for lane in LANES {
+        drawing.line("paper-line", [LEFT, y], [places.end, y]);
+        lane.draw(drawing, story, places, y);
+        y += lane.height(story, places);
+    }
 }
 
 /// Wide enough for the lanes, for the lines of text, and for the legend.
@@ -117,8 +149,8 @@ fn ticks(drawing: &mut Drawing, story: &Story, places: &Places, y: f64) {
     }
 }
 
-/// What the colours say.
-fn legend(drawing: &mut Drawing, y: f64) {
+/// What the colours say, in rows of this width at the most. Gives where the last row ends.
+fn legend(drawing: &mut Drawing, top: f64, width: f64) -> f64 {
     let looks = [
         (vec!["waits"], "asks and waits"),
         (vec!["open0", "open1"], "owns, switch open"),
@@ -127,8 +159,12 @@ fn legend(drawing: &mut Drawing, y: f64) {
         (vec!["low"], "line low"),
         (vec!["apart"], "events set apart, no time passes"),
     ];
-    let mut x = 14.0;
+    let (mut x, mut y) = (14.0, top);
     for (classes, words) in looks {
+        let wide = 16.0 * classes.len() as f64 + 6.1 * words.len() as f64;
+        if x + wide > width {
+            (x, y) = (14.0, y + 16.0);
+        }
         for class in classes {
             drawing.rect(class, [x, y, 14.0, 10.0], "");
             x += 16.0;
@@ -136,4 +172,5 @@ fn legend(drawing: &mut Drawing, y: f64) {
         drawing.text("small", [x + 2.0, y + 9.0], words);
         x += 6.1 * words.len() as f64 + 16.0;
     }
+    y + 12.0
 }

@@ -7,6 +7,18 @@ use crate::story::{Scene, Story};
 /// Where the lanes begin, right of their names.
 pub const LEFT: f64 = 104.0;
 
+/// How wide all ticks may be together, and all other events, and how narrow one of them at the least.
+pub struct Room {
+    pub ticks: f64,
+    pub tick: f64,
+    pub events: f64,
+    pub event: f64,
+}
+
+/// A file of its own can be scrolled, and a page has only so much.
+pub const FILE: Room = Room { ticks: 840.0, tick: 0.4, events: 1600.0, event: 2.0 };
+pub const PAGE: Room = Room { ticks: 420.0, tick: 0.0, events: 480.0, event: 0.0 };
+
 pub struct Places {
     /// The x of each step.
     pub at: Vec<f64>,
@@ -15,18 +27,19 @@ pub struct Places {
     pub end: f64,
     /// The stretches of events between two ticks. They take no time.
     pub apart: Vec<[f64; 2]>,
-    /// There is room for the words of each event.
+    /// There is room for a mark of each event, and for its words.
+    pub marked: bool,
     pub wordy: bool,
 }
 
 impl Places {
     /// Ticks are all of one width, and so are the other events. Both are as wide as their number
     /// lets them be.
-    pub fn new(story: &Story) -> Places {
+    pub fn new(story: &Story, room: Room) -> Places {
         let ticks = story.ticks();
         let others = story.steps.len() - ticks;
-        let tick_width = (840.0 / ticks.max(1) as f64).clamp(0.4, 14.0);
-        let event_width = (1600.0 / others.max(1) as f64).clamp(2.0, 15.0);
+        let tick_width = (room.ticks / ticks.max(1) as f64).clamp(room.tick, 14.0);
+        let event_width = (room.events / others.max(1) as f64).clamp(room.event, 15.0);
         let mut x = LEFT;
         let mut first_tick = None;
         let mut at = vec![];
@@ -46,7 +59,8 @@ impl Places {
             x += event_width;
         }
         let end = x.max(LEFT + 240.0) + 10.0;
-        Places { at, first_tick: first_tick.unwrap_or(x), end, apart, wordy: event_width > 10.0 }
+        let (marked, wordy) = (event_width >= 2.0, event_width > 10.0);
+        Places { at, first_tick: first_tick.unwrap_or(x), end, apart, marked, wordy }
     }
 
     /// From the step at this place to the one at that place, which may be the end: x and width.
