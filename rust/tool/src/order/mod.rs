@@ -5,7 +5,7 @@
 //! for the boxes that do not last, `waits` for the waits, `faults` for a sheet that is none.
 
 pub mod faults;
-mod lasting;
+pub mod lasting;
 pub mod waits;
 pub mod words;
 

@@ -4,17 +4,23 @@ use gunwaleish::{Part, Wait};
 
 use super::{Order, Waiting};
 
+/// What the figures hold for.
+pub const HOLDS: &str =
+    "The figures hold for one that keeps asking, if the bus is idle then and its own port at rest, else \
+     once they are; with no reset, and with RT left as ordered.";
+
 /// A line for each controller, and what they hold for.
 pub fn told(order: &Order) -> String {
-    let lines: Vec<String> = order.waits.iter().map(in_words).collect();
-    let bounded = order.waits.iter().any(|waiting| waiting.on[0].1.ticks().is_some());
-    let holds = "\nThe figures hold for one that keeps asking, if the bus is idle then and its own port at rest, \
-                 else once they are; with no reset, and with RT left as ordered.";
-    format!(
-        "How long each can wait from then on, at every handover:\n{}{}",
-        lines.join("\n"),
-        if bounded { holds } else { "" }
-    )
+    let mut lines: Vec<String> = order.waits.iter().map(in_words).collect();
+    if are_bounded(order) {
+        lines.push(HOLDS.to_string());
+    }
+    format!("How long each can wait from then on, at every handover:\n{}", lines.join("\n"))
+}
+
+/// True if there is a figure.
+pub fn are_bounded(order: &Order) -> bool {
+    order.waits.iter().any(|waiting| waiting.on[0].1.ticks().is_some())
 }
 
 /// How long a controller can wait, a sentence.

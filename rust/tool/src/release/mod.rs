@@ -9,6 +9,7 @@ pub mod bench;
 pub mod find;
 pub mod judge;
 pub mod orders;
+pub mod page;
 pub mod sheets;
 pub mod words;
 

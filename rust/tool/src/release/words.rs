@@ -159,7 +159,8 @@ pub fn verdict(examined: &Examined) -> String {
     }
 }
 
-fn on_purpose(allowed: &[Allowed]) -> String {
+/// The reserves that were let pass, as they follow on the word "released".
+pub fn on_purpose(allowed: &[Allowed]) -> String {
     match allowed {
         [] => String::new(),
         [one] => format!(", with controller {}'s reserve without limit on purpose", one.controller),
@@ -168,7 +169,7 @@ fn on_purpose(allowed: &[Allowed]) -> String {
 }
 
 /// What is promised to each controller, in short.
-fn promises(examined: &Examined) -> String {
+pub fn promises(examined: &Examined) -> String {
     let waits = examined.order.as_ref().map_or(&[][..], |order: &Order| &order.waits);
     let short = |waiting: &Waiting| {
         let holder = waiting.controller.partner();

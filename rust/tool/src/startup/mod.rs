@@ -213,6 +213,11 @@ pub struct Group {
 }
 
 impl Group {
+    /// True if this order is one of them. Why they wait follows from that.
+    pub fn has(&self, ending: &Ending) -> bool {
+        (self.owner, self.ground, self.waits) == (ending.bus.owner, ending.bus.ground, ending.waits)
+    }
+
     fn is_like(&self, other: &Group) -> bool {
         let key = |group: &Group| (group.owner, group.ground, group.waits);
         key(self) == key(other) && self.why == other.why

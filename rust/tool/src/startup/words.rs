@@ -53,15 +53,19 @@ fn capital(text: &str) -> String {
     first.to_uppercase() + rest
 }
 
-fn line(group: &Group, all: usize) -> String {
+/// How the orders of a group end.
+pub fn ending(group: &Group) -> String {
     let ground = group.ground.map_or(String::new(), |ground| format!(" (ground: {ground})"));
-    let waiting = waiting(group.waits);
-    let what = match (group.owner, waiting) {
+    match (group.owner, waiting(group.waits)) {
         (Some(owner), None) => format!("controller {owner} owns the bus{ground}"),
         (Some(owner), Some(who)) => format!("controller {owner} owns the bus{ground}, {who}"),
         (None, None) => "nobody owns the bus, and nobody asks for it".to_string(),
         (None, Some(who)) => format!("{who}{ground}"),
-    };
+    }
+}
+
+fn line(group: &Group, all: usize) -> String {
+    let what = ending(group);
     let first = &group.first;
     let mut text = format!(
         "{} {what}\n    first: {}, order {}\n",
