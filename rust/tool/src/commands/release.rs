@@ -1,17 +1,21 @@
 //! `release`: one verdict over all that a release folder holds.
 
+use std::path::{Path, PathBuf};
+use std::time::{SystemTime, UNIX_EPOCH};
+
 use super::Command;
 use crate::arguments::Arguments;
 use crate::failure::Failure;
 use crate::files;
 use crate::release::find::{read_bundle, Named};
 use crate::release::judge::examine;
-use crate::release::{words, Asked};
+use crate::release::page::page;
+use crate::release::{words, Asked, Examined};
 
 pub const COMMAND: Command = Command {
     name: "release",
     summary: "is this bundle safe? one verdict over its sheets, scripts, shelf and traces",
-    usage: "FOLDER [--most MS] [--without-limit 0|1|both] [file by file, as below]",
+    usage: "FOLDER [--most MS] [--without-limit 0|1|both] [-o PAGE] [file by file, as below]",
     help: "FOLDER has the order sheets of a bundle, board.sheet and house.sheet, and, if they are there, the\n\
            start-up scripts start0.script and start1.script, a shelf NAME.shelf (here or in shelf/) with\n\
            the scripts for it beside it, and the traces of the bench, NAME.trace, also in the folders\n\
@@ -29,8 +33,12 @@ pub const COMMAND: Command = Command {
            --without-limit 0 passes a ticked reserve of 0 of controller 0, which is then without limit on\n\
            purpose, and is told with the verdict. Where its reserve is not 0, that is a reason too. An\n\
            empty box is never passed.\n\n\
+           -o report.html writes the page to file with the release too: one file that opens in any\n\
+           browser and prints on A4, with the verdict, the sheets, the promised waits and what proves\n\
+           them, pictures, and the SHA-256 of all that was read. A file that is there already is not\n\
+           written over. In a folder that is there the page has the release's name.\n\n\
            Exit code: 0 released; 1 not released; 2 wrong use, a folder without both sheets, or a file\n\
-           that cannot be read: there is no verdict then.",
+           that cannot be read: there is no verdict then; or the page cannot be written.",
     options: &[
         ("--most", 1),
         ("--without-limit", 1),
@@ -55,14 +63,54 @@ fn run(arguments: &Arguments) -> Result<(), Failure> {
         }
     };
     let asked = asked(arguments)?;
+    let output = output(arguments.output.as_deref(), folder)?;
     let examined = examine(read_bundle(folder, &named(arguments))?, asked);
-    let printed = files::print(&words::told(&examined));
+    let filed = output.as_deref().map_or(Ok(String::new()), |path| file(&examined, path));
+    let told = words::told(&examined) + filed.as_deref().unwrap_or_default();
+    let printed = files::print(&told);
+    filed?;
     match (printed, examined.is_released()) {
         (Err(failure @ Failure::Wrong(_)), _) => Err(failure),
         // The exit code tells the verdict also if nobody reads the text to its end.
         (_, false) => Err(Failure::NotReleased),
         (printed, true) => printed,
     }
+}
+
+/// Where the page goes, if one is wanted. What was filed is not written over, nor anything else.
+fn output(output: Option<&Path>, folder: Option<&Path>) -> Result<Option<PathBuf>, Failure> {
+    let Some(output) = output else {
+        return Ok(None);
+    };
+    if files::is_standard(output) {
+        return Err(wrong("the page needs a file: -o report.html"));
+    }
+    let path = match output.is_dir() {
+        true => output.join(format!("{}.html", name_of(folder))),
+        false => output.to_path_buf(),
+    };
+    match path.is_file() {
+        true => {
+            let name = path.display();
+            Err(wrong(&format!("{name} is there already, and is not written over")))
+        }
+        false => Ok(Some(path)),
+    }
+}
+
+/// The release's own name, for a page in a folder of pages.
+fn name_of(folder: Option<&Path>) -> String {
+    let whole = folder.and_then(|folder| folder.canonicalize().ok());
+    let name = whole.as_ref().and_then(|whole| whole.file_name());
+    name.map_or("release".to_string(), |name| name.to_string_lossy().into_owned())
+}
+
+/// Writes the page, and says so.
+fn file(examined: &Examined, path: &Path) -> Result<String, Failure> {
+    let since = SystemTime::now().duration_since(UNIX_EPOCH);
+    let at = since.map_or(0, |since| since.as_secs());
+    files::write_whole(path, page(examined, at).as_bytes())?;
+    Ok(format!("\nThe page to file: {}\n", path.display()))
 }
 
 fn wrong(what: &str) -> Failure {
