@@ -22,7 +22,8 @@ pub const COMMAND: Command = Command {
            becomes a value: all empty boxes are named, and the pair is refused with 14. A ticked\n\
            reserve of 0 is an order, without limit. Of a complete pair it says how long each controller\n\
            can wait for the bus, on either part, and of a priority or an idle timer ticked 1 which CONTR\n\
-           byte keeps it when the controller connects.\n\n\
+           byte keeps it when the controller connects. It warns of a wait without a bound, which is grade\n\
+           3, or with one behind a silent controller alone, grade 2, and names the box to mend.\n\n\
            With a device, named by its address or the codes of its pins and by its part, PCA9641 or\n\
            TPT29641, the output is not the words but a trace: the twelve events that start the shelf.\n\
            They fit a fresh device. With --script it is their script, to which tick and lines are\n\

@@ -2,11 +2,13 @@
 //!
 //! The library says which boxes there are, from which sheet each comes, how long the controllers can
 //! wait by them, and what is refused. Here it is put into words: `words` for what is ordered, `lasting`
-//! for the boxes that do not last, `waits` for the waits, `faults` for a sheet that is none.
+//! for the boxes that do not last, `waits` for the waits, `warnings` for those without a bound, `faults`
+//! for a sheet that is none.
 
 pub mod faults;
 pub mod lasting;
 pub mod waits;
+pub mod warnings;
 pub mod words;
 
 use std::fmt;

@@ -2,12 +2,13 @@
 
 use gunwaleish::{Master, Part, Section};
 
+use super::warnings::warnings;
 use super::{lasting, waits, BoxName, Entry, Order};
 use crate::story::idle_limit;
 use crate::words::{count, ticks};
 
 /// The six boxes a line each, with the sheet that each comes from before it; those that do not last;
-/// and what comes of the order.
+/// what comes of the order; and what is to be warned of.
 pub fn told(order: &Order) -> String {
     let mut text = boxes(order);
     let lasting = lasting::told(order);
@@ -15,6 +16,11 @@ pub fn told(order: &Order) -> String {
         text.push_str(&format!("\n{lasting}"));
     }
     text.push_str(&format!("\n{}\n", outcome(order)));
+    let warned: String =
+        warnings(order).iter().map(|warning| format!("Warning, {warning}\n")).collect();
+    if !warned.is_empty() {
+        text.push_str(&format!("\n{warned}"));
+    }
     text
 }
 
