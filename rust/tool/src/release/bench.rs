@@ -30,11 +30,12 @@ pub fn all(bundle: &Bundle, order: Option<&Order>) -> Benches {
         all.add_shelf(shelf);
     }
     let promised = Master::BOTH.map(|m| order.and_then(|order| promised(order, m)));
-    for bench in &mut all.bench {
+    let Benches { bench, reasons } = &mut all;
+    for bench in bench {
         bench.longer = longer(bench, promised);
-        for m in Master::BOTH.into_iter().filter(|&m| bench.longer[m as usize]) {
-            all.reasons.extend(waits_longer(bench, m, promised[m as usize]));
-        }
+        let waiting = Master::BOTH.into_iter().filter(|&m| bench.longer[m as usize]);
+        reasons
+            .extend(waiting.filter_map(|m| waits_longer(bundle, bench, m, promised[m as usize])));
     }
     all
 }
@@ -54,23 +55,31 @@ fn longer(bench: &Bench, promised: [Option<u64>; 2]) -> [bool; 2] {
     Master::BOTH.map(|m| promised[m as usize].is_some_and(|most| longest(m) > most))
 }
 
-fn waits_longer(bench: &Bench, m: Master, promised: Option<u64>) -> Option<Reason> {
+fn waits_longer(
+    bundle: &Bundle,
+    bench: &Bench,
+    m: Master,
+    promised: Option<u64>,
+) -> Option<Reason> {
     let (promised, totals) = (promised?, bench.totals.ok()?);
-    let spot = bench
-        .spot
-        .map(|Spot { place, address }| format!("place {place}, address {address:02X}h, "));
-    let how = match bench.spot {
-        None => format!("gunwaleish explain {} tells which", bench.file),
-        Some(_) => "gunwaleish shelf tells which".to_string(),
+    let spot = bench.spot.map(|spot| format!("{spot}, "));
+    let how = match &bundle.shelf {
+        Some(read) if bench.spot.is_some() => {
+            format!("gunwaleish shelf {} {}", read.shelf.name, bench.file)
+        }
+        _ => format!("gunwaleish explain {}", bench.file),
     };
     Some(Reason {
         rank: Rank::WaitsLonger,
         file: bench.file.clone(),
         place: Some(format!("{}controller {m}", spot.unwrap_or_default())),
-        what: format!("It waits {} ms there, and the sheets promise {promised} ms at most.", totals.longest(m)),
+        what: format!(
+            "Controller {m} waits {} ms there, and the sheets promise it {promised} ms at most.",
+            totals.longest(m)
+        ),
         mend: format!(
             "Something there is not as the promise asks: another reserve than ordered, a late STOP, a bus that is not idle, a port not at rest, \
-             or a reset. {how}."
+             or a reset. This tells which: {how}"
         ),
     })
 }
@@ -142,7 +151,7 @@ fn refused_trace(read: &Read, refusal: Refusal) -> Reason {
     let what = each::refused(&input, refusal).trim_start_matches(": ").to_string();
     let mend =
         "Record the run again, or take the file out of the release; nothing of it was counted.";
-    reason(Rank::FileRefused, &read.name, Some(place), format!("{what}."), mend)
+    reason(Rank::FileRefused, &read.name, Some(place), format!("It is no trace: {what}."), mend)
 }
 
 const A_SHELF: &str =
@@ -181,7 +190,8 @@ fn run_script(slots: &[Slot], read: &Read) -> Result<Shelved, Reason> {
         let place = Some(format!("line {}", unread.line));
         refused(place, format!("It cannot be read: {}.", unread.why()))
     })?;
-    run_over(slots.to_vec(), &events).map_err(|refusal| refused(None, format!("{refusal}.")))
+    run_over(slots.to_vec(), &events)
+        .map_err(|refusal| refused(None, format!("It is refused: {refusal}.")))
 }
 
 /// That events of a script are refused, by the shelf or by a device of it, with the first one.
@@ -200,7 +210,7 @@ fn refused_events(script: &Read, shelved: &Shelved) -> Option<Reason> {
         Rank::EventRefused,
         &script.name,
         Some(format!("line {}, event {number}", named.line)),
-        format!("{named}: {why}{more}."),
+        format!("'{named}': {why}{more}."),
         "Mend the event, or take it out: a refused one changes nothing, so the script does not do what it says.",
     ))
 }
@@ -212,7 +222,8 @@ fn refused_by_devices(shelved: &Shelved) -> impl Iterator<Item = (usize, String)
         let refused = story.steps.iter().filter(|step| step.answer.outcome.is_refused());
         refused.map(move |step: &Step| {
             let why = outcome(step.answer.outcome);
-            (step.number, format!("place {place}, address {:02X}h: {why}", slot.address))
+            let spot = Spot { place, address: slot.address };
+            (step.number, format!("{spot}: {why}"))
         })
     })
 }

@@ -37,14 +37,15 @@ pub const STARTS: [&str; 2] = ["start0.script", "start1.script"];
 /// there is no verdict over a part of a release.
 pub fn read_bundle(folder: Option<&Path>, named: &Named) -> Result<Bundle, Failure> {
     let here = folder.map_or(Ok(Here::default()), Here::look_into)?;
-    let named = here.fill_in(named)?;
-    let board = named.board.as_ref().ok_or_else(|| here.lacks(BOARD, "--board"))?;
-    let house = named.house.as_ref().ok_or_else(|| here.lacks(HOUSE, "--house"))?;
+    let mut named = here.fill_in(named);
+    let board = named.board.take().ok_or_else(|| here.lacks(BOARD, "--board"))?;
+    let house = named.house.take().ok_or_else(|| here.lacks(HOUSE, "--house"))?;
+    here.add_shelf(&mut named)?;
     let traces = traces_of(&named.traces)?;
     let mut bundle = Bundle {
-        folder: folder.map(|folder| folder.display().to_string()),
-        board: read(board, SHEET_LENGTH)?,
-        house: read(house, SHEET_LENGTH)?,
+        folder: folder.map(shown),
+        board: read(&board, SHEET_LENGTH)?,
+        house: read(&house, SHEET_LENGTH)?,
         scripts: read_starts(&named.starts)?,
         shelf: read_shelf(&named)?,
         traces: traces.iter().map(|path| read(path, MOST_TRACE)).collect::<Result<_, _>>()?,
@@ -112,22 +113,27 @@ impl Here {
     }
 
     /// The files of the folder, where none is named instead.
-    fn fill_in(&self, named: &Named) -> Result<Named, Failure> {
+    fn fill_in(&self, named: &Named) -> Named {
         let mut named = named.clone();
         named.board = named.board.or_else(|| self.file(BOARD));
         named.house = named.house.or_else(|| self.file(HOUSE));
         for (start, name) in named.starts.iter_mut().zip(STARTS) {
             *start = start.take().or_else(|| self.file(name));
         }
+        if named.traces.is_empty() {
+            named.traces = self.found.files.clone();
+        }
+        named
+    }
+
+    /// The shelf of the folder and the scripts for it, where none are named instead.
+    fn add_shelf(&self, named: &mut Named) -> Result<(), Failure> {
         let shelf = if named.shelf.is_some() { None } else { self.shelf()? };
         if named.shelf_scripts.is_empty() {
             named.shelf_scripts = shelf.as_deref().map_or(vec![], |shelf| self.beside(shelf));
         }
-        named.shelf = named.shelf.or(shelf);
-        if named.traces.is_empty() {
-            named.traces = self.found.files.clone();
-        }
-        Ok(named)
+        named.shelf = named.shelf.take().or(shelf);
+        Ok(())
     }
 
     /// A file of the folder itself, if it has one of this name.
@@ -189,7 +195,7 @@ impl Here {
         all.sort();
         let read: BTreeSet<&PathBuf> = bundle.files().map(|file| &file.path).collect();
         all.retain(|path| !read.contains(path));
-        all.into_iter().map(|path| path.display().to_string()).collect()
+        all.into_iter().map(|path| shown(path)).collect()
     }
 }
 
@@ -201,13 +207,19 @@ fn wrong(what: &str) -> Failure {
     Failure::Wrong(format!("{what}; gunwaleish release --help tells more"))
 }
 
+/// A path as text. No name breaks a line of the verdict, or makes one of its own.
+fn shown(path: &Path) -> String {
+    let plain = |letter: char| if letter.is_control() { '?' } else { letter };
+    path.display().to_string().chars().map(plain).collect()
+}
+
 /// How much is read at once.
 const PIECE: usize = 1 << 16;
 
 /// Reads a file to its end for its size and its hash, and keeps so many bytes of it and one more. That
 /// byte shows that there is more.
 pub fn read(path: &Path, most: usize) -> Result<Read, Failure> {
-    let name = path.display().to_string();
+    let name = shown(path);
     let cannot = |why: String| Failure::Wrong(format!("{name} cannot be read: {why}"));
     let open = || -> io::Result<Option<Read>> {
         // A pipe or a device may have no end, and nobody can look at it again.
@@ -242,7 +254,7 @@ fn read_whole(mut file: File, path: &Path, most: usize) -> io::Result<Read> {
     }
     Ok(Read {
         path: path.to_path_buf(),
-        name: path.display().to_string(),
+        name: shown(path),
         bytes,
         size,
         changed: changed.map(|time| time.as_secs()),

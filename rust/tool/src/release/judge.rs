@@ -10,7 +10,8 @@ pub fn examine(bundle: Bundle, asked: Asked) -> Examined {
     let mut allowed = vec![];
     if let Ok(order) = &order {
         reasons.extend(sheets::empty_boxes(&bundle, order));
-        reasons.extend(sheets::long_waits(&bundle, order, &asked));
+        reasons.extend(sheets::not_bounded(&bundle, order, &asked));
+        reasons.extend(sheets::above_most(&bundle, order, &asked));
         reasons.extend(sheets::not_without_limit(&bundle, order, &asked));
         allowed = sheets::allowed(order, &asked);
     }

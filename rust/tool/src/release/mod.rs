@@ -13,6 +13,7 @@ pub mod page;
 pub mod sheets;
 pub mod words;
 
+use std::fmt;
 use std::path::PathBuf;
 
 use gunwaleish::{Master, Part, Refusal, Totals};
@@ -146,6 +147,12 @@ pub struct Spot {
     pub address: u8,
 }
 
+impl fmt::Display for Spot {
+    fn fmt(&self, f: &mut fmt::Formatter) -> fmt::Result {
+        write!(f, "place {}, address {:02X}h", self.place, self.address)
+    }
+}
+
 /// One trace, or what one script does at one place of the shelf, by its proved totals.
 #[derive(Clone, Debug, PartialEq, Eq)]
 pub struct Bench {
@@ -167,9 +174,7 @@ impl Bench {
     pub fn name(&self) -> String {
         match self.spot {
             None => self.file.clone(),
-            Some(Spot { place, address }) => {
-                format!("{}, place {place}, address {address:02X}h", self.file)
-            }
+            Some(spot) => format!("{}, {spot}", self.file),
         }
     }
 }

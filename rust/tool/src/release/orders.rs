@@ -7,7 +7,7 @@ use crate::commands::compose::MOST_TEXT;
 use crate::order::{BoxName, Order};
 use crate::script::{line_of, read_script, Script};
 use crate::startup::{words, Ending, Group, Left, Scripts};
-use crate::words::{count, outcome};
+use crate::words::{capital, count, outcome};
 
 /// All orders of the scripts, or why they cannot be tried.
 pub fn all_orders(reads: &[Read; 2]) -> Result<Orders, Vec<Reason>> {
@@ -55,7 +55,7 @@ fn read_one(read: &Read) -> Result<Script, Reason> {
         Ok(_) => Ok(script),
         Err(refusal) => {
             let place = format!("line {}", script.pins_line);
-            Err(refused(name, Some(place), format!("{refusal}."), MADE_ANEW))
+            Err(refused(name, Some(place), format!("It is refused: {refusal}."), MADE_ANEW))
         }
     }
 }
@@ -80,12 +80,12 @@ fn no_orders(reads: &[Read; 2], scripts: &Scripts, refusal: Refusal) -> Vec<Reas
     let mend =
         "A start-up script has six events at the most; what comes later is no part of the start.";
     let long = |(read, events): (&Read, usize)| {
-        let what = format!("{refusal}: it has {events}.");
+        let what = format!("It is refused: {refusal}, and it has {events}.");
         (events > MOST_SCRIPT).then(|| refused(&read.name, None, what, mend))
     };
     let long: Vec<Reason> = reads.iter().zip(scripts.lengths()).filter_map(long).collect();
     match long.is_empty() {
-        true => vec![refused(&both(reads), None, format!("{refusal}."), mend)],
+        true => vec![refused(&both(reads), None, format!("They are refused: {refusal}."), mend)],
         false => long,
     }
 }
@@ -160,9 +160,10 @@ fn not_as_ordered(
     let left = |ending: &Ending| left_in(&ending.left[name.controller as usize], name.section);
     let other: Vec<&Ending> = orders.endings.iter().filter(|e| left(e) != ordered).collect();
     let first = other.first()?;
+    let own = &reads[name.controller as usize];
     // What is so in all orders comes of the controller's own script.
     let file = match other.len() == orders.endings.len() {
-        true => reads[name.controller as usize].name.clone(),
+        true => own.name.clone(),
         false => both(reads),
     };
     let reason = Reason {
@@ -175,14 +176,9 @@ fn not_as_ordered(
             leaves(name, left(first)),
             in_box(name.section, ordered)
         ),
-        mend: made_by_sheets(bundle, orders, name.controller),
+        mend: made_by_sheets(bundle, orders, own, name.controller),
     };
     Some((reason, first.number - 1))
-}
-
-fn capital(text: &str) -> String {
-    let (first, rest) = text.split_at(1);
-    first.to_uppercase() + rest
 }
 
 /// What is left where a box orders something.
@@ -217,11 +213,13 @@ fn on_off(value: u8) -> &'static str {
     }
 }
 
-fn made_by_sheets(bundle: &Bundle, orders: &Orders, controller: Master) -> String {
+/// How the controller's script is made of the sheets.
+fn made_by_sheets(bundle: &Bundle, orders: &Orders, script: &Read, controller: Master) -> String {
     let Scripts { pins, part, .. } = &orders.scripts;
     format!(
-        "The sheets' own script: gunwaleish sheet {} {} --pins {pins} --part {part} --script --controller {controller}",
-        bundle.board.name, bundle.house.name
+        "The sheets give the script that leaves it as ordered: gunwaleish sheet {} {} --pins {pins} --part {part} \
+         --script --controller {controller} -o {}",
+        bundle.board.name, bundle.house.name, script.name
     )
 }
 

@@ -3,7 +3,9 @@
 use gunwaleish::{Found, Master, Section, Sheet, Wait};
 
 use super::{Allowed, Asked, Bundle, Rank, Read, Reason};
+use crate::order::warnings::{warnings, Warning};
 use crate::order::{faults, waits, BoxName, Order, Waiting};
+use crate::words::capital;
 
 /// What a sheet that is none is told with.
 const A_SHEET: &str = "A sheet has 15 bytes (docs/SHEETS.md). If this is its text, gunwaleish fill makes the sheet of it.";
@@ -70,34 +72,40 @@ fn is_allowed(order: &Order, asked: &Asked, controller: Master) -> bool {
     asked.without_limit[controller as usize] && order.value(Section::Reserve, controller) == Some(0)
 }
 
-/// The waits that are not bounded, or only behind a silent holder, and those above what is allowed.
-pub fn long_waits(bundle: &Bundle, order: &Order, asked: &Asked) -> Vec<Reason> {
-    let reason = |waiting: &Waiting| {
-        let holder = waiting.controller.partner();
-        // The grade does not go by the part, and neither does what a reserve gives.
-        let (rank, what, mend) = match waiting.on[0].1 {
-            Wait::Live { ticks } => above(waiting, ticks.into(), asked.most?),
-            _ if is_allowed(order, asked, holder) => return None,
-            Wait::Silent { .. } => not_bounded(Rank::SilentAlone, waiting),
-            Wait::Unbounded => not_bounded(Rank::Unbounded, waiting),
-        }?;
+/// The waits that are not bounded, or only behind a silent holder, unless that is on purpose.
+pub fn not_bounded(bundle: &Bundle, order: &Order, asked: &Asked) -> Vec<Reason> {
+    let reason = |warning: Warning| {
+        let holder = warning.mend.controller;
+        let rank = if warning.grade == 2 { Rank::SilentAlone } else { Rank::Unbounded };
         let (name, found) = reserve_of(order, holder);
-        Some(Reason { what, mend, ..about(bundle, rank, name, found) })
+        let mend = format!(
+            "{}. If controller {holder} is to keep the bus until it lets go, and on purpose, \
+             --without-limit {holder} says so.",
+            warning.remedy()
+        );
+        let what = format!("{}.", capital(&warning.what()));
+        Reason { what, mend, ..about(bundle, rank, name, found) }
+    };
+    let all = warnings(order).into_iter();
+    all.filter(|one| !is_allowed(order, asked, one.mend.controller)).map(reason).collect()
+}
+
+/// The promised waits that are above what is allowed.
+pub fn above_most(bundle: &Bundle, order: &Order, asked: &Asked) -> Vec<Reason> {
+    let reason = |waiting: &Waiting| {
+        // What a reserve gives does not go by the part.
+        let Wait::Live { ticks } = waiting.on[0].1 else {
+            return None;
+        };
+        let (what, mend) = above(waiting, ticks.into(), asked.most?)?;
+        let (name, found) = reserve_of(order, waiting.controller.partner());
+        Some(Reason { what, mend, ..about(bundle, Rank::AboveMost, name, found) })
     };
     order.waits.iter().filter_map(reason).collect()
 }
 
-fn not_bounded(rank: Rank, waiting: &Waiting) -> Option<(Rank, String, String)> {
-    let holder = waiting.controller.partner();
-    let mend = format!(
-        "Fill in a reserve of 1 to 255 ms. If controller {holder} is to keep the bus until it lets go, and on purpose, \
-         --without-limit {holder} says so."
-    );
-    Some((rank, waits::in_words(waiting), mend))
-}
-
 /// That a promised wait is above the most that is allowed, if it is.
-fn above(waiting: &Waiting, ticks: u64, most: u64) -> Option<(Rank, String, String)> {
+fn above(waiting: &Waiting, ticks: u64, most: u64) -> Option<(String, String)> {
     let controller = waiting.controller;
     let what = format!("Controller {controller} may wait {ticks} ms, and --most allows {most} ms.");
     let mend = match most {
@@ -109,7 +117,7 @@ fn above(waiting: &Waiting, ticks: u64, most: u64) -> Option<(Rank, String, Stri
             most - 1
         ),
     };
-    (ticks > most).then_some((Rank::AboveMost, what, mend))
+    (ticks > most).then_some((what, mend))
 }
 
 /// The reserves without limit that are there on purpose, with what the partner is promised then.

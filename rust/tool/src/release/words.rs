@@ -2,7 +2,7 @@
 
 use gunwaleish::{Master, Totals, Wait};
 
-use super::{bench, orders, Allowed, Bench, Bundle, Examined, Reason};
+use super::{bench, orders, Allowed, Bench, Bundle, Examined, Read, Reason};
 use crate::order::{waits, words, Order, Waiting};
 use crate::share::words::table;
 use crate::share::Counted;
@@ -53,32 +53,32 @@ pub fn found(bundle: &Bundle) -> Vec<String> {
         None => "not found  a shelf (NAME.shelf, here or in shelf/): no script is run over one"
             .to_string(),
     });
-    all.push(match bundle.traces.as_slice() {
-        [] => "not found  traces (NAME.trace, here or in any folder inside): no wait of the bench is looked at".to_string(),
-        [one] => format!("found      1 trace: {}", one.name),
-        [first, .., last] => format!(
-            "found      {}: {} to {}",
-            count(bundle.traces.len(), "trace"),
-            first.name,
-            last.name
-        ),
-    });
+    all.push(traces(&bundle.traces));
     all.extend(not_read(&bundle.others));
     all
 }
 
-/// The most names of files that are told, of those that were not read.
-const MOST_NAMES: usize = 8;
+fn traces(reads: &[Read]) -> String {
+    let names: Vec<&str> = reads.iter().map(|read| read.name.as_str()).collect();
+    match names.is_empty() {
+        true => "not found  traces (NAME.trace, here or in any folder inside): no wait of the bench is looked at".to_string(),
+        false => format!("found      {}: {}", count(names.len(), "trace"), some_of(&names)),
+    }
+}
 
 fn not_read(others: &[String]) -> Option<String> {
-    let names = others.iter().take(MOST_NAMES).cloned().collect::<Vec<_>>().join(", ");
-    match others.len().saturating_sub(MOST_NAMES) {
-        _ if others.is_empty() => None,
-        0 => Some(format!("not read   {names}")),
-        more => Some(format!(
-            "not read   {names} and {}",
-            count(more, "file more").replace("file mores", "files more")
-        )),
+    let names: Vec<&str> = others.iter().map(String::as_str).collect();
+    (!names.is_empty()).then(|| format!("not read   {}", some_of(&names)))
+}
+
+/// The most names that are told of many.
+const MOST_NAMES: usize = 8;
+
+fn some_of(names: &[&str]) -> String {
+    let first = names[..names.len().min(MOST_NAMES)].join(", ");
+    match names.len().saturating_sub(MOST_NAMES) {
+        0 => first,
+        more => format!("{first} and {more} more"),
     }
 }
 
@@ -87,18 +87,23 @@ fn ordered(examined: &Examined) -> String {
     let Ok(order) = &examined.order else {
         return String::new();
     };
-    let boxes = words::boxes(order);
-    match order.waits.is_empty() {
-        true => boxes,
-        false => format!("{boxes}\n{}\n", waits::told(order)),
+    let mut all = vec![];
+    if !order.waits.is_empty() {
+        all.push(
+            "\nHow long each can wait for the bus after the start, at every handover:".to_string(),
+        );
+        all.extend(order.waits.iter().map(waits::in_words));
+        all.extend(waits::are_bounded(order).then(|| waits::HOLDS.to_string()));
     }
+    format!("{}{}", words::boxes(order), lines(&all))
 }
 
 /// What the bench shows: the share of the traces, and the longest waits at each place of the shelf.
 fn benches(examined: &Examined) -> Vec<String> {
     let mut parts = vec![];
     if !examined.bundle.traces.is_empty() {
-        parts.push(format!("The bench's bus share, in ticks of 1 ms. {}", share(examined)));
+        let head = "On the bench the bus was shared so, in ticks of 1 ms:\n";
+        parts.push(format!("{head}{}\n{}", share(examined), lines(&longest_traces(examined))));
     }
     let places: Vec<String> =
         examined.bench.iter().filter(|bench| bench.spot.is_some()).map(longest).collect();
@@ -124,10 +129,22 @@ fn share(examined: &Examined) -> String {
     table(&counted, &|place| names[place].file.clone())
 }
 
+/// In which trace each controller waited longest, if it waited.
+fn longest_traces(examined: &Examined) -> Vec<String> {
+    let traces = || examined.bench.iter().filter(|bench| bench.spot.is_none());
+    let waited = |bench: &Bench, m| bench.totals.map_or(0, |totals| totals.longest(m));
+    let said = |m: Master| {
+        let most = traces().map(|bench| waited(bench, m)).max().filter(|most| *most > 0)?;
+        let first = traces().find(|bench| waited(bench, m) == most)?;
+        Some(format!("Controller {m} waited longest in {}: {most} ms.", first.file))
+    };
+    Master::BOTH.into_iter().filter_map(said).collect()
+}
+
 fn longest(bench: &Bench) -> String {
     let waited = |totals: &Totals| {
         let [first, second] = Master::BOTH.map(|m| totals.longest(m));
-        format!("controller 0 {first}, controller 1 {second}")
+        format!("controller 0: {first}, controller 1: {second}")
     };
     match &bench.totals {
         Ok(totals) => format!("{}: {}", bench.name(), waited(totals)),

@@ -3,7 +3,7 @@
 use gunwaleish::Master;
 
 use super::{Ending, Group};
-use crate::words::count;
+use crate::words::{capital, count};
 
 /// A line for each group, and after them, set apart, those in which nobody owns the bus though
 /// somebody asks for it.
@@ -46,11 +46,6 @@ pub fn some(number: usize, all: usize) -> String {
         _ if number == all => format!("in all {all} orders"),
         _ => format!("in {number} of {all} orders"),
     }
-}
-
-fn capital(text: &str) -> String {
-    let (first, rest) = text.split_at(1);
-    first.to_uppercase() + rest
 }
 
 /// How the orders of a group end.
