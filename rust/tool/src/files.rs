@@ -87,7 +87,9 @@ pub fn print_bytes(bytes: &[u8]) -> Result<(), Failure> {
     }
 }
 
-/// Says something on standard error. Nothing can be done if that fails too.
+/// Says something on standard error, with the tool's name before each line. Nothing can be done if that
+/// fails too.
 pub fn complain(text: &str) {
-    let _ = writeln!(io::stderr(), "gunwaleish: {text}");
+    let lines: String = text.lines().map(|line| format!("gunwaleish: {line}\n")).collect();
+    let _ = io::stderr().write_all(lines.as_bytes());
 }
