@@ -4,8 +4,8 @@
 //! runs folders of traces on all cores, or counts over many traces how the bus was shared.
 //!
 //! Every answer comes from the proved library. What is here is words and pictures: `story` follows
-//! a run and says what changed, `stuck` why one still waits at its end, `order` says what is on two sheets, `startup` how the orders of two
-//! scripts end, `shelf` what happens at each place of a shelf, `share` how the bus was shared, `release`
+//! a run and says what changed, `stuck` why one still waits at its end, `order` says what is on two sheets, `form` has the text of one,
+//! `startup` how the orders of two scripts end, `shelf` what happens at each place of a shelf, `share` how the bus was shared, `release`
 //! whether a bundle is safe by all of that,
 //! `commands` has a file for each subcommand, and `arguments`, `files` and `each` are the way from the
 //! command line to the files and back.
@@ -17,6 +17,7 @@ pub mod device;
 pub mod each;
 pub mod failure;
 pub mod files;
+pub mod form;
 pub mod many;
 pub mod order;
 pub mod picture;
@@ -66,13 +67,14 @@ pub fn overview() -> String {
         text.push_str(&format!("  {:<10} {}\n", command.name, command.summary));
     }
     text.push_str(
-        "\nWithout FILE, or with -, standard input is read; release needs a folder; sheet, orders and shelf need\n\
-         two files; share and run take folders too, and run writes no file. -o names the file to write, or a folder that is there; then\n\
-         each output has its input's name. Many files need such a folder.\n\
+        "\nWithout FILE, or with -, standard input is read; orders and shelf need two files, sheet one or two; release\n\
+         needs a folder; share and run take folders too, and run writes no file. -o names the file to write, or a\n\
+         folder that is there; then each output has its input's name. Many files need such a folder.\n\
          Controller 0 and controller 1 are document 01's masters 0 and 1.\n\n\
          gunwaleish COMMAND --help tells more, with an example. --version gives the version.\n\n\
          Exit code: 0 done; 1 a trace, script, shelf, capture or order sheet is refused, standard\n\
-         error says why and where, or a bundle is not released; 2 wrong use, or a file that cannot be read or written.\n",
+         error says why and where, or a bundle is not released; 2 wrong use, or a file that cannot\n\
+         be read or written.\n",
     );
     text
 }

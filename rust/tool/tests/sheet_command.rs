@@ -11,10 +11,10 @@ use common::{code, root, run, said, samples_on, shell, text, Folder, BUILT, TOOL
 
 #[test]
 fn the_samples_say_what_their_page_has() {
-    assert_eq!(samples_on("sheets/README.md", "sheet"), 5);
+    assert_eq!(samples_on("sheets/README.md", "sheet"), 6);
 }
 
-/// The page has every sheet with its bytes, and its other command lines work.
+/// The page has every sheet with its bytes, and each has its text beside it.
 #[test]
 fn the_samples_have_the_bytes_of_their_page() {
     let page = text("sheets/README.md");
@@ -25,14 +25,26 @@ fn the_samples_have_the_bytes_of_their_page() {
         let stored = fs::read(root().join("sheets").join(cells[1])).unwrap();
         assert_eq!(bytes.collect::<Vec<u8>>(), stored, "{}", cells[1]);
         files.insert(cells[1].to_string());
+        files.insert(cells[1].replace(".sheet", ".txt"));
     }
     files.insert("README.md".to_string());
     let entries = fs::read_dir(root().join("sheets")).unwrap();
     let there = entries.map(|entry| entry.unwrap().file_name().into_string().unwrap());
     assert_eq!(there.collect::<BTreeSet<_>>(), files);
-    let made: Vec<&str> = page.lines().filter(|line| line.starts_with("    printf ")).collect();
-    assert_eq!(made.len(), 1);
-    assert_eq!(code(&shell(made[0])), 0, "{}", made[0]);
+}
+
+/// The command lines of the page that fill in a text: one that gives its sheet, and one that is mistyped.
+#[test]
+fn texts_are_filled_in_as_their_page_has_it() {
+    let page = text("sheets/README.md");
+    let is_command = |line: &&str| line.starts_with("    ") && line.contains("gunwaleish fill ");
+    let lines: Vec<&str> = page.lines().filter(is_command).collect();
+    let [good, bad] = lines[..] else { panic!("{lines:?}") };
+    assert_eq!(code(&shell(good)), 0, "{good}");
+    let refused = shell(bad);
+    assert_eq!((code(&refused), refused.stdout.len()), (1, 0), "{bad}");
+    let block = format!("The exit code is 1.\n\n{bad}\n\n```\n{}```\n", said(&refused));
+    assert!(page.contains(&block), "{block}");
 }
 
 /// The commands that the release coordinator is told, in their order. Outputs under build/ go to a
@@ -74,10 +86,15 @@ fn exit_codes_are_for_scripts() {
 #[test]
 fn wrong_use_is_2() {
     let (board, house) = ("sheets/board.sheet", "sheets/house.sheet");
-    let cases: [(&[&str], &str); 10] = [
-        (&[], "sheet needs two files, the board sheet and then the house sheet, and has 0"),
-        (&[board], "and has 1"),
-        (&[board, house, house], "and has 3"),
+    let one_or_two =
+        "sheet needs one file, or two files, the board sheet and then the house sheet, and has";
+    let two = "sheet needs two files, the board sheet and then the house sheet, and has 1";
+    let cases: [(&[&str], &str); 12] = [
+        (&[], &format!("{one_or_two} 0")),
+        (&[board, house, house], &format!("{one_or_two} 3")),
+        (&[board, "--address", "71", "--part", "PCA9641"], &format!("with --address {two}")),
+        (&[board, "--script"], &format!("with --script {two}")),
+        (&[board, "-o", board], "sheets/board.sheet is an input, and is not written over"),
         (&["-", "-"], "standard input cannot be both sheets"),
         (&[board, "no-such.sheet"], "no-such.sheet cannot be read"),
         (&[board, house, "--address", "71"], "sheet needs the part: --part PCA9641 or --part TPT"),
@@ -111,7 +128,8 @@ fn outputs_go_where_they_should() {
     assert_eq!(fs::read(&named).unwrap(), trace);
     assert_eq!(fs::read(folder.path("board.trace")).unwrap(), trace);
     assert!(fs::read(folder.path("board.script")).unwrap().starts_with(b"pins 0 0 0 1\n"));
-    assert!(fs::read(folder.path("board.txt")).unwrap().starts_with(b"board sheet: sheets/board"));
+    let words = fs::read(folder.path("board.order.txt")).unwrap();
+    assert!(words.starts_with(b"board sheet: sheets/board"));
     let mut child = Command::new(TOOL)
         .args(["sheet", "-", "sheets/house.sheet"])
         .current_dir(root())

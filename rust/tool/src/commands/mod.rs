@@ -4,6 +4,7 @@ pub mod compose;
 pub mod convert;
 pub mod decompose;
 pub mod explain;
+pub mod fill;
 pub mod import;
 pub mod list;
 pub mod orders;
@@ -37,6 +38,7 @@ const TRACES: &str = "[TRACE...] [-o OUT]";
 pub const COMMANDS: &[Command] = &[
     release::COMMAND,
     sheet::COMMAND,
+    fill::COMMAND,
     orders::COMMAND,
     shelf::COMMAND,
     share::COMMAND,

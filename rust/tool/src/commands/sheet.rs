@@ -1,37 +1,45 @@
-//! `sheet`: what two order sheets order, in words, or their events as a trace.
+//! `sheet`: one order sheet as text; what two of them order, in words, or their events as a trace.
+
+use std::path::Path;
 
 use gunwaleish::{sheet_events, write_trace, Master, Refusal, Sheet, SHEET_EVENTS, SHEET_LENGTH};
 
 use super::Command;
 use crate::arguments::Arguments;
 use crate::device::{read_device, Device};
-use crate::each::{output_of, Made};
+use crate::each::{output_of, Each, Made};
 use crate::failure::Failure;
 use crate::files::{self, is_standard, Input};
+use crate::form;
 use crate::order::{faults, words, Order};
 use crate::script::write_script;
 
 pub const COMMAND: Command = Command {
     name: "sheet",
-    summary: "what a board sheet and a house sheet order, in words, or as a trace",
-    usage: "BOARD HOUSE [(--address HEX | --pins AD3 AD2 AD1 AD0) --part NAME\n       \
+    summary: "what two order sheets order, in words, or as a trace; or one sheet as text",
+    usage: "SHEET [-o OUT]\n       \
+            gunwaleish sheet BOARD HOUSE [(--address HEX | --pins AD3 AD2 AD1 AD0) --part NAME\n       \
             [--script [--controller N]]] [-o OUT]",
-    help: "BOARD and HOUSE are two order sheets, 15 bytes each; sheets/README.md has their layout. The\n\
-           output says of each box what is ordered and from which sheet: the board sheet's if it is\n\
-           ticked there, else the house sheet's. A box that is ticked on neither is empty and never\n\
-           becomes a value: all empty boxes are named, and the pair is refused with 14. A ticked\n\
-           reserve of 0 is an order, without limit. Of a complete pair it says how long each controller\n\
-           can wait for the bus, on either part, and of a priority or an idle timer ticked 1 which CONTR\n\
-           byte keeps it when the controller connects. It warns of a wait without a bound, which is grade\n\
-           3, or with one behind a silent controller alone, grade 2, and names the box to mend.\n\n\
+    help: "A sheet has 15 bytes; sheets/README.md has their layout, and gunwaleish fill makes one of a text\n\
+           that people write. Of one SHEET the output is that text, a line for each box and what can be\n\
+           filled in; fill makes the same sheet of it again.\n\n\
+           BOARD and HOUSE are the two sheets of a bundle. The output says of each box what is ordered\n\
+           and from which sheet: the board sheet's if it is ticked there, else the house sheet's. A box\n\
+           that is ticked on neither is empty and never becomes a value: all empty boxes are named, and\n\
+           the pair is refused with 14. A ticked reserve of 0 is an order, without limit. Of a complete\n\
+           pair it says how long each controller can wait for the bus, on either part, and of a priority\n\
+           or an idle timer ticked 1 which CONTR byte keeps it when the controller connects. It warns of\n\
+           a wait without a bound, which is grade 3, or with one behind a silent controller alone, grade\n\
+           2, and names the box to mend.\n\n\
            With a device, named by its address or the codes of its pins and by its part, PCA9641 or\n\
            TPT29641, the output is not the words but a trace: the twelve events that start the shelf.\n\
            They fit a fresh device. With --script it is their script, to which tick and lines are\n\
            added by hand before gunwaleish compose makes a trace of it; with --controller 0 or 1 it is\n\
            that controller's six events alone, for gunwaleish orders. Nothing of a pair that is\n\
            refused is written.\n\n\
-           Exit code: 0 the pair is complete; 1 a box is empty, or a sheet is no sheet: standard error\n\
-           says which, and at which byte; 2 wrong use, or a file that cannot be read or written.",
+           Exit code: 0 the pair is complete, or the one sheet is a sheet, which judges no pair; 1 a box\n\
+           is empty, or a sheet is no sheet: standard error says which, and at which byte; 2 wrong use,\n\
+           or a file that cannot be read or written.",
     options: &[("--address", 1), ("--pins", 4), ("--part", 1), ("--script", 0), ("--controller", 1)],
     example: "build/release/gunwaleish sheet sheets/board.sheet sheets/house.sheet",
     run,
@@ -48,10 +56,11 @@ pub enum Wanted {
 }
 
 impl Wanted {
-    /// The ending of its name in a folder.
+    /// The ending of its name in a folder. The words of a pair do not take the place of the board
+    /// sheet's text there.
     fn ending(self) -> &'static str {
         match self {
-            Wanted::Words => "txt",
+            Wanted::Words => "order.txt",
             Wanted::Trace(_) => "trace",
             Wanted::Script(_) | Wanted::ScriptOf(..) => "script",
         }
@@ -59,12 +68,29 @@ impl Wanted {
 }
 
 fn run(arguments: &Arguments) -> Result<(), Failure> {
-    let [board, house] = arguments.files.as_slice() else {
-        let count = arguments.files.len();
-        return Err(wrong(&format!(
-            "sheet needs two files, the board sheet and then the house sheet, and has {count}"
-        )));
-    };
+    let two = "two files, the board sheet and then the house sheet";
+    match (arguments.files.as_slice(), arguments.options.keys().next()) {
+        ([_], None) => Each { most: SHEET_LENGTH, ending: "txt", make: one }.run(arguments),
+        ([board, house], _) => pair(board, house, arguments),
+        ([_], Some(option)) => Err(wrong(&format!("with {option} sheet needs {two}, and has 1"))),
+        (files, _) => {
+            Err(wrong(&format!("sheet needs one file, or {two}, and has {}", files.len())))
+        }
+    }
+}
+
+/// One sheet as text.
+pub fn one(input: &Input) -> Made {
+    match form::boxes_of(&input.bytes) {
+        Ok(boxes) => Made::done(form::write(boxes)),
+        Err(refusal) => {
+            let why = faults::with_places(&input.bytes, refusal);
+            Made::refused(format!("{}: {why}", input.name))
+        }
+    }
+}
+
+fn pair(board: &Path, house: &Path, arguments: &Arguments) -> Result<(), Failure> {
     if is_standard(board) && is_standard(house) {
         return Err(wrong("standard input cannot be both sheets"));
     }

@@ -19,11 +19,27 @@ pub fn fault(sheet: &[u8], which: Sheet) -> Option<Refusal> {
     }
 }
 
-/// A refused sheet in words: which it is, the number, and what is seen at which bytes.
+/// A refused sheet of a pair in words: which it is, the number, and what is seen at which bytes.
 pub fn in_words(name: &str, which: Sheet, sheet: &[u8], refusal: Refusal) -> String {
+    format!("{name}, the {which}: {}", with_places(sheet, refusal))
+}
+
+/// The number of a refused sheet, its words, and what is seen at which bytes.
+pub fn with_places(sheet: &[u8], refusal: Refusal) -> String {
     let seen: Vec<String> = seen(sheet, refusal).iter().map(Seen::to_string).collect();
     let place = if seen.is_empty() { String::new() } else { format!(" ({})", seen.join("; ")) };
-    format!("{name}, the {which}: {refusal}{place}")
+    let text = match is_text(sheet) {
+        true => "; it is text, and gunwaleish fill makes a sheet of a sheet's text",
+        false => "",
+    };
+    format!("{refusal}{place}{text}")
+}
+
+/// True if there are letters where a sheet has a count of 2, and nothing that is no text.
+fn is_text(bytes: &[u8]) -> bool {
+    let text = |byte: &u8| matches!(byte, b'\t' | b'\n' | b'\r' | b' '..=b'~');
+    let bytes = bytes.strip_prefix(b"\xEF\xBB\xBF").unwrap_or(bytes);
+    !bytes.is_empty() && bytes.iter().all(text)
 }
 
 /// What is wrong at a byte, counted from 0.
@@ -57,8 +73,8 @@ pub fn seen(sheet: &[u8], refusal: Refusal) -> Vec<Seen> {
     }
 }
 
-/// The place at which a box starts.
-fn place(name: BoxName) -> usize {
+/// The place at which a box starts: that of its tick.
+pub fn place(name: BoxName) -> usize {
     5 * usize::from(name.section.number()) + 1 + 2 * usize::from(name.controller.number())
 }
 

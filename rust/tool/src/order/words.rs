@@ -82,7 +82,8 @@ fn idle(value: u8, reserve: Option<u8>) -> String {
     }
 }
 
-fn idle_limits() -> String {
+/// At how many idle ticks the idle timer ends a grant, on each part.
+pub fn idle_limits() -> String {
     let [first, second] = Part::BOTH;
     let (at_first, at_second) = (idle_limit(first), idle_limit(second));
     format!("at {at_first} idle ticks on a {first}, at {at_second} on a {second}")

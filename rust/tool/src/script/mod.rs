@@ -21,7 +21,7 @@
 pub mod named;
 mod words;
 
-pub use words::{each_line, Unread, Words};
+pub use words::{each_line, shown, Unread, Words};
 
 use gunwaleish::{Event, Part, Pins, MOST_EVENTS};
 

@@ -164,7 +164,7 @@ impl<'a> Words<'a> {
 }
 
 /// A word as it can be shown: no control characters, and not too long.
-fn shown(word: &str) -> String {
+pub fn shown(word: &str) -> String {
     let most = 40;
     let text: Cow<str> = match word.chars().count() > most {
         true => format!("{}...", word.chars().take(most).collect::<String>()).into(),

@@ -1,0 +1,76 @@
+//! `fill`: the text form of an order sheet to the sheet.
+
+use std::io::{self, IsTerminal};
+
+use super::Command;
+use crate::arguments::Arguments;
+use crate::each::{Each, Made};
+use crate::failure::Failure;
+use crate::files::{is_standard, Input};
+use crate::form::{boxes_of, read, sheet_of, Mistake};
+
+/// The six lines of a text have far less, even with long comments.
+pub const MOST_TEXT: usize = 1 << 16;
+
+/// How many typing errors of one text are told.
+const MOST_TOLD: usize = 10;
+
+pub const COMMAND: Command = Command {
+    name: "fill",
+    summary: "an order sheet from its text, one line a box",
+    usage: "[TEXT...] [-o OUT]",
+    help: "The text has one line for each box, as the form has it, in any order. # begins a comment.\n\n\
+           Downstream reserve, ms, controller 0: 50\n\
+           Downstream reserve, ms, controller 1: without limit\n\
+           Priority, controller 0: 0       # without priority; 1 is with\n\
+           Priority, controller 1: empty   # no order: left to the other sheet\n\
+           Idle timer, controller 0: 0     # off\n\
+           Idle timer, controller 1: 1     # on\n\n\
+           A reserve is 1 to 255, a number of ms in decimal, or without limit; a bare 0 is refused, since\n\
+           a 0 that nobody meant is how the incident came about. An empty box has its line too: a line\n\
+           that is missing is refused and never taken for an empty box.\n\n\
+           The output is the sheet, 15 bytes, for gunwaleish sheet, which also turns it back into text.\n\
+           It is no text, and is not written to a terminal.\n\n\
+           Exit code: 0 done; 1 the text is refused: standard error has each typing error with its line\n\
+           and word, and nothing is written; 2 wrong use, or a file that cannot be read or written.",
+    options: &[],
+    example: "build/release/gunwaleish fill sheets/board.txt | cmp - sheets/board.sheet",
+    run,
+};
+
+fn run(arguments: &Arguments) -> Result<(), Failure> {
+    let to_standard = arguments.output.as_deref().is_none_or(is_standard);
+    if to_standard && io::stdout().is_terminal() {
+        return Err(Failure::Wrong(String::from(
+            "a sheet is no text, and is not written to a terminal: name a file for it with -o; gunwaleish \
+             fill --help tells more",
+        )));
+    }
+    Each { most: MOST_TEXT, ending: "sheet", make: fill }.run(arguments)
+}
+
+pub fn fill(input: &Input) -> Made {
+    let name = &input.name;
+    if input.bytes.len() > MOST_TEXT {
+        return Made::refused(format!(
+            "{name}: it is longer than 64 KiB, and a sheet has six lines"
+        ));
+    }
+    if boxes_of(&input.bytes).is_ok() {
+        return Made::refused(format!(
+            "{name}: it is a sheet already, and no text; gunwaleish sheet shows it as text"
+        ));
+    }
+    match read(&input.bytes) {
+        Ok(boxes) => Made::done(sheet_of(boxes)),
+        Err(mistakes) => Made::refused(refused(name, &mistakes)),
+    }
+}
+
+/// A line for each typing error, or for the first ones.
+fn refused(name: &str, mistakes: &[Mistake]) -> String {
+    let told = mistakes.iter().take(MOST_TOLD).map(|mistake| mistake.told(name));
+    let more = mistakes.len().saturating_sub(MOST_TOLD);
+    let more = (more > 0).then(|| format!("{name}: and {more} more"));
+    told.chain(more).collect::<Vec<_>>().join("\n")
+}
