@@ -8,7 +8,7 @@ use crate::order::{faults, waits, BoxName, Order, Waiting};
 use crate::words::capital;
 
 /// What a sheet that is none is told with.
-const A_SHEET: &str = "A sheet has 15 bytes (docs/SHEETS.md). If this is its text, gunwaleish fill makes the sheet of it.";
+const A_SHEET: &str = "A sheet has 15 bytes (docs/SHEETS.md); gunwaleish fill makes one of its text: gunwaleish fill TEXT -o FILE.sheet";
 
 /// Why the two files are no pair of sheets: each that is none, with what is seen at its bytes.
 pub fn no_sheets(bundle: &Bundle) -> Vec<Reason> {
@@ -18,13 +18,12 @@ pub fn no_sheets(bundle: &Bundle) -> Vec<Reason> {
 
 fn no_sheet(read: &Read, which: Sheet) -> Option<Reason> {
     let refusal = faults::fault(&read.bytes, which)?;
-    let seen = faults::seen(&read.bytes, refusal);
-    let words: Vec<String> = seen.iter().map(ToString::to_string).collect();
+    let first = faults::seen(&read.bytes, refusal).first().map(|seen| seen.byte);
     Some(Reason {
         rank: Rank::NoSheet,
         file: read.name.clone(),
-        place: seen.first().map(|seen| format!("byte {}", seen.byte)),
-        what: format!("It is no {which}: {refusal} ({}).", words.join("; ")),
+        place: first.map(|byte| format!("byte {byte}")),
+        what: format!("It is no {which}: {}.", faults::with_places(&read.bytes, refusal)),
         mend: A_SHEET.to_string(),
     })
 }
