@@ -174,9 +174,12 @@ fn the_verdict_stands_first_and_in_words() {
     // A ticked 0 is passed on purpose alone, and then in red beside the verdict, for each controller.
     let (heading, looks, _) = of("ticked 0");
     assert_eq!((heading.as_str(), looks), ("Not released", vec![bad.clone()]));
-    let (heading, looks, _) = of("allowed");
-    assert_eq!(heading, "Released, with both controllers' reserves without limit on purpose");
-    assert_eq!(looks, [good, bad.clone(), bad]);
+    let (heading, looks, title) = of("allowed");
+    assert_eq!((heading.as_str(), looks), ("Released", vec![good, bad]));
+    assert_eq!(
+        title,
+        "Released, with both controllers' reserves without limit on purpose: releases/sample"
+    );
 
     assert_eq!(of("one by one").2, "Released: sheets/board.sheet and sheets/house.sheet");
 }
@@ -351,10 +354,55 @@ fn the_pictures_are_drawn_into_the_page() {
     );
     assert!(captions("ticked 0")[0].contains("has no turn in 300 ticks"));
     assert!(captions("incident").is_empty());
+    // Then the worst order, and where each controller waits longest: in the traces, and on the shelf.
     let full = captions("full");
     assert!(full[1].starts_with("The worst order: "), "{}", full[1]);
-    assert!(full[2..].iter().any(|one| one.starts_with("traces/box14-rt00.trace")
-        && one.contains("controller 1 waits longest")));
+    let longest = [
+        "traces/box14-rt00.trace, a PCA9641: here controller 1",
+        "traces/shelf/hang.script, place 1, address 71h",
+    ];
+    assert_eq!(full.len(), 2 + longest.len(), "{full:?}");
+    for (caption, start) in full[2..].iter().zip(longest) {
+        assert!(
+            caption.starts_with(start) && caption.contains("controller 1 waits longest"),
+            "{caption}"
+        );
+    }
+}
+
+/// The longest waits beside what is promised, and the share of the bus over all traces.
+#[test]
+fn the_bench_is_told_by_its_totals() {
+    let (_, full) = kinds().into_iter().find(|kind| kind.0 == "full").unwrap();
+    let root = root_of(&full);
+    let rows = |class: &str| -> Vec<String> {
+        let table = root.of_class(class)[0];
+        table
+            .named("tr")
+            .into_iter()
+            .map(|row| {
+                row.all()[1..].iter().map(|cell| words(cell)).collect::<Vec<_>>().join(" | ")
+            })
+            .collect()
+    };
+    let bench = rows("bench");
+    assert!(
+        bench[0].contains("promised: at most 21") && bench[0].contains("promised: at most 51"),
+        "{}",
+        bench[0]
+    );
+    let row = |start: &str| {
+        bench.iter().find(|row| row.starts_with(start)).unwrap_or_else(|| panic!("{start}")).clone()
+    };
+    assert!(
+        row("traces/box14-rt00.trace").ends_with("PCA9641 | 300 | 0 | 300, longer than promised")
+    );
+    assert!(row("traces/refused-cut.trace")
+        .ends_with("refusal 5: cut: bytes are missing at the end | refused"));
+    assert!(row("traces/takeover.trace").ends_with(" | 0 | 0 | 0"));
+    let shares = rows("shares");
+    assert_eq!(shares[1], "Controller 0 | 300, 100.0 % | 300, 100.0 % | 0, 0.0 %");
+    assert_eq!(shares[2], "Controller 1 | 0, 0.0 % | 0, 0.0 % | 300, 100.0 %");
 }
 
 #[test]

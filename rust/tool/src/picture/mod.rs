@@ -77,7 +77,8 @@ pub fn draw(story: &Story, name: &str) -> String {
 pub fn draw_in_page(story: &Story, label: &str) -> String {
     let places = Places::new(story, PAGE);
     let axis = height_of_lanes(story, &places);
-    let width = (places.end + RIGHT).max(600.0);
+    // Short runs are not drawn larger than others.
+    let width = (places.end + RIGHT).max(740.0);
     let mut drawing = Drawing::default();
     lanes(&mut drawing, story, &places, 0.0);
     ticks(&mut drawing, story, &places, axis);

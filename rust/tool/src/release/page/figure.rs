@@ -12,10 +12,18 @@ pub fn figure(story: &Story, caption: &str) -> String {
     let said = summary::in_words(story);
     let label = format!("{caption} {}.", said.join("; "));
     format!(
-        "<figure>\n<figcaption>{}</figcaption>\n<div class=\"picture\">\n{}</div>\n{}<p class=\"small\">{}</p>\n</figure>\n",
+        "<figure>\n<figcaption>{}</figcaption>\n<div class=\"picture\">\n{}</div>\n{}{}</figure>\n",
         escaped(caption),
         draw_in_page(story, &label),
         list(&said),
-        escaped(summary::HOW_COUNTED)
+        how_counted(story)
     )
+}
+
+/// What the totals count, where there is anything to count.
+fn how_counted(story: &Story) -> String {
+    match story.ticks() {
+        0 => String::new(),
+        _ => format!("<p class=\"small\">{}</p>\n", escaped(summary::HOW_COUNTED)),
+    }
 }

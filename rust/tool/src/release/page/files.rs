@@ -7,7 +7,7 @@ use crate::words::count;
 
 pub fn written(examined: &Examined) -> String {
     let bundle = &examined.bundle;
-    let mut table = Table::new(&["File", "Read as", "Size", "Last changed", "SHA-256"]);
+    let mut table = Table::new("files", &["File", "Read as", "Size", "Last changed", "SHA-256"]);
     for (what, read) in read_as(bundle) {
         table.row(
             Cell::html(code(&read.name)),

@@ -8,9 +8,9 @@ pub fn paragraph(words: &str) -> String {
     format!("<p>{}</p>\n", escaped(words))
 }
 
-/// A name as it stands in a file or on a disk.
+/// A name as it stands in a file or on a disk. A long one is broken between folders.
 pub fn code(name: &str) -> String {
-    format!("<code>{}</code>", escaped(name))
+    format!("<code>{}</code>", escaped(name).replace('/', "/<wbr/>"))
 }
 
 /// A part of the page under its heading. `id` is its name within the page.
@@ -67,31 +67,38 @@ impl Cell {
     }
 }
 
+/// So many rows go on one sheet of paper together; a longer table is cut between two of them.
+const MOST_TOGETHER: usize = 12;
+
 /// A table with a head for each column. The first cell of a row is the row's own head.
 pub struct Table {
+    class: &'static str,
     heads: Vec<String>,
-    rows: String,
+    rows: Vec<String>,
 }
 
 impl Table {
-    pub fn new(heads: &[&str]) -> Table {
-        Table { heads: heads.iter().map(|head| head.to_string()).collect(), rows: String::new() }
+    /// `class` names its look in the style sheet.
+    pub fn new(class: &'static str, heads: &[&str]) -> Table {
+        Table { class, heads: heads.iter().map(|head| head.to_string()).collect(), rows: vec![] }
     }
 
     pub fn row(&mut self, head: Cell, cells: &[Cell]) {
         let labels = self.heads.iter().skip(1);
         let cells: String =
             cells.iter().zip(labels).map(|(cell, label)| cell.written(label)).collect();
-        self.rows.push_str(&format!("<tr><th scope=\"row\">{}</th>{cells}</tr>\n", head.inside));
+        self.rows.push(format!("<tr><th scope=\"row\">{}</th>{cells}</tr>\n", head.inside));
     }
 
     pub fn finish(self, caption: &str) -> String {
         let head = |head: &String| format!("<th scope=\"col\">{}</th>", escaped(head));
+        let long = if self.rows.len() > MOST_TOGETHER { " long" } else { "" };
         format!(
-            "<table>\n<caption>{}</caption>\n<thead><tr>{}</tr></thead>\n<tbody>\n{}</tbody>\n</table>\n",
+            "<table class=\"{}{long}\">\n<caption>{}</caption>\n<thead><tr>{}</tr></thead>\n<tbody>\n{}</tbody>\n</table>\n",
+            self.class,
             escaped(caption),
             self.heads.iter().map(head).collect::<String>(),
-            self.rows
+            self.rows.concat()
         )
     }
 }

@@ -26,7 +26,8 @@ fn all(examined: &Examined, orders: &Orders) -> String {
 }
 
 fn table(orders: &Orders) -> String {
-    let mut table = Table::new(&["How it ends", "In how many orders", "The first such order"]);
+    let mut table =
+        Table::new("orders", &["How it ends", "In how many orders", "The first such order"]);
     let number = orders.endings.len();
     for group in &orders.groups {
         let why: String = group.why.iter().map(|why| format!("; {why}")).collect();

@@ -11,7 +11,7 @@ use crate::svg::escaped;
 
 pub fn written(examined: &Examined) -> String {
     let bundle = &examined.bundle;
-    let mut table = Table::new(&["Box", "Board sheet", "House sheet", "What is ordered"]);
+    let mut table = Table::new("boxes", &["Box", "Board sheet", "House sheet", "What is ordered"]);
     for name in BoxName::all() {
         let row = Row::read(name, &bundle.board.bytes, &bundle.house.bytes);
         table.row(Cell::words(&name.to_string()), &row.cells());

@@ -4,7 +4,7 @@ use crate::picture::style_in_page;
 
 /// The style of the page and of the pictures in it.
 pub fn style() -> String {
-    format!("{SCREEN}{NARROW}{PAPER}{}", style_in_page())
+    format!("{SCREEN}{COLUMNS}{NARROW}{PAPER}{}", style_in_page())
 }
 
 const SCREEN: &str = "\
@@ -18,7 +18,8 @@ h3 { font-size: 1.05rem; margin: 0 }
 p, ul, ol, dl { margin: 0.5rem 0 }
 ul, ol { padding-left: 1.4rem }
 code { font: 0.9em/1.4 'DejaVu Sans Mono', Consolas, Menlo, monospace; overflow-wrap: anywhere; unicode-bidi: isolate }
-dl > div { display: grid; grid-template-columns: 9rem 1fr; gap: 0 1rem; padding: 0.2rem 0 }
+dl > div { display: grid; grid-template-columns: 9.5rem 1fr; gap: 0 1rem; padding: 0.2rem 0 }
+header dl > div { grid-template-columns: 13.5rem 1fr }
 dt { font-weight: bold }
 dd { margin: 0; overflow-wrap: anywhere }
 .small { font-size: 0.85em; color: #4b5260 }
@@ -28,7 +29,7 @@ dd { margin: 0; overflow-wrap: anywhere }
 .verdict p { color: #1a1a1a; margin-bottom: 0 }
 .good { border-color: #14713a; background: #ebf7ef; color: #0e5a2d }
 .bad { border-color: #b00020; background: #fdeff1; color: #93001b }
-.reasons { padding-left: 1.6rem }
+.reasons { padding-left: 2.2rem }
 .reasons li { margin: 0 0 1rem; padding: 0.6rem 0.9rem; border-left: 5px solid #b00020; background: #faf5f5 }
 table { border-collapse: collapse; width: 100%; margin: 0.75rem 0 }
 caption { text-align: left; padding-bottom: 0.4rem; color: #4b5260 }
@@ -39,14 +40,30 @@ tbody th { font-weight: bold; background: #f8f9fb }
 .counts { font-weight: bold; background: #e8f0fb }
 .mark { display: inline-block; border: 1px solid #1f5fa8; border-radius: 0.6em; padding: 0 0.45em; font-size: 0.75em; color: #1f5fa8 }
 .wrong { color: #93001b; font-weight: bold; background: #fdeff1 }
-.hash { min-width: 13rem; font-size: 0.9em; overflow-wrap: anywhere }
+tbody th code { font-weight: bold }
+.hash { font-size: 0.9em; overflow-wrap: anywhere }
 .proved { font-size: 0.92em }
 p.proved { font-weight: bold; margin: 0.9rem 0 0.2rem }
 figure { margin: 1rem 0; padding: 0.75rem; border: 1px solid #c3c9d3 }
 figcaption { font-weight: bold; margin-bottom: 0.5rem; overflow-wrap: anywhere }
 figure ul { font-size: 0.92em }
 .picture { overflow-x: auto }
-svg.run { display: block; width: 100%; height: auto }
+svg.run { display: block; width: 100%; max-width: 56rem; height: auto }
+";
+
+/// The columns of the tables, where there is room for columns.
+const COLUMNS: &str = "\
+@media print, screen and (min-width: 44.01rem) {
+.boxes th:first-child { width: 27% }
+.boxes th:nth-child(2), .boxes th:nth-child(3) { width: 20% }
+.waits tbody th { white-space: nowrap }
+.waits th:nth-child(2) { width: 34% }
+.names code { overflow-wrap: normal }
+.files th:first-child { width: 32% }
+.files th:nth-child(5) { width: 30% }
+.orders th:nth-child(2), .orders th:nth-child(3) { width: 18% }
+.bench th:nth-child(4), .bench th:nth-child(5) { width: 22% }
+}
 ";
 
 /// A row of a table is a block there, and each cell has its column's head before it.
@@ -55,12 +72,12 @@ const NARROW: &str = "\
 main { padding: 1rem 0.75rem 2rem }
 h1 { font-size: 1.6rem }
 dl > div { display: block }
-table, caption, tbody, tr, th, td { display: block; width: auto }
+table, caption, tbody, tr, tbody th, td { display: block }
 thead { display: none }
 tbody tr { border: 1px solid #c3c9d3; margin-bottom: 0.75rem }
 tbody th, td { border: 0; border-bottom: 1px solid #e3e7ee; padding: 0.35rem 0.6rem }
+td:empty { display: none }
 td::before { content: attr(data-label); display: block; font-size: 0.8em; font-weight: normal; font-style: normal; color: #4b5260 }
-.hash { min-width: 0 }
 svg.run { width: 46rem }
 }
 ";
@@ -68,17 +85,19 @@ svg.run { width: 46rem }
 const PAPER: &str = "\
 @page { size: A4; margin: 15mm 14mm 16mm; @bottom-right { content: counter(page) ' of ' counter(pages); font: 8pt sans-serif; color: #4b5260 } }
 @media print {
-html { font-size: 9.5pt }
+html { font-size: 9.5pt; line-height: 1.4 }
 * { print-color-adjust: exact; -webkit-print-color-adjust: exact }
 main { max-width: none; padding: 0 }
 h1 { font-size: 20pt }
-h2 { font-size: 13pt; margin-top: 8mm }
+h2 { font-size: 13pt; margin-top: 6mm }
 h2, h3, figcaption, caption, p.proved { break-after: avoid }
-table, figure, .verdict, .reasons li, ul.proved, dl > div { break-inside: avoid }
-tr { break-inside: avoid }
-thead { display: table-header-group }
+table, caption, tr, figure, .verdict, .reasons li, .proved li, dl > div { break-inside: avoid }
+table.long { break-inside: auto }
+thead { display: table-header-group; break-after: avoid }
+tbody tr:first-child { break-before: avoid }
 p, li { orphans: 3; widows: 3 }
 .hash { font-size: 7.5pt }
 .picture { overflow: visible }
+svg.run { width: 155mm; max-width: 100% }
 }
 ";

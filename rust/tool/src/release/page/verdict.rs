@@ -9,21 +9,22 @@ use crate::words::count;
 
 /// What the page is called.
 pub fn title(examined: &Examined) -> String {
-    format!("{}: {}", headline(examined), name(&examined.bundle))
+    format!("{}{}: {}", headline(examined), on_purpose(&examined.allowed), name(&examined.bundle))
 }
 
 pub fn written(examined: &Examined) -> String {
     let look = if examined.is_released() { "good" } else { "bad" };
     let verdict = format!(
         "<div class=\"verdict {look}\">\n<h1>{}</h1>\n{}</div>\n",
-        escaped(&headline(examined)),
+        headline(examined),
         paragraph(&why(examined))
     );
     let about = [
         ("Bundle", code(&name(&examined.bundle))),
         ("Examined", escaped(&examined_files(examined))),
         ("Not there", escaped(&not_there(&examined.bundle))),
-        ("Asked for", escaped(&asked(&examined.asked))),
+        ("Longest wait allowed", escaped(&most(&examined.asked))),
+        ("Without limit on purpose", escaped(&without_limit(&examined.asked))),
     ];
     format!(
         "<header>\n<div class=\"verdicts\">\n{verdict}{}</div>\n{}</header>\n",
@@ -32,33 +33,44 @@ pub fn written(examined: &Examined) -> String {
     )
 }
 
-fn headline(examined: &Examined) -> String {
+fn headline(examined: &Examined) -> &'static str {
     match examined.is_released() {
-        true => format!("Released{}", on_purpose(&examined.allowed)),
-        false => "Not released".to_string(),
+        true => "Released",
+        false => "Not released",
     }
 }
 
 fn why(examined: &Examined) -> String {
-    match examined.reasons.len() {
-        0 => format!("Nothing else speaks against it: {}.", promises(examined)),
-        1 => "One reason speaks against it. What would mend it stands below.".to_string(),
-        reasons => format!(
+    match (examined.reasons.len(), examined.allowed.is_empty()) {
+        (0, true) => format!("Nothing speaks against it: {}.", promises(examined)),
+        (0, false) => format!(
+            "It is released{}. Nothing else speaks against it: {}.",
+            on_purpose(&examined.allowed),
+            promises(examined)
+        ),
+        (1, _) => "One reason speaks against it. What would mend it stands below.".to_string(),
+        (reasons, _) => format!(
             "{reasons} reasons speak against it, the worst first. What would mend each stands below."
         ),
     }
 }
 
-/// Each reserve that was let pass without limit.
+/// The reserves that were let pass without limit.
 fn allowed(examined: &Examined) -> String {
     let one = |allowed: &Allowed| {
         format!(
-            "<div class=\"verdict bad\">\n<h2>Without limit, on purpose: controller {}'s reserve</h2>\n{}</div>\n",
+            "<p><strong>Controller {}'s reserve.</strong> {}</p>\n",
             allowed.controller,
-            paragraph(&allowed.what)
+            escaped(&allowed.what)
         )
     };
-    examined.allowed.iter().map(one).collect()
+    let all: String = examined.allowed.iter().map(one).collect();
+    match all.is_empty() {
+        true => all,
+        false => format!(
+            "<div class=\"verdict bad\">\n<h2>Without limit, on purpose</h2>\n{all}</div>\n"
+        ),
+    }
 }
 
 /// The folder, or both sheets.
@@ -102,16 +114,16 @@ fn not_there(bundle: &Bundle) -> String {
     }
 }
 
-fn asked(asked: &Asked) -> String {
-    let mut parts = vec![match asked.most {
-        Some(most) => format!("no promised wait above {most} ms"),
-        None => "no longest wait".to_string(),
-    }];
-    let on_purpose = [0, 1].into_iter().filter(|&controller| asked.without_limit[controller]);
-    parts.extend(
-        on_purpose.map(|controller| {
-            format!("controller {controller}'s reserve without limit on purpose")
-        }),
-    );
-    parts.join("; ")
+fn most(asked: &Asked) -> String {
+    asked.most.map_or("any that is bounded".to_string(), |most| format!("{most} ms"))
+}
+
+fn without_limit(asked: &Asked) -> String {
+    let said = match asked.without_limit {
+        [false, false] => "no reserve",
+        [true, false] => "controller 0's reserve",
+        [false, true] => "controller 1's reserve",
+        [true, true] => "both controllers' reserves",
+    };
+    said.to_string()
 }

@@ -22,7 +22,7 @@ fn promised(order: &Order) -> String {
     let mut heads = vec!["Who waits".to_string(), "What is promised".to_string()];
     heads.extend(Part::BOTH.map(|part| format!("On a {part}")));
     heads.extend(["Grade".to_string(), "Proved by".to_string()]);
-    let mut table = Table::new(&heads.iter().map(String::as_str).collect::<Vec<_>>());
+    let mut table = Table::new("waits", &heads.iter().map(String::as_str).collect::<Vec<_>>());
     for waiting in &order.waits {
         row(&mut table, waiting);
     }
@@ -57,7 +57,7 @@ fn row(table: &mut Table, waiting: &Waiting) {
             first.look(look),
             second.look(look),
             Cell::words(&wait.grade().to_string()).look(look),
-            Cell::html(names.join(", ")),
+            Cell::html(names.join(", ")).look("names"),
         ],
     );
 }
