@@ -361,7 +361,7 @@ fn a_page_that_cannot_be_written_is_told() {
     }
     // Files of 8 KB at the most stand for a disk that fills up in the middle of the page.
     let out = folder.path("report.html");
-    let line = format!("trap '' XFSZ; ulimit -f 16; exec {TOOL} release {SAFE} -o {out}");
+    let line = format!("trap '' XFSZ; ulimit -f 16; exec {BUILT} release {SAFE} -o {out}");
     let output = shell(&line);
     assert_eq!(code(&output), 2, "{}", told(&output));
     assert!(said(&output).contains("report.html cannot be written: "), "{}", said(&output));
@@ -372,12 +372,12 @@ fn a_page_that_cannot_be_written_is_told() {
 #[test]
 fn the_exit_code_is_the_verdicts() {
     for (folder, expected) in [(SAFE, 0), ("releases/incident", 1)] {
-        let line = format!("{{ {TOOL} release {folder}; echo $? >&2; }} | true");
+        let line = format!("{{ {BUILT} release {folder}; echo $? >&2; }} | true");
         let output = shell(&line);
         assert_eq!(said(&output), format!("{expected}\n"), "{folder}");
     }
     if Path::new("/dev/full").exists() {
-        let output = shell(&format!("{TOOL} release releases/incident > /dev/full"));
+        let output = shell(&format!("{BUILT} release releases/incident > /dev/full"));
         assert_eq!(code(&output), 2);
         assert!(said(&output).contains("standard output cannot be written: "), "{}", said(&output));
     }
