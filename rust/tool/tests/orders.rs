@@ -310,4 +310,8 @@ fn scripts_that_are_refused() {
     let long = "pins 0 0 0 1\npart PCA9641\ntick 4096\n";
     let made = orders(&input("a", long), &input("b", long), &Wanted::Groups);
     assert!(made.refused.unwrap().ends_with(" (a has 4096 events; b has 4096 events)"));
+    // What stands after 16 MiB is not read, so none of it is taken for the whole.
+    let comment = format!("{good}{}", "#".repeat(1 << 24));
+    let made = orders(&input("a", good), &input("b", comment), &Wanted::Groups);
+    assert_eq!(made.refused.unwrap(), "b: the script is longer than 16 MiB");
 }

@@ -176,6 +176,10 @@ fn read_both(script0: &Input, script1: &Input) -> Result<Scripts, String> {
 }
 
 fn read_one(input: &Input) -> Result<Script, String> {
+    // Of a longer one not all was read.
+    if input.bytes.len() > MOST_TEXT {
+        return Err(format!("{}: the script is longer than 16 MiB", input.name));
+    }
     let script = read_script(&input.bytes).map_err(|unread| format!("{}, {unread}", input.name))?;
     if let Err(refusal) = script.pins.address() {
         return Err(format!("{}, line {}: {refusal}", input.name, script.pins_line));
