@@ -13,7 +13,7 @@ pub fn written(at: u64) -> String {
         ("Page made", escaped(&utc(at))),
         ("Tool", escaped(concat!("gunwaleish ", env!("CARGO_PKG_VERSION")))),
         ("Library", escaped(&format!("commit {}, for {}", library.commit, library.machine))),
-        ("Kit that proved it", escaped(library.kit)),
+        ("Proved by", escaped(&format!("kit {}", library.kit))),
     ];
     section("identity", "What made this page", &pairs(&about))
 }

@@ -5,7 +5,7 @@ use gunwaleish::{sheet_box, Found, Refusal, Section, Sheet};
 
 use super::html::{paragraph, section, Cell, Table};
 use super::statements::{self, Statement};
-use crate::order::{faults, lasting, BoxName, OPEN};
+use crate::order::{lasting, BoxName, OPEN};
 use crate::release::Examined;
 use crate::svg::escaped;
 
@@ -17,7 +17,6 @@ pub fn written(examined: &Examined) -> String {
         table.row(Cell::words(&name.to_string()), &row.cells());
     }
     let body = table.finish("The six boxes of both sheets. The box that counts is marked.")
-        + &refused(examined)
         + &lasting(examined)
         + &statements::listed(&PROOFS);
     section("sheets", "The two order sheets", &body)
@@ -101,17 +100,6 @@ impl Row {
             (Section::Idle, _) => format!("{value}, on"),
         }
     }
-}
-
-/// Why a sheet is none.
-fn refused(examined: &Examined) -> String {
-    let bundle = &examined.bundle;
-    let both = [(&bundle.board, Sheet::Board), (&bundle.house, Sheet::House)];
-    let why = both.into_iter().filter_map(|(read, which)| {
-        let refusal = faults::fault(&read.bytes, which)?;
-        Some(paragraph(&faults::in_words(&read.name, which, &read.bytes, refusal)))
-    });
-    why.collect()
 }
 
 /// The boxes that do not last, and the bytes that keep them.

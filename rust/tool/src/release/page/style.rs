@@ -19,10 +19,11 @@ p, ul, ol, dl { margin: 0.5rem 0 }
 ul, ol { padding-left: 1.4rem }
 code { font: 0.9em/1.4 'DejaVu Sans Mono', Consolas, Menlo, monospace; overflow-wrap: anywhere; unicode-bidi: isolate }
 dl > div { display: grid; grid-template-columns: 9.5rem 1fr; gap: 0 1rem; padding: 0.2rem 0 }
-header dl > div { grid-template-columns: 13.5rem 1fr }
+header dl > div { grid-template-columns: 12.5rem 1fr }
 dt { font-weight: bold }
 dd { margin: 0; overflow-wrap: anywhere }
 .small { font-size: 0.85em; color: #4b5260 }
+.small code { display: inline-block }
 .verdicts { display: flex; flex-wrap: wrap; gap: 1rem; margin-bottom: 1rem }
 .verdict { flex: 1 1 20rem; padding: 1rem 1.25rem; border: 3px solid; border-left-width: 14px }
 .verdict h2 { margin: 0; padding: 0; border: 0; font-size: 1.2rem }
@@ -98,6 +99,6 @@ tbody tr:first-child { break-before: avoid }
 p, li { orphans: 3; widows: 3 }
 .hash { font-size: 7.5pt }
 .picture { overflow: visible }
-svg.run { width: 155mm; max-width: 100% }
+svg.run { width: 145mm; max-width: 100% }
 }
 ";

@@ -24,7 +24,7 @@ pub fn written(examined: &Examined) -> String {
         ("Examined", escaped(&examined_files(examined))),
         ("Not there", escaped(&not_there(&examined.bundle))),
         ("Longest wait allowed", escaped(&most(&examined.asked))),
-        ("Without limit on purpose", escaped(&without_limit(&examined.asked))),
+        ("Let pass on purpose", escaped(without_limit(&examined.asked))),
     ];
     format!(
         "<header>\n<div class=\"verdicts\">\n{verdict}{}</div>\n{}</header>\n",
@@ -118,12 +118,11 @@ fn most(asked: &Asked) -> String {
     asked.most.map_or("any that is bounded".to_string(), |most| format!("{most} ms"))
 }
 
-fn without_limit(asked: &Asked) -> String {
-    let said = match asked.without_limit {
-        [false, false] => "no reserve",
-        [true, false] => "controller 0's reserve",
-        [false, true] => "controller 1's reserve",
-        [true, true] => "both controllers' reserves",
-    };
-    said.to_string()
+fn without_limit(asked: &Asked) -> &'static str {
+    match asked.without_limit {
+        [false, false] => "nothing",
+        [true, false] => "controller 0's reserve without limit",
+        [false, true] => "controller 1's reserve without limit",
+        [true, true] => "both controllers' reserves without limit",
+    }
 }
