@@ -8,10 +8,11 @@ use bundles::{
     with_trace, GOOD, OPEN,
 };
 use gunwaleish::{write_trace, Event, Master, Part};
+use gunwaleish_tool::form::write;
 use gunwaleish_tool::order::BoxName;
 use gunwaleish_tool::release::judge::examine;
 use gunwaleish_tool::release::words::{told, verdict};
-use gunwaleish_tool::release::{Asked, Rank};
+use gunwaleish_tool::release::{Asked, Bundle, Rank};
 
 #[test]
 fn a_good_bundle_is_released() {
@@ -228,5 +229,43 @@ fn the_worst_comes_first() {
     for reason in &examined.reasons {
         assert!(reason.what.ends_with('.') && !reason.what.ends_with(".."), "{}", reason.what);
         assert!(!reason.what.starts_with(char::is_lowercase), "{}", reason.what);
+    }
+}
+
+/// The text that people read and the sheet that goes out: each box in which they differ is a reason, and so
+/// is a text that cannot have given the sheet.
+#[test]
+fn a_sheet_is_what_its_text_says() {
+    let with_text = |text: &str| {
+        let text = read("b.txt", text);
+        Bundle { texts: [Some(text), None], ..pair(GOOD, OPEN) }
+    };
+    assert!(judged(with_text(&write(GOOD))).is_released());
+    let other = [Some(0), Some(21), None, Some(0), Some(1), None];
+    for differ in 1..64 {
+        let mut boxes = GOOD;
+        let changed = |place: &usize| differ >> place & 1 == 1;
+        (0..6).filter(changed).for_each(|place| boxes[place] = other[place]);
+        let examined = judged(with_text(&write(boxes)));
+        let names = BoxName::all().enumerate().filter(|(place, _)| changed(place));
+        let names: Vec<Option<String>> = names.map(|(_, name)| Some(name.to_string())).collect();
+        let found = examined.reasons.iter().map(|reason| reason.place.clone());
+        assert_eq!(found.collect::<Vec<_>>(), names);
+        for reason in &examined.reasons {
+            assert_eq!((reason.rank, reason.file.as_str()), (Rank::OtherText, "b.txt and b.sheet"));
+            assert!(reason.mend.ends_with("gunwaleish fill b.txt -o b.sheet"));
+        }
+        if differ == 1 {
+            let said = "The text says without limit, and the sheet that goes out has 50.";
+            assert_eq!(examined.reasons[0].what, said);
+        }
+    }
+    let bare = write(GOOD).replace("controller 0: 50", "controller 0: 0");
+    for (text, place) in [(bare.as_str(), Some("line 5")), ("Good morning.\n", Some("line 1"))] {
+        let examined = judged(with_text(text));
+        assert_eq!(ranks(&examined), [Rank::OtherText]);
+        let reason = &examined.reasons[0];
+        assert_eq!(reason.place.as_deref(), place);
+        assert!(reason.what.starts_with("The text cannot have given the sheet"), "{}", reason.what);
     }
 }

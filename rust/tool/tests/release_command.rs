@@ -203,6 +203,11 @@ fn a_folder_that_lacks_something_is_2() {
     let name = here.to_str().unwrap();
     refused(&format!("has no board.sheet, but its text: gunwaleish fill {name}/board.txt -o {name}/board.sheet makes the sheet\n"));
     copy(SAFE, &here);
+    // Nobody wrote that sheet in that text.
+    let other = run(&["release", name]);
+    assert_eq!(code(&other), 1);
+    assert!(told(&other).contains("/board.sheet, and its text "), "{}", told(&other));
+    fs::copy(root().join("sheets/board.txt"), here.join("board.txt")).unwrap();
     assert_eq!(code(&run(&["release", name])), 0);
     fs::remove_file(here.join("start1.script")).unwrap();
     refused("start0.script is there without the other controller's start-up script");

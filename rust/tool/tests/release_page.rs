@@ -40,6 +40,7 @@ fn bundle(board: &str, house: &str) -> Bundle {
         folder: Some("releases/sample".to_string()),
         board: sample(board),
         house: sample(house),
+        texts: [None, None],
         scripts: None,
         shelf: None,
         traces: vec![],

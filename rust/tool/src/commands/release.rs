@@ -16,20 +16,21 @@ pub const COMMAND: Command = Command {
     name: "release",
     summary: "is this bundle safe? one verdict over its sheets, scripts, shelf and traces",
     usage: "FOLDER [--most MS] [--without-limit 0|1|both] [-o PAGE] [file by file, as below]",
-    help: "FOLDER has the order sheets of a bundle, board.sheet and house.sheet, and, if they are there, the\n\
-           start-up scripts start0.script and start1.script, a shelf NAME.shelf (here or in shelf/) with\n\
-           the scripts for it beside it, and the traces of the bench, NAME.trace, also in the folders\n\
-           inside. Files are named by option too, instead of the folder's or without one:\n\n\
+    help: "FOLDER has the order sheets of a bundle, board.sheet and house.sheet, and, if they are there, their\n\
+           texts board.txt and house.txt, the start-up scripts start0.script and start1.script, a shelf\n\
+           NAME.shelf (here or in shelf/) with the scripts for it beside it, and the traces of the bench,\n\
+           NAME.trace, also in the folders inside. Files are named by option too, instead of the folder's\n\
+           or without one:\n\n\
            --board FILE --house FILE --start0 FILE --start1 FILE --shelf FILE\n\
            --shelf-script FILE --traces PATH      these two also several times\n\n\
            The output says what was found and what was not, what is ordered, and how long each controller\n\
            can wait by it. Then comes the verdict, RELEASED or NOT RELEASED, with every reason against it,\n\
            the worst first: where it is, what is so, and what would mend it. Reasons are an empty box; a\n\
-           file that is no sheet; a wait that is not bounded, or behind a silent controller alone; one\n\
-           above --most MS; an order of the start-up scripts after which nobody owns the bus though\n\
-           somebody asks, or that leaves other settings than the sheets order, or in which an event is\n\
-           refused; a refused script, shelf or trace; a wait in a trace or on the shelf that is longer\n\
-           than the sheets promise.\n\n\
+           file that is no sheet; a sheet that is not what its text says; a wait that is not bounded, or\n\
+           behind a silent controller alone; one above --most MS; an order of the start-up scripts after\n\
+           which nobody owns the bus though somebody asks, or that leaves other settings than the sheets\n\
+           order, or in which an event is refused; a refused script, shelf or trace; a wait in a trace or\n\
+           on the shelf that is longer than the sheets promise.\n\n\
            --without-limit 0 passes a ticked reserve of 0 of controller 0, which is then without limit on\n\
            purpose, and is told with the verdict. Where its reserve is not 0, that is a reason too. An\n\
            empty box is never passed.\n\n\

@@ -22,6 +22,7 @@ mod values;
 mod writing;
 
 pub use reading::{read, Mistake};
+pub use values::written;
 pub use writing::write;
 
 use gunwaleish::{Refusal, SHEET_LENGTH};

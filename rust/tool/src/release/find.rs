@@ -10,6 +10,7 @@ use gunwaleish::{MOST_TRACE, SHEET_LENGTH};
 
 use super::{Bundle, Read, ShelfRead};
 use crate::commands::compose::MOST_TEXT;
+use crate::commands::fill;
 use crate::failure::Failure;
 use crate::files::is_standard;
 use crate::sha256::{hex, Sha256};
@@ -41,11 +42,13 @@ pub fn read_bundle(folder: Option<&Path>, named: &Named) -> Result<Bundle, Failu
     let board = named.board.take().ok_or_else(|| here.lacks(BOARD, "--board"))?;
     let house = named.house.take().ok_or_else(|| here.lacks(HOUSE, "--house"))?;
     here.add_shelf(&mut named)?;
+    let [of_board, of_house] = [&board, &house].map(|sheet| here.text_of(sheet));
     let traces = traces_of(&named.traces)?;
     let mut bundle = Bundle {
         folder: folder.map(shown),
         board: read(&board, SHEET_LENGTH)?,
         house: read(&house, SHEET_LENGTH)?,
+        texts: [of_board?, of_house?],
         scripts: read_starts(&named.starts)?,
         shelf: read_shelf(&named)?,
         traces: traces.iter().map(|path| read(path, MOST_TRACE)).collect::<Result<_, _>>()?,
@@ -167,6 +170,13 @@ impl Here {
             ends_in(path, "script") && path.parent() == shelf.parent() && !starts.contains(path)
         };
         self.found.others.iter().filter(is_for_it).cloned().collect()
+    }
+
+    /// The text of a sheet, if it stands beside it in the folder under the same name.
+    fn text_of(&self, sheet: &Path) -> Result<Option<Read>, Failure> {
+        let text = sheet.with_extension("txt");
+        let is_there = self.found.others.contains(&text);
+        is_there.then(|| read(&text, fill::MOST_TEXT)).transpose()
     }
 
     /// That a sheet is not there, and how it comes there.

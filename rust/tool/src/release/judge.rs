@@ -1,12 +1,13 @@
 //! The verdict: every reason against a bundle, the worst first.
 
-use super::{bench, orders, sheets, Asked, Bundle, Examined, Orders, Reason};
+use super::{bench, orders, sheets, texts, Asked, Bundle, Examined, Orders, Reason};
 use crate::order::Order;
 
 /// Examines a bundle whole. A reason does not keep the others from being looked for.
 pub fn examine(bundle: Bundle, asked: Asked) -> Examined {
     let order = Order::read(&bundle.board.bytes, &bundle.house.bytes);
     let mut reasons = sheets::no_sheets(&bundle);
+    reasons.extend(texts::other_texts(&bundle));
     let mut allowed = vec![];
     if let Ok(order) = &order {
         reasons.extend(sheets::empty_boxes(&bundle, order));

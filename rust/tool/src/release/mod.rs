@@ -11,6 +11,7 @@ pub mod judge;
 pub mod orders;
 pub mod page;
 pub mod sheets;
+pub mod texts;
 pub mod words;
 
 use std::fmt;
@@ -52,6 +53,8 @@ pub struct Bundle {
     pub folder: Option<String>,
     pub board: Read,
     pub house: Read,
+    /// The text of each sheet, the board sheet's first, if it stands beside it.
+    pub texts: [Option<Read>; 2],
     /// Both start-up scripts, controller 0's first.
     pub scripts: Option<[Read; 2]>,
     pub shelf: Option<ShelfRead>,
@@ -67,6 +70,7 @@ impl Bundle {
         let sheets = [&self.board, &self.house].into_iter();
         let shelf =
             self.shelf.iter().flat_map(|read| [&read.shelf].into_iter().chain(&read.scripts));
+        let sheets = sheets.chain(self.texts.iter().flatten());
         sheets.chain(self.scripts.iter().flatten()).chain(shelf).chain(&self.traces)
     }
 }
@@ -87,6 +91,8 @@ pub enum Rank {
     EmptyBox,
     /// A file is no sheet.
     NoSheet,
+    /// The text beside a sheet says something else than the sheet.
+    OtherText,
     /// A wait is not bounded: grade 3.
     Unbounded,
     /// A wait is bounded behind a silent holder alone: grade 2.

@@ -34,8 +34,14 @@ fn lines(all: &[String]) -> String {
 
 /// What was found and what was not, a line each.
 pub fn found(bundle: &Bundle) -> Vec<String> {
-    let sheet = |which: &str, name: &str| format!("found      {which} sheet: {name}");
-    let mut all = vec![sheet("board", &bundle.board.name), sheet("house", &bundle.house.name)];
+    let sheet = |which: &str, read: &Read, text: &Option<Read>| {
+        let text =
+            text.as_ref().map_or(String::new(), |text| format!(", and its text {}", text.name));
+        format!("found      {which} sheet: {}{text}", read.name)
+    };
+    let [of_board, of_house] = &bundle.texts;
+    let mut all =
+        vec![sheet("board", &bundle.board, of_board), sheet("house", &bundle.house, of_house)];
     all.push(match &bundle.scripts {
         Some([first, second]) => {
             format!("found      start-up scripts: {} and {}", first.name, second.name)

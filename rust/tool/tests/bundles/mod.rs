@@ -34,6 +34,7 @@ pub fn pair(board: Boxes, house: Boxes) -> Bundle {
         folder: None,
         board: read("b.sheet", sheet(board)),
         house: read("h.sheet", sheet(house)),
+        texts: [None, None],
         scripts: None,
         shelf: None,
         traces: vec![],

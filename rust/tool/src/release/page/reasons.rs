@@ -30,6 +30,7 @@ fn heading(rank: Rank) -> &'static str {
     match rank {
         Rank::EmptyBox => "A box is empty on both sheets",
         Rank::NoSheet => "A file is no order sheet",
+        Rank::OtherText => "A sheet is not what its text says",
         Rank::Unbounded => "A wait is not bounded",
         Rank::SilentAlone => "A wait is bounded behind a silent holder alone",
         Rank::NobodyOwns => "Nobody owns the bus, though it is asked for",
