@@ -7,6 +7,7 @@ use model::capture::MOST_SAMPLES;
 use speed::captures::{kinds, Captures};
 use speed::decoder;
 use speed::mixes::{mixes, Mix};
+use speed::saying::say;
 use speed::timing::{by_turns, Times};
 use stepper::reading::Report;
 use stepper::{plain, tuned};
@@ -32,13 +33,13 @@ fn main() {
     if mixes.is_empty() && kinds.is_empty() {
         stop("speed: there is no mix or kind of captures of this name");
     }
-    println!(
+    say(&format!(
         "Best of {times} by turns, and the median in brackets. A ratio is the other's time by the"
-    );
-    println!("proved library's: above 1 the proved library is faster.");
+    ));
+    say("proved library's: above 1 the proved library is faster.");
     if !mixes.is_empty() {
-        println!(
-            "Full traces of 4,096 events, read and answered, against the steppers of docs/stepper:"
+        say(
+            "Full traces of 4,096 events, read and answered, against the steppers of docs/stepper:",
         );
     }
     for mix in mixes {
@@ -46,7 +47,9 @@ fn main() {
         time(&mix, times);
     }
     if !kinds.is_empty() {
-        println!("Captures of up to {MOST_SAMPLES} samples, imported, against a plain decoder:");
+        say(&format!(
+            "Captures of up to {MOST_SAMPLES} samples, imported, against a plain decoder:"
+        ));
     }
     for captures in kinds {
         stop_at(captures.name, differing_captures(&captures));
@@ -62,7 +65,7 @@ fn stop(why: &str) -> ! {
 /// Nothing is timed before all give the same.
 fn stop_at(name: &str, differing: Option<usize>) {
     if let Some(place) = differing {
-        println!("{name}: number {place} is not answered alike; nothing is timed");
+        say(&format!("{name}: number {place} is not answered alike; nothing is timed"));
         std::process::exit(1);
     }
 }
@@ -122,15 +125,16 @@ fn time(mix: &Mix, times: usize) {
         let ratio = library.against(other);
         format!("{:.2} ({:.2})", ratio.best, ratio.median)
     };
-    println!(
-        "{:<11} ns an event: library {}, plain {}, tuned {}; ratio to plain {}, to tuned {}",
+    say(&format!(
+        "{:<11} {:4.1} % TICK, ns an event: library {}, plain {}, tuned {}; ratio to plain {}, to tuned {}",
         mix.name,
+        mix.ticks(),
         ns(library),
         ns(plain),
         ns(tuned),
         ratio(plain),
         ratio(tuned)
-    );
+    ));
 }
 
 /// All captures of a kind, once in each turn.
@@ -159,12 +163,12 @@ fn time_captures(captures: &Captures, times: usize) {
     let rate =
         |times: Times| format!("{:6.1} ({:6.1})", 1000.0 / times.best, 1000.0 / times.median);
     let ratio = library.against(plain);
-    println!(
+    say(&format!(
         "{:<17} million samples a second: library {}, plain {}; ratio {:.2} ({:.2})",
         captures.name,
         rate(library),
         rate(plain),
         ratio.best,
         ratio.median
-    );
+    ));
 }

@@ -4,28 +4,41 @@ use std::fs;
 use std::path::{Path, PathBuf};
 
 use model::event::make::*;
-use model::part::BOTH_KINDS;
+use model::part::{Kind, BOTH_KINDS};
 use model::phrases::Bytes;
 use model::rng::Rng;
 use model::straps::pins_of;
 use model::trace::{read_trace, MOST_EVENTS};
-use model::traces::{trace, trace_of_kind};
+use model::traces::{event_list_of, trace, trace_of_kind};
+
+use crate::alike::kinds_alike;
 
 pub struct Mix {
     pub name: &'static str,
     pub traces: Vec<Vec<u8>>,
 }
 
-/// So many traces of each mix. They are run one after the other in each timing. Of the TICK-heavy ones
-/// and of the samples every second one is of a TPT29641; of the mixed ones three are, by their seeds.
+/// So many traces of each mix. They are run one after the other in each timing. Every second one is of a
+/// TPT29641; of the bench's three are, by their seeds.
 const TRACES: u64 = 8;
 
+/// The bytes before the events of a trace, those of an event and those after the events.
+const HEAD: usize = 7;
+const EVENT: usize = 4;
+const END: usize = 2;
+const TICK: u8 = 6;
+
 /// All mixes. The error is why the samples cannot be read.
-pub fn mixes() -> Result<[Mix; 3], String> {
+pub fn mixes() -> Result<[Mix; 5], String> {
     let samples = samples()?;
     Ok([
+        Mix { name: "kinds alike", traces: (0..TRACES).map(|seed| alike(3000 + seed)).collect() },
         Mix {
-            name: "mixed",
+            name: "no TICK",
+            traces: (0..TRACES).map(|seed| without_ticks(4000 + seed)).collect(),
+        },
+        Mix {
+            name: "bench",
             traces: (0..TRACES).map(|seed| trace(1000 + seed, MOST_EVENTS)).collect(),
         },
         Mix {
@@ -37,6 +50,36 @@ pub fn mixes() -> Result<[Mix; 3], String> {
             traces: (0..TRACES).map(|place| of_samples(&samples, place as usize)).collect(),
         },
     ])
+}
+
+impl Mix {
+    /// The events of a trace, four bytes each.
+    pub fn events(trace: &[u8]) -> impl Iterator<Item = &[u8]> {
+        trace[HEAD..trace.len() - END].chunks_exact(EVENT)
+    }
+
+    /// How many of a hundred events are a TICK.
+    pub fn ticks(&self) -> f64 {
+        let all = || self.traces.iter().flat_map(|trace| Mix::events(trace));
+        100.0 * all().filter(|event| event[0] == TICK).count() as f64 / all().count() as f64
+    }
+}
+
+/// Each of the ten kinds as often as the others.
+fn alike(seed: u64) -> Vec<u8> {
+    full(seed as usize, kinds_alike(kind_of(seed as usize), seed, MOST_EVENTS))
+}
+
+/// What the bench has, told on without its TICKs.
+fn without_ticks(seed: u64) -> Vec<u8> {
+    let mut events = vec![];
+    let mut more = seed;
+    while events.len() < MOST_EVENTS {
+        let told = event_list_of(kind_of(seed as usize), more, MOST_EVENTS);
+        events.extend(told.into_iter().filter(|event| event[0] != TICK));
+        more += 100;
+    }
+    full(seed as usize, events)
 }
 
 /// Nine events of ten are a TICK. The rest take the bus for one master or the other with some
@@ -66,10 +109,13 @@ fn of_samples(samples: &[Vec<Bytes>], place: usize) -> Vec<u8> {
     full(place, around.flatten().copied().take(MOST_EVENTS).collect())
 }
 
+fn kind_of(place: usize) -> Kind {
+    BOTH_KINDS[place % 2]
+}
+
 fn full(place: usize, mut events: Vec<Bytes>) -> Vec<u8> {
     events.truncate(MOST_EVENTS);
-    let kind = BOTH_KINDS[place % 2];
-    trace_of_kind(kind, pins_of(0x70).unwrap_or_default(), &events)
+    trace_of_kind(kind_of(place), pins_of(0x70).unwrap_or_default(), &events)
 }
 
 /// The events of the accepted traces of traces/, by name. Each begins with a RESET and the lines

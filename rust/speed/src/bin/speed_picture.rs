@@ -27,7 +27,7 @@ fn stop(why: &str) -> ! {
     std::process::exit(2);
 }
 
-/// The name of a mix and its three times, out of a line of `speed`.
+/// The name of a mix with its share of TICKs, and its three times, out of a line of `speed`.
 fn mix_in(line: &str) -> Option<(&str, [f64; 3])> {
     let (name, times) = line.split_once(" ns an event: ")?;
     let time = |way: &str| {
@@ -35,7 +35,7 @@ fn mix_in(line: &str) -> Option<(&str, [f64; 3])> {
         after.split_whitespace().next()?.parse::<f64>().ok()
     };
     let [library, tuned, plain] = WAYS.map(|(way, _)| time(way));
-    Some((name.trim_end(), [library?, tuned?, plain?]))
+    Some((name.trim_end_matches([',', ' ']), [library?, tuned?, plain?]))
 }
 
 fn drawn(mixes: &[(&str, [f64; 3])]) -> String {
