@@ -24,7 +24,8 @@ use Rattle.connection.specs.Quiet.{switchStays}
 use Rattle.arbitration.specs.Quiet.{noClaim}
 use Rattle.step.specs.Carried.{partsThreeToSeven, quietFrom, isQuiet}
 use Rattle.step.proofs.Quiet.{quiet-law}
-use Rattle.light.specs.Light.{Still, Settled, claimsTurn}
+use Rattle.step.specs.Light.{claimsTurn}
+use Rattle.light.specs.Light.{Still, Settled}
 
 abbrev pub face : Register → Bool → Port → Side → Side
 face p a q s = record { pointer = p; rt = s .rt; contr = s .contr; ints = s .ints; mail = s .mail; auto = a; port = q; mask = s .mask }

@@ -3,4 +3,3 @@ pub mod Faces
 pub mod Light
 pub mod Short
 pub mod Answers
-pub mod Unique

@@ -23,7 +23,8 @@ use Rattle.arbiter.specs.declared.Clock.the-variants.{NoClock}
 use Rattle.arbiter.proofs.Choice.{not-true}
 use Rattle.registers.proofs.Laws.{unraised}
 use Rattle.step.specs.Carried.{partsThreeToSeven}
-use Rattle.light.specs.Light.{Settled, claimsTurn, isLight, LightAlone}
+use Rattle.step.specs.Light.{claimsTurn, isLight}
+use Rattle.light.specs.Light.{Settled, LightAlone}
 use Rattle.light.proofs.Faces.{face, faced, Waits, face-settles, face-owner, face-lines}
 
 -- what is to be shown of one event

@@ -1,23 +1,18 @@
--- Request #114: events that leave parts 2 to 7 of a step nothing to do. Every device that a run reaches is settled; in a settled device
--- COMMAND, a READ that empties no box and a STOP of one who does not claim move a pointer, its flag and a port, and nothing else.
+-- Request #114: settled devices. Every device that a run reaches is settled; in a settled device a light event (isLight of crate step) moves a
+-- pointer, its flag and a port, and nothing else.
 -- Assumes nothing.
-use Prim.Native.Nat.{ℕ}
 use mathlib.Core.Path.{_≡_}
-use mathlib.Core.Bool.{Bool, true, false, not}
-use Rattle.arbiter.specs.Words.{sameMaster, side}
+use mathlib.Core.Bool.{true, false}
 use Rattle.arbiter.specs.State.{sclHigh, sdaHigh, isIdle}
-use Rattle.arbiter.specs.Effects.{empties, effect, powerUp}
+use Rattle.arbiter.specs.Effects.{effect, powerUp}
 use Rattle.arbiter.specs.Steps.{parts, ownerByte, linesByte, step}
-use Rattle.arbiter.specs.declared.Master.{Master}
-use Rattle.arbiter.specs.declared.Turn.{Turn}
-use Rattle.arbiter.specs.declared.Turn.the-variants.{Nobody, Claims, Owns}
 use Rattle.arbiter.specs.declared.Bus.{Bus}
 use Rattle.arbiter.specs.declared.Kind.{Kind}
 use Rattle.arbiter.specs.declared.Device.{Device}
 use Rattle.arbiter.specs.declared.Raw.{Raw}
 use Rattle.arbiter.specs.declared.Event.{Event}
-use Rattle.arbiter.specs.declared.Event.the-variants.{Command, Write, Read, Stop, Pair, Lines, Tick, Pulse, Reset, GeneralCall}
 use Rattle.step.specs.Carried.{isQuiet}
+use Rattle.step.specs.Light.{isLight}
 
 -- ---- a settled device
 
@@ -28,26 +23,6 @@ Still b = (sclHigh b ≡ true → b .lowscl ≡ 0) × (sdaHigh b ≡ true → b 
 -- and neither have parts 3 to 7
 abbrev pub Settled : Device → Type 0
 Settled d = Still (d .bus) × (isQuiet false d ≡ true)
-
--- ---- a light event
-
-abbrev pub claimsTurn : Master → Turn → Bool
-claimsTurn m Nobody = false
-claimsTurn m (Claims k g) = sameMaster m k
-claimsTurn m (Owns k g) = false
-
--- the claimant's own STOP is not one: it brings its port to rest, and a claimant at rest is granted
-unfoldable pub isLight : Event → Device → Bool
-isLight (Command m c) d = true
-isLight (Write m v) d = false
-isLight (Read m) d = not (empties (side m d))
-isLight (Stop m) d = not (claimsTurn m (d .arb .turn))
-isLight (Pair v0 v1) d = false
-isLight (Lines scl sda intin) d = false
-isLight Tick d = false
-isLight (Pulse sda) d = false
-isLight Reset d = false
-isLight (GeneralCall m b) d = false
 
 -- ---- what is proved
 

@@ -1,32 +1,27 @@
--- The code's halves of a step make the step of the definitions: part 2 needs no care at a reset, part 1's effect carried through the
--- other parts is the event's, and the answer follows.
+-- The code's halves of a step make the step of the definitions: part 2 needs no care at a reset, and part 1's effect carried through the
+-- other parts is the event's.
 -- Assumes nothing.
 use mathlib.Core.Path.{_≡_, refl, ap}
 use mathlib.Core.Bool.{Bool, true, false, not, _&&_}
-use mathlib.Core.Logic.{_⊎_, inl, inr}
 use native.Mathlib.Omega.{arith}
-use denote.Enum.Declared.{tagOf}
-use Rattle.arbiter.proofs.Decoded.{the-type}
 use Prim.Native.Nat.{ℕ, _+_}
 use Rattle.arbiter.specs.Words.{if_then_else_, side}
 use Rattle.arbiter.specs.Parts.{withBus}
 use Rattle.arbiter.specs.State.{sclHigh}
-use Rattle.arbiter.specs.Events.{softReset, decode, decodedNumber, inSequence, acknowledged, outcome, outcomeNumber}
+use Rattle.arbiter.specs.Events.{softReset, inSequence, acknowledged, outcome, outcomeNumber}
 use Rattle.arbiter.specs.Effects.{freshBus, wasReset, holdAsked, effect}
 use Rattle.arbiter.specs.Order.{isReset, isTick, clockOf, isStop, sclChanged, settledBus, levels}
-use Rattle.arbiter.specs.Steps.{parts, byteRead, answer, taken, refused, stepEvent, stepDecoded, step}
+use Rattle.arbiter.specs.Steps.{parts, byteRead}
 use Rattle.arbiter.specs.declared.Bus.{Bus}
 use Rattle.arbiter.specs.declared.Device.{Device}
-use Rattle.arbiter.specs.declared.Raw.{Raw}
 use Rattle.arbiter.specs.declared.Event.{Event}
 use Rattle.arbiter.specs.declared.Event.the-variants.{Command, Write, Read, Stop, Pair, Lines, Tick, Pulse, Reset, GeneralCall}
-use Rattle.arbiter.specs.declared.Decoded.{Decoded}
-use Rattle.arbiter.specs.declared.Decoded.the-variants.{Reads, UnknownKind, BadField}
+use Rattle.arbiter.specs.declared.Decoded.the-variants.{Reads}
 use Rattle.arbiter.specs.declared.Outcome.{Outcome}
 use Rattle.arbiter.specs.declared.Outcome.the-variants.{Done, NotAcknowledged, OutOfSequence}
 use Rattle.effects.specs.declared.Effect.{Effect}
 use Rattle.effects.specs.Effect.{did, effectOf}
-use Rattle.step.specs.Carried.{partsThreeToSeven, finished, moved, steppedWith}
+use Rattle.step.specs.Carried.{partsThreeToSeven, finished, moved}
 
 -- ---- part 2 at a reset
 
@@ -82,34 +77,6 @@ moved-law e d = go (inSequence e d) (acknowledged e d)
     go true true = ap (λ (x : Device). did x (outcomeNumber Done) (byteRead e d)) (through-parts e d)
     go true false = ap (λ (x : Device). did x (outcomeNumber NotAcknowledged) (byteRead e d)) (through-parts e d)
     go false ack = refl
-
--- ---- four bytes that do not read as an event
-
-pub refused-law : (x : Decoded) (d : Device) → (tagOf the-type x ≡ 1) ⊎ (tagOf the-type x ≡ 2) → did d (decodedNumber x) 0 ≡ moved x d
-unfolding moved
-refused-law (Reads e) d (inl h) = let z : _≡_ {A = ℕ} 0 1 = h in absurd (omega arith)
-refused-law (Reads e) d (inr h) = let z : _≡_ {A = ℕ} 0 2 = h in absurd (omega arith)
-refused-law UnknownKind d h = refl
-refused-law BadField d h = refl
-
--- ---- the step
-
-stepped-from : (x : Decoded) (d : Device) → steppedWith (moved x d .device) (answer (moved x d .outcome) (moved x d .read) (moved x d .device)) ≡ stepDecoded x d
-unfolding moved stepDecoded stepEvent taken refused
-stepped-from UnknownKind d = refl
-stepped-from BadField d = refl
-stepped-from (Reads e) d = go (inSequence e d)
-  where
-    ways : Bool → Effect
-    ways seq = if seq then did (parts e d) (outcomeNumber (outcome e d)) (byteRead e d) else did d (outcomeNumber OutOfSequence) 0
-
-    go : (seq : Bool) → steppedWith (ways seq .device) (answer (ways seq .outcome) (ways seq .read) (ways seq .device)) ≡ (if seq then taken e d else refused (outcomeNumber OutOfSequence) d)
-    go true = refl
-    go false = refl
-
-pub step-law : (d : Device) (r : Raw) → steppedWith (moved (decode r) d .device) (answer (moved (decode r) d .outcome) (moved (decode r) d .read) (moved (decode r) d .device)) ≡ step d r
-unfolding step
-step-law d r = stepped-from (decode r) d
 
 -- ---- the answer's third byte
 

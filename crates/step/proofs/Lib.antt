@@ -1,3 +1,4 @@
 pub mod Quiet
 pub mod Laws
+pub mod Short
 pub mod Unique

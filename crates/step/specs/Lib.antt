@@ -1,1 +1,3 @@
 pub mod Carried
+pub mod Light
+pub mod Short

@@ -1,14 +1,16 @@
 // A whole step: four bytes in, the new device and the four answer bytes out.
+pub mod lights;
+
 ghost use Prim.Native.Nat.{_+_, _*_, _≤_};
 ghost use mathlib.Core.Path.{_≡_};
 ghost use mathlib.Core.Bool.{false};
 ghost use Rattle.arbiter.specs.Words.{worth};
 ghost use Rattle.arbiter.specs.State.{isInitialising};
-ghost use Rattle.arbiter.specs.Events.{decode};
 ghost use Rattle.arbiter.specs.Order.{levels};
 ghost use Rattle.arbiter.specs.Effects.{powerUp};
 ghost use Rattle.arbiter.specs.Steps.{masterNumber, ownerNumber, groundNumber, turnGround, switchNumber, ownerByte, linesByte, answer, step};
-ghost use Rattle.step.specs.Carried.{partsThreeToSeven, isSilent, isQuiet, finished, moved, steppedWith};
+ghost use Rattle.step.specs.Carried.{partsThreeToSeven, isSilent, isQuiet, finished, steppedWith};
+ghost use Rattle.step.specs.Short.{ended, shortEvent, shortStep};
 use arbiter::Answer;
 use arbiter::Bus;
 use arbiter::Clock;
@@ -49,6 +51,7 @@ use events::outcome_number;
 use fields::device_with;
 use fields::switch_of;
 use fields::turn_of;
+use lights::is_light;
 use registers::is_asserted_by;
 use resets::fresh_device;
 
@@ -196,16 +199,6 @@ pub fn finish(e: Event, before: Bus, f: Effect) -> Effect
     }
 }
 
-fn moved_by(d: Device, r: Raw) -> Effect
-    ensures { λ f. ⌜ f ≡ moved (decode r) d ⌝ }
-{
-    let read = decode_raw(r);
-    let Decoded::Reads(e) = read else {
-        return did_so(d, decoded_number(read), 0);
-    };
-    finish(e, d.bus, effect_of(e, d))
-}
-
 // A device of this kind after power-up.
 pub fn fresh(kind: Kind) -> Device
     ensures { λ r. ⌜ r ≡ powerUp kind ⌝ }
@@ -219,10 +212,49 @@ fn stepped_with(device: Device, answer: Answer) -> Stepped
     Stepped { device, answer }
 }
 
-// One event: the new device and the answer. A refused event leaves the device as it was.
+fn ended_at(owner: u8, lines: u8, f: Effect) -> Stepped
+    ensures { λ r. ⌜ r ≡ ended owner lines f ⌝ }
+{
+    stepped_with(
+        f.device,
+        Answer {
+            outcome: f.outcome,
+            read: f.read,
+            owner,
+            lines,
+        },
+    )
+}
+
+fn event_told(settled: bool, owner: u8, lines: u8, e: Event, d: Device) -> Stepped
+    ensures { λ r. ⌜ r ≡ shortEvent settled owner lines e d ⌝ }
+{
+    let light = settled & is_light(e, d);
+    let f = effect_of(e, d);
+    if light | (f.outcome == outcome_number(Outcome::OutOfSequence)) {
+        ended_at(owner, lines, f)
+    } else {
+        let g = finish(e, d.bus, f);
+        stepped_with(g.device, answered(g.outcome, g.read, g.device))
+    }
+}
+
+// The step, told what is known of the device: that it is settled, if `settled` says so, and its owner and lines bytes. Where that is so it is the step of
+// document 01, and the parts that have nothing to do are left out. A refused event leaves the device as it was.
+pub fn step_told(settled: bool, owner: u8, lines: u8, d: Device, r: Raw) -> Stepped
+    ensures { λ s. ⌜ s ≡ shortStep settled owner lines d r ⌝ }
+{
+    let read = decode_raw(r);
+    let Decoded::Reads(e) = read else {
+        return ended_at(owner, lines, did_so(d, decoded_number(read), 0));
+    };
+    event_told(settled, owner, lines, e, d)
+}
+
+// The same step of any device, of which nothing is known but itself: the new device and the answer.
 pub fn step_device(d: Device, r: Raw) -> Stepped
     ensures { λ s. ⌜ s ≡ step d r ⌝ }
 {
-    let f = moved_by(d, r);
-    stepped_with(f.device, answered(f.outcome, f.read, f.device))
+    let a = answered(0, 0, d);
+    step_told(false, a.owner, a.lines, d, r)
 }

@@ -24,7 +24,7 @@ use Rattle.arbitration.specs.Quiet.{noLoss, noCut, noClaim, noGrant}
 use Rattle.connection.specs.Quiet.{switchStays}
 use Rattle.step.specs.Carried.{isQuiet}
 use Rattle.light.specs.Light.{Still, Settled}
-use Rattle.light.specs.Short.{kept}
+use Rattle.step.specs.Short.{kept}
 use Rattle.light.proofs.Settles.{stays-settled}
 use Rattle.light.proofs.Short.{answer-shows}
 use Rattle.quiet.specs.Counts.{least, afterTicks}

@@ -7,7 +7,7 @@ ghost use lib.ListN.{length, drop};
 ghost use Rattle.arbiter.specs.Steps.{step, runFrom, answersFrom};
 ghost use Rattle.arbiter.specs.Traces.{eventBytes, rawsIn, kindNumber, readKind, readCounted, readTrace, refusalNumber, readNumber, bytesOf, report, bufferAfter, ran, bufferRan};
 ghost use Rattle.light.specs.Light.{Settled};
-ghost use Rattle.light.specs.Short.{kept, shortStep};
+ghost use Rattle.step.specs.Short.{kept, shortStep};
 ghost use Rattle.quiet.specs.Counts.{least};
 ghost use Rattle.traces.specs.Bodies.{kindRead, ranWith, reportWith, headOf};
 ghost use Rattle.traces.specs.Ticks.{isTickRaw, ticksAhead, AllTicks, withSame};
@@ -39,11 +39,11 @@ use format::kind_of;
 use format::pins_in;
 use format::put_answer;
 use format::whole_bytes;
-use light::step_settled;
 use quiet::after_ticks;
 use quiet::settled_ticks;
 use step::answered;
 use step::fresh;
+use step::step_told;
 use straps::address_of;
 
 // A report with the kind of its device alone, by its number.
@@ -190,7 +190,7 @@ fn play_ticks(events: &[u8], answers: &mut [u8], i: usize, last: usize, a: Answe
 fn step_one(settled: bool, owner: u8, lines: u8, d: Device, r: Raw) -> Stepped
     ensures { λ s. ⌜ s ≡ shortStep settled owner lines d r ⌝ }
 {
-    step_settled(settled, owner, lines, d, r)
+    step_told(settled, owner, lines, d, r)
 }
 
 // The first n events of these bytes, each answered at its place. From a device that is settled, TICKs that move nothing but counts are taken

@@ -11,7 +11,7 @@ use lib.ListN.{length, drop}
 use Rattle.arbiter.specs.Steps.{ownerByte, linesByte, step, runFrom, answersFrom}
 use Rattle.arbiter.specs.Traces.{eventBytes, rawsIn, bytesOf, eventCount}
 use Rattle.light.specs.Light.{Settled}
-use Rattle.light.specs.Short.{kept}
+use Rattle.step.specs.Short.{kept}
 use Rattle.light.proofs.Settles.{stays-settled}
 use Rattle.light.proofs.Short.{short-is-step, answer-shows}
 use Rattle.quiet.specs.Quiet.{countsLeft}

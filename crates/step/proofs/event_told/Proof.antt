@@ -1,4 +1,4 @@
--- `light::event_settled` meets its contract.
+-- `step::event_told` meets its contract.
 -- Assumes nothing.
 use mathlib.Core.Path.{_≡_}
 use mathlib.Core.Bool.{false, _&&_, _||_}
@@ -7,11 +7,11 @@ use borrow.Author.Needs.{needs}
 use Rattle.arbiter.specs.Events.{outcomeNumber}
 use Rattle.arbiter.specs.declared.Outcome.the-variants.{OutOfSequence}
 use Rattle.effects.specs.Effect.{effectOf}
-use Rattle.light.specs.Light.{isLight}
+use Rattle.step.specs.Light.{isLight}
 use Rattle.arbiter.specs.Steps.{taken}
-use Rattle.light.proofs.Short.{short-ended, short-taken}
-use Rattle.light.proofs.event_settled.Statement.{statement}
-use Rattle.light.proofs.event_settled.Tie as tie
+use Rattle.step.proofs.Short.{short-ended, short-taken}
+use Rattle.step.proofs.event_told.Statement.{statement}
+use Rattle.step.proofs.event_told.Tie as tie
 
 is-light-requires : tie.Need-is-light-requires
 is-light-requires c κs = search needs
@@ -55,8 +55,8 @@ returns-2 c =
     simp (c .stepped-with .ensures, c .before .answered .ensures, c .before .before .finish .ensures, effect)
     (short-taken (start .settled) (start .owner) (start .lines) (start .e) (start .d) goes)
 
-pub event-settled-spec : {M : Type 1} → statement M
-event-settled-spec =
+pub event-told-spec : {M : Type 1} → statement M
+event-told-spec =
     tie.close
     (tie.spec
     is-light-requires

@@ -1,9 +1,9 @@
--- `light::empties_none` meets its contract.
+-- `step::lights::empties_none` meets its contract.
 -- Assumes nothing.
 use borrow.Author.Needs.{needs}
-use Rattle.light.specs.Light.{isLight}
-use Rattle.light.proofs.empties_none.Statement.{statement}
-use Rattle.light.proofs.empties_none.Tie as tie
+use Rattle.step.specs.Light.{isLight}
+use Rattle.step.proofs.lights.empties_none.Statement.{statement}
+use Rattle.step.proofs.lights.empties_none.Tie as tie
 
 enum-told : tie.Need-enum-told
 enum-told c = search needs

@@ -1,9 +1,9 @@
--- `light::is_light` meets its contract.
+-- `step::lights::is_light` meets its contract.
 -- Assumes nothing.
 use borrow.Author.Needs.{needs}
-use Rattle.light.specs.Light.{isLight}
-use Rattle.light.proofs.is_light.Statement.{statement}
-use Rattle.light.proofs.is_light.Tie as tie
+use Rattle.step.specs.Light.{isLight}
+use Rattle.step.proofs.lights.is_light.Statement.{statement}
+use Rattle.step.proofs.lights.is_light.Tie as tie
 
 enum-told : tie.Need-enum-told
 enum-told c = search needs

@@ -1,13 +1,13 @@
--- `light::step_settled` meets its contract.
+-- `step::step_told` meets its contract.
 -- Assumes nothing.
 use mathlib.Core.Path.{ap, _∙_}
 use borrow.Author.Needs.{needs}
 use Rattle.arbiter.specs.Events.{decode}
 use Rattle.arbiter.specs.declared.Decoded.{Decoded}
-use Rattle.light.specs.Short.{shortDecoded, shortStep}
-use Rattle.light.proofs.Short.{short-refused}
-use Rattle.light.proofs.step_settled.Statement.{statement}
-use Rattle.light.proofs.step_settled.Tie as tie
+use Rattle.step.specs.Short.{shortDecoded, shortStep}
+use Rattle.step.proofs.Short.{short-refused}
+use Rattle.step.proofs.step_told.Statement.{statement}
+use Rattle.step.proofs.step_told.Tie as tie
 
 decode-raw-requires : tie.Need-decode-raw-requires
 decode-raw-requires c κs = search needs
@@ -34,15 +34,15 @@ returns c =
     (short-refused (start .settled) (start .owner) (start .lines) _ (start .d) (told .before .match .keys2)
     ∙ ap (λ (x : Decoded). shortDecoded (start .settled) (start .owner) (start .lines) x (start .d)) (read .decode-raw .ensures .0))
 
-event-settled-requires : tie.Need-event-settled-requires
-event-settled-requires c κs = search needs
+event-told-requires : tie.Need-event-told-requires
+event-told-requires c κs = search needs
 
 returns-2 : tie.Need-returns-2
 unfolding shortStep shortDecoded decode
-returns-2 c = simp (← c .event-settled .ensures, c .before .before .read .given .1, ← c .before .before .before .before .decode-raw .ensures .0)
+returns-2 c = simp (← c .event-told .ensures, c .before .before .read .given .1, ← c .before .before .before .before .decode-raw .ensures .0)
 
-pub step-settled-spec : {M : Type 1} → statement M
-step-settled-spec =
+pub step-told-spec : {M : Type 1} → statement M
+step-told-spec =
     tie.close
     (tie.spec
     decode-raw-requires
@@ -51,5 +51,5 @@ step-settled-spec =
     did-so-requires
     ended-at-requires
     returns
-    event-settled-requires
+    event-told-requires
     returns-2)

@@ -1,8 +1,8 @@
--- `light::claims_by` meets its contract.
+-- `step::lights::claims_by` meets its contract.
 -- Assumes nothing.
 use borrow.Author.Needs.{needs}
-use Rattle.light.proofs.claims_by.Statement.{statement}
-use Rattle.light.proofs.claims_by.Tie as tie
+use Rattle.step.proofs.lights.claims_by.Statement.{statement}
+use Rattle.step.proofs.lights.claims_by.Tie as tie
 
 enum-told : tie.Need-enum-told
 enum-told c = search needs
