@@ -8,7 +8,7 @@ use Rattle.guarantee.proofs.Starts.{starts-in-any-order, starts-guarant
 use Rattle.guarantee.proofs.StartLost.{request-lost}
 use Rattle.guarantee.proofs.StartAsks.{one-asks-first}
 use Rattle.guarantee.proofs.StartOwner.{first-owns, either-in-time}
-use Rattle.guarantee.proofs.Reboot.{reboot-stores, reboot-while-owning, reboot-rows-hold}
+use Rattle.guarantee.proofs.Reboot.{reboot-stores, reboot-while-owning, reboot-after-withdrawal, reboot-rows-hold}
 use Rattle.guarantee.proofs.Waits.{wait-tells}
 use Rattle.guarantee.proofs.Witnesses.{guarantee-witnesses-meet}
 use Rattle.guarantee.proofs.MoreWitnesses.{more-witnesses-meet}
@@ -35,6 +35,7 @@ answers =
       eitherInTime = either-in-time;
       rebootStores = reboot-stores;
       rebootWhileOwning = reboot-while-owning;
+      rebootAfterWithdrawal = reboot-after-withdrawal;
       rebootRowsHold = reboot-rows-hold;
       waitTells = wait-tells;
       guaranteeWitnessesMeet = guarantee-witnesses-meet;

@@ -162,7 +162,7 @@ awarded-has m (Claims k g) x h = go (atRest ((side k x) .port) && eqb (x .bus .h
     go false o = absurd (false≢true o)
 awarded-has m (Owns k g) x h = h
 
-after-asks : (m : Master) (e : Event) (x : Device) → owns m x ≡ false → owns m (after e x) ≡ true → requests m x ≡ true
+pub after-asks : (m : Master) (e : Event) (x : Device) → owns m x ≡ false → owns m (after e x) ≡ true → requests m x ≡ true
 after-asks m e x o h = go (x .arb .turn) refl
   where
     unowned : owned (x .arb .turn) ≡ false → requests m x ≡ true

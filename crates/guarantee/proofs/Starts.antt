@@ -15,7 +15,7 @@ use Rattle.sheets.specs.declared.Setting.{Setting}
 use Rattle.sheets.specs.declared.Order.{Order}
 use Rattle.sheets.specs.Orders.{settingEvents}
 use Rattle.guarantee.specs.Guarantee.{reserveIn}
-use Rattle.guarantee.specs.Starts.{isBy, those, Starts, wasGranted, StandsAs, StartsInAnyOrder, StartsGuarantee}
+use Rattle.guarantee.specs.Starts.{isBy, those, Starts, StandsAs, StartsInAnyOrder, StartsGuarantee}
 use Rattle.arbiter.proofs.Choice.{split}
 use Rattle.audit.proofs.Freed.{hold-run}
 use Rattle.audit.proofs.WaitAsSet.{never-beyond, within-self, wait-as-set}
@@ -32,25 +32,33 @@ at-end Q m s d two e a = absurd (not-empty (sym e))
 at-end Q m s d one e a = absurd (not-empty (sym e))
 at-end Q m s d none e a = a
 
+-- Its own six events lead from the first stage to the last, if all others are of a port, LINES or TICK.
+pub to-the-end : (Q : Type 0) (m : Master) (s : Setting) (rs : List Raw) (d : Device) → those (isBy (number m)) rs ≡ settingEvents (number m) s
+    → those isOther rs ≡ [] → (Q → never (grantTaken m) d rs ≡ true) → At Q six m s d → At Q none m s (runFrom d rs)
+unfolding those
+to-the-end Q m s rs d e o n a =
+    let l : Led Q m s [] (runFrom d rs) =
+    walk Q m s rs [] d six (ap (those (isBy (number m))) (append-nil rs) ∙ e) (ap (those isOther) (append-nil rs) ∙ o)
+    (λ q. ap (never (grantTaken m) d) (append-nil rs) ∙ n q) a in
+    at-end Q m s (runFrom d rs) (l .stage) (l .events) (l .stands)
+
+-- Who asks unless it was granted asks or was granted.
+pub asks-or-granted : (m : Master) (s : Setting) (rs : List Raw) (d x : Device) → At (never (grantTaken m) d rs ≡ true) none m s x
+    → requests m x || not (never (grantTaken m) d rs) ≡ true
+asks-or-granted m s rs d x a =
+    split (never (grantTaken m) d rs)
+    (λ q. ap (λ (b : Bool). b || not (never (grantTaken m) d rs)) (a .2 q .1))
+    (λ q. ap (λ (b : Bool). requests m x || not b) q ∙ or-true (requests m x))
+
 -- One controller: its own six events are all that it asks of the others but that they are of a port, LINES or TICK.
 stands : (k : Kind) (m : Master) (s : Setting) (rs : List Raw) → those (isBy (number m)) rs ≡ settingEvents (number m) s → those isOther rs ≡ []
     → StandsAs k rs m s
-unfolding run those
+unfolding run
 stands k m s rs e o =
-    let Q : Type 0 = never (grantTaken m) (powerUp k) rs ≡ true in
-    let l : Led Q m s [] (runFrom (powerUp k) rs) =
-    walk Q m s rs [] (powerUp k) six (ap (those (isBy (number m))) (append-nil rs) ∙ e) (ap (those isOther) (append-nil rs) ∙ o)
-    (λ q. ap (never (grantTaken m) (powerUp k)) (append-nil rs) ∙ q) (at-power-up Q k m s) in
-    let a : At Q none m s (run k rs) = at-end Q m s (run k rs) (l .stage) (l .events) (l .stands) in
-    record {
-      reserve = a .1 .0;
-      bits = a .1 .1;
-      rest = a .0;
-      request =
-          split (never (grantTaken m) (powerUp k) rs)
-          (λ q. ap (λ (b : Bool). b || wasGranted m k rs) (a .2 q .1))
-          (λ q. ap (λ (b : Bool). requests m (run k rs) || not b) q ∙ or-true (requests m (run k rs)));
-    }
+    let d : Device = powerUp k in
+    let Q : Type 0 = never (grantTaken m) d rs ≡ true in
+    let a : At Q none m s (runFrom d rs) = to-the-end Q m s rs d e o (λ q. q) (at-power-up Q k m s) in
+    record { reserve = a .1 .0; bits = a .1 .1; rest = a .0; request = asks-or-granted m s rs d (runFrom d rs) a }
 
 pub starts-in-any-order : StartsInAnyOrder
 starts-in-any-order k o rs h = (stands k Zero (o .master0) rs (h .first) (h .others), stands k One (o .master1) rs (h .second) (h .others))

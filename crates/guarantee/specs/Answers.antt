@@ -5,7 +5,7 @@ use Rattle.guarantee.specs.Guarantee.{OrderGuarantees, SheetsGuarantee, 
 use Rattle.guarantee.specs.Necessary.{ReserveNecessary, BoundedExactly}
 use Rattle.guarantee.specs.Boxes.{BoxesOverwritten, BoxesKept, IdleBoxDropped, IdleBoxKept}
 use Rattle.guarantee.specs.Starts.{StartsInAnyOrder, RequestLost, StartsGuarantee, OneAsksFirst, FirstOwns, EitherInTime}
-use Rattle.guarantee.specs.Reboot.{RebootStores, RebootWhileOwning, RebootRowsHold}
+use Rattle.guarantee.specs.Reboot.{RebootStores, RebootWhileOwning, RebootAfterWithdrawal, RebootRowsHold}
 use Rattle.guarantee.specs.Waits.{WaitTells}
 use Rattle.guarantee.specs.Witnesses.{GuaranteeWitnessesMeet}
 use Rattle.guarantee.specs.MoreWitnesses.{MoreWitnessesMeet}
@@ -35,6 +35,7 @@ pub record Answers : Type 0 where
   -- What if a controller starts again while it owns?
   pub rebootStores : RebootStores
   pub rebootWhileOwning : RebootWhileOwning
+  pub rebootAfterWithdrawal : RebootAfterWithdrawal
   pub rebootRowsHold : RebootRowsHold
   -- What does the grade promise that `wait_of` tells?
   pub waitTells : WaitTells

@@ -38,7 +38,7 @@ const TABLES: &Openers = &[
     ("guarantee/proofs/Devices.antt", &["zero-again", "one-rest"]),
     ("guarantee/proofs/MoreWitnesses.antt", &["more-witnesses-meet"]),
     ("guarantee/proofs/Necessary.antt", &["transfer-good"]),
-    ("guarantee/proofs/Reboot.antt", &["reboot-rows-hold"]),
+    ("guarantee/proofs/Reboot.antt", &["computed"]),
     ("guarantee/proofs/StartsWitnesses.antt", &["computed"]),
     ("guarantee/proofs/Witnesses.antt", &["guarantee-witnesses-meet"]),
     ("layout/proofs/Reached.antt", &["contr-tests"]),
