@@ -60,6 +60,7 @@ pub fn without_limit() -> Bundle {
 /// Everything that a bundle may have, and much that is wrong.
 pub fn full() -> Bundle {
     Bundle {
+        texts: ["sheets/board.txt", "sheets/house.txt"].map(sample).map(Some),
         scripts: Some(
             ["traces/orders/start0.script", "traces/orders/start1-no-last-stop.script"].map(sample),
         ),

@@ -29,6 +29,9 @@ fn read_as(bundle: &Bundle) -> Vec<(String, &Read)> {
         ("board sheet".to_string(), &bundle.board),
         ("house sheet".to_string(), &bundle.house),
     ];
+    for (read, sheet) in bundle.texts.iter().zip(["board", "house"]) {
+        all.extend(read.iter().map(|read| (format!("text of the {sheet} sheet"), read)));
+    }
     let scripts = bundle.scripts.iter().flatten().enumerate();
     all.extend(scripts.map(|(m, read)| (format!("start-up script of controller {m}"), read)));
     if let Some(shelf) = &bundle.shelf {

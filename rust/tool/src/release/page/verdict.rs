@@ -83,6 +83,11 @@ fn name(bundle: &Bundle) -> String {
 fn examined_files(examined: &Examined) -> String {
     let bundle = &examined.bundle;
     let mut parts = vec!["both order sheets".to_string()];
+    parts.extend(match bundle.texts.iter().flatten().count() {
+        0 => None,
+        1 => Some("the text of one of them".to_string()),
+        _ => Some("the texts of both".to_string()),
+    });
     if bundle.scripts.is_some() {
         parts.push(match &examined.orders {
             Some(orders) => {
