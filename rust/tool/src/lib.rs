@@ -18,6 +18,7 @@ pub mod each;
 pub mod failure;
 pub mod files;
 pub mod form;
+pub mod json;
 pub mod many;
 pub mod order;
 pub mod picture;
@@ -31,6 +32,7 @@ pub mod story;
 pub mod stuck;
 pub mod summary;
 pub mod svg;
+pub mod table;
 pub mod words;
 
 use std::ffi::OsString;
