@@ -2,7 +2,7 @@
 //! independent model (#110).
 
 use gunwaleish::Event;
-use gunwaleish_tool::commands::shelf::over;
+use gunwaleish_tool::commands::shelf::{over, Wanted};
 use gunwaleish_tool::each::Made;
 use gunwaleish_tool::files::Input;
 use gunwaleish_tool::script::named::{read_named, Name, Named};
@@ -21,7 +21,8 @@ fn input(name: &str, text: &str) -> Input {
 }
 
 fn made(shelf: &str, script: &str, list: bool) -> Made {
-    over(&input("a.shelf", shelf), &input("a.script", script), list)
+    let wanted = if list { Wanted::LIST } else { Wanted::WORDS };
+    over(&input("a.shelf", shelf), &input("a.script", script), wanted)
 }
 
 fn list(shelf: &str, script: &str) -> String {
@@ -137,6 +138,53 @@ fn what_is_not_in_the_row_is_told() {
     let lines = list(CHASSIS, script);
     let answers: Vec<&str> = lines.lines().map(|line| &line[..8]).collect();
     assert_eq!(answers, ["0000000C", "12000000", "12000000", "0000200C", "0000250C"]);
+}
+
+/// An event that a device refuses, with 2, 3 or 4, is told with its line, its place and why; one that
+/// reaches all is refused at each.
+#[test]
+fn what_a_device_refuses_is_told() {
+    let cases = [
+        (
+            "tick\nat 71 write 0 01",
+            "a.script, line 2, event 2: refused 4: out of sequence (at place 1, address 71h)",
+        ),
+        (
+            "at 72 raw 00 02 01 00\nat 70 stop 1\n",
+            "a.script, line 1, event 1: refused 3: field out of range (at place 2, address 72h) (and 1 \
+             event more)",
+        ),
+        ("raw FF 00 00 00", "a.script, line 1, event 1: refused 2: unknown kind (at all 4 places)"),
+        (
+            "place 3 pulse 1",
+            "a.script, line 1, event 1: refused 4: out of sequence (at place 3, address 73h)",
+        ),
+        (
+            "at 71 stop 0\nat 7F stop 0\nplace 9 pulse 1",
+            "a.script, line 1, event 1: refused 4: out of sequence (at place 1, address 71h) (and 2 events \
+             more)",
+        ),
+        (
+            "at 7F stop 0\nat 71 stop 0",
+            "a.script, line 1, event 1: refusal 18: no device has address 7Fh (and 1 event more)",
+        ),
+    ];
+    for (script, expected) in cases {
+        for list in [false, true] {
+            let made = made(CHASSIS, script, list);
+            assert_eq!(made.refused.as_deref(), Some(expected), "{script}");
+            assert!(made.output.is_some());
+        }
+    }
+    let text = String::from_utf8(made(CHASSIS, cases[1].0, false).output.unwrap()).unwrap();
+    let lines = "\nRefused by the device that it reaches, and changing nothing there:\n    \
+                 event 1, line 1, at 72 raw 00 02 01 00: refused 3: field out of range (at place 2, address \
+                 72h)\n    event 2, line 2, at 70 stop 1: refused 4: out of sequence (at place 0, address \
+                 70h)\n";
+    assert!(text.contains(lines), "{text}");
+    assert_eq!(made(CHASSIS, "tick\nat 71 command 0 01", false).refused, None);
+    // Not acknowledged is no refusal.
+    assert_eq!(made(CHASSIS, "at 71 command 0 08\ngeneral 0 07", false).refused, None);
 }
 
 /// Ticks and resets reach all, and an event for one leaves the others.
@@ -276,7 +324,8 @@ fn damaged_files_are_told() {
         let [shelf, script] = files;
         let shelf = Input { name: "a.shelf".to_string(), bytes: shelf };
         let script = Input { name: "a.script".to_string(), bytes: script };
-        if let Some(said) = over(&shelf, &script, rng.percent(50)).refused {
+        let wanted = rng.pick(&[Wanted::WORDS, Wanted::LIST]);
+        if let Some(said) = over(&shelf, &script, wanted).refused {
             refused += 1;
             let place = said.starts_with("a.shelf, line ") || said.starts_with("a.script, line ");
             assert!(place && said.len() < 300 && !said.contains('\n'), "{said}");

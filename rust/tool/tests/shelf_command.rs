@@ -2,10 +2,12 @@
 //! codes, and files in and out.
 
 mod common;
+#[path = "common/rows.rs"]
+mod rows;
 
 use std::fs;
 
-use common::{code, root, run, said, samples_on, shell, text, BUILT};
+use common::{code, root, run, said, samples_on, shell, text, Folder, BUILT};
 
 const CHASSIS: &str = "traces/shelf/chassis.shelf";
 const HANG: &str = "traces/shelf/hang.script";
@@ -67,7 +69,8 @@ fn the_pages_commands_work() {
 
 #[test]
 fn wrong_use_is_2() {
-    let cases: [(&[&str], &str); 6] = [
+    let cases: [(&[&str], &str); 7] = [
+        (&[CHASSIS, HANG, "--csv", "--json"], "--csv and --json are both there"),
         (&[], "shelf needs two files, the shelf and then the script, and has 0"),
         (&[CHASSIS], "and has 1"),
         (&[CHASSIS, HANG, HANG], "and has 3"),
@@ -111,4 +114,58 @@ fn a_script_for_one_device_has_no_names() {
         assert_eq!((code(&output), output.stdout.len()), (1, 0));
         assert!(said(&output).ends_with(why), "{}", said(&output));
     }
+}
+
+/// An event that a device refuses: exit code 1, and standard error says which, where and why.
+#[test]
+fn a_refused_event_is_1() {
+    let folder = Folder::new("shelf-refused");
+    let script = folder.path("late.script");
+    fs::write(&script, "at 71 command 0 01\nat 71 stop 0\nat 71 write 0 05\ntick\n").unwrap();
+    for options in [&[][..], &["--list"], &["--csv"], &["--json", "--list"]] {
+        let output = run(&[&["shelf", CHASSIS, &script], options].concat());
+        assert_eq!((code(&output), output.stdout.is_empty()), (1, false), "{options:?}");
+        let why = "line 3, event 3: refused 4: out of sequence (at place 1, address 71h)\n";
+        assert_eq!(said(&output), format!("gunwaleish: {script}, {why}"), "{options:?}");
+    }
+}
+
+/// A row a place, as it stands at the end, or a row an event with its answer.
+#[test]
+fn rows_of_places_and_of_events() {
+    let told = |options: &[&str]| {
+        let output = run(&[&["shelf", CHASSIS, HANG], options].concat());
+        assert_eq!((code(&output), said(&output).as_str()), (0, ""));
+        String::from_utf8(output.stdout).unwrap()
+    };
+    let places = rows::csv(&told(&["--csv"]));
+    let column = |name| rows::column(&places, name);
+    assert_eq!(column("address"), ["70", "71", "72", "73"]);
+    assert_eq!(column("part"), ["PCA9641", "PCA9641", "TPT29641", "PCA9641"]);
+    assert_eq!(column("hung"), ["false", "true", "false", "false"]);
+    assert_eq!(column("waits1"), ["false", "true", "false", "false"]);
+    assert_eq!(
+        (column("owner"), column("refused_events")),
+        (vec!["0".to_string(); 4], vec!["0".to_string(); 4])
+    );
+    assert_eq!(rows::json_lines(&told(&["--json"])).len(), 4);
+    let listing = text("traces/shelf/hang.listing");
+    let events = rows::json_lines(&told(&["--list", "--json"]));
+    assert_eq!(events.len(), listing.lines().count());
+    for (number, (event, line)) in events.iter().zip(listing.lines()).enumerate() {
+        let (answer, event_text) = line.split_once("  ").unwrap();
+        let named = match event.at("for").text() {
+            "all" => event.at("what").text().to_string(),
+            name => format!("{name} {}", event.at("what").text()),
+        };
+        assert_eq!(named, event_text);
+        let bytes = [event.at("outcome").number(), event.at("byte_read").number()];
+        assert_eq!(format!("{:02X}{:02X}", bytes[0], bytes[1]), answer[..4]);
+        assert_eq!(event.at("event").number(), number as u64 + 1);
+    }
+    let typo = run(&["shelf", CHASSIS, "traces/shelf/typo.script", "--list", "--csv"]);
+    assert_eq!(code(&typo), 1);
+    let table = rows::csv(&String::from_utf8(typo.stdout).unwrap());
+    assert_eq!(rows::column(&table, "outcome")[0], "18");
+    assert_eq!(rows::column(&table, "owner")[0], "");
 }

@@ -6,15 +6,16 @@ use crate::arguments::Arguments;
 use crate::each::{output_of, Made};
 use crate::failure::Failure;
 use crate::files::{self, is_standard, Input};
-use crate::script::named::read_named;
+use crate::script::named::{read_named, Named};
 use crate::shelf::file::{self, read_shelf};
-use crate::shelf::{run_over, words, Shelved};
+use crate::shelf::{rows, run_over, words, Shelved};
+use crate::table::Form;
 use crate::words::count;
 
 pub const COMMAND: Command = Command {
     name: "shelf",
     summary: "a script run over a shelf of several devices, told device by device",
-    usage: "SHELF SCRIPT [--list] [-o OUT]",
+    usage: "SHELF SCRIPT [--list] [--csv | --json] [-o OUT]",
     help: "A shelf file has a line a device, up to 16, in the order of their places from 0: the address in\n\
            hex and the part. A script is as gunwaleish compose reads it, but without pins and part,\n\
            and an event for one device has a name before it:\n\n\
@@ -25,13 +26,16 @@ pub const COMMAND: Command = Command {
            The output says how each device stands at the end, and then for each, as gunwaleish explain\n\
            does, what happens there. An event has its number in the script, of which a device shows\n\
            those that reach it. --list has each event on a line instead, after its four answer bytes\n\
-           in hex, which are those of the device that it names, or of place 0.\n\n\
+           in hex, which are those of the device that it names, or of place 0. --csv and --json have a\n\
+           row a place, how it stands at the end, or with --list a row an event; docs/FORMATS.md has the\n\
+           columns.\n\n\
            An event whose address or place is not in the row reaches nobody, and the run goes on\n\
            (refusal 18). No device (5), more than 16 (6) or two with the same address (17) are no\n\
            shelf, and nothing is run.\n\n\
-           Exit code: 0 done; 1 the shelf, the script or an event of it is refused: standard error\n\
-           says which and where; 2 wrong use, or a file that cannot be read or written.",
-    options: &[("--list", 0)],
+           Exit code: 0 done; 1 the shelf, the script or an event of it is refused, by the shelf or by a\n\
+           device: standard error says which, where and why; 2 wrong use, or a file that cannot be read\n\
+           or written.",
+    options: &[("--list", 0), ("--csv", 0), ("--json", 0)],
     example: "build/release/gunwaleish shelf traces/shelf/chassis.shelf traces/shelf/hang.script",
     run,
 };
@@ -46,28 +50,55 @@ fn run(arguments: &Arguments) -> Result<(), Failure> {
         return Err(wrong("standard input cannot be both the shelf and the script"));
     }
     let list = arguments.options.contains_key("--list");
-    let ending = if list { "listing" } else { "txt" };
+    let wanted = Wanted { list, form: Form::asked(COMMAND.name, arguments)? };
     // In a folder the output has the script's name, since one shelf serves many scripts.
     let inputs = [script.clone(), shelf.clone()];
-    let output = output_of(&inputs, ending, arguments.output.as_deref())?;
+    let output = output_of(&inputs, wanted.ending(), arguments.output.as_deref())?;
     let read = |path| files::read(path, MOST_TEXT);
-    over(&read(shelf)?, &read(script)?, list).hand_out(output.as_deref())
+    over(&read(shelf)?, &read(script)?, wanted).hand_out(output.as_deref())
+}
+
+/// What is to be made of a run over a shelf.
+#[derive(Clone, Copy, Debug, PartialEq, Eq)]
+pub struct Wanted {
+    /// Each event, and not how each place stands at the end.
+    pub list: bool,
+    /// As rows for other programs.
+    pub form: Option<Form>,
+}
+
+impl Wanted {
+    /// In words.
+    pub const WORDS: Wanted = Wanted { list: false, form: None };
+    /// Each event on a line.
+    pub const LIST: Wanted = Wanted { list: true, form: None };
+
+    /// The ending of its name in a folder.
+    fn ending(self) -> &'static str {
+        match (self.form, self.list) {
+            (Some(form), _) => form.ending(),
+            (None, true) => "listing",
+            (None, false) => "txt",
+        }
+    }
 }
 
 fn wrong(what: &str) -> Failure {
     Failure::Wrong(format!("{what}; gunwaleish shelf --help tells more"))
 }
 
-/// The script run over the shelf: in words, or as a list. Events that the shelf refuses are told as a
-/// refusal too.
-pub fn over(shelf: &Input, script: &Input, list: bool) -> Made {
+/// The script run over the shelf, as it is wanted. Events that the shelf or a device refuses are told as
+/// a refusal too.
+pub fn over(shelf: &Input, script: &Input, wanted: Wanted) -> Made {
     let shelved = match run_both(shelf, script) {
         Ok(shelved) => shelved,
         Err(why) => return Made::refused(why),
     };
-    let text = match list {
-        true => words::listed(&shelved),
-        false => words::told([&shelf.name, &script.name], &shelved),
+    let text = match (wanted.form, wanted.list) {
+        (None, true) => words::listed(&shelved),
+        (None, false) => words::told([&shelf.name, &script.name], &shelved),
+        (Some(form), true) => rows::events(&shelved, form),
+        (Some(form), false) => rows::places(&shelved, form),
     };
     Made { output: Some(text.into()), refused: refused(&script.name, &shelved) }
 }
@@ -86,13 +117,18 @@ fn run_both(shelf: &Input, script: &Input) -> Result<Shelved, String> {
         .map_err(|refusal| format!("{}, {}", shelf.name, file::refused(&slots, last, refusal)))
 }
 
-/// The first event that the shelf refused, and how many more there are.
+/// The first event that the shelf or a device refused, and how many more there are.
 fn refused(name: &str, shelved: &Shelved) -> Option<String> {
-    let mut refused = shelved.refused();
-    let (number, named) = refused.next()?;
-    let more = match refused.count() {
+    let by_shelf = shelved.refused().map(|(number, named)| (number, named, words::why(named)));
+    let by_devices = shelved.refused_by_devices();
+    let by_devices =
+        by_devices.map(|(number, named, at)| (number, named, words::why_at(shelved, &at)));
+    let mut refused: Vec<(usize, &Named, String)> = by_shelf.chain(by_devices).collect();
+    refused.sort_by_key(|(number, ..)| *number);
+    let (number, named, why) = refused.first()?;
+    let more = match refused.len() - 1 {
         0 => String::new(),
         others => format!(" (and {} more)", count(others, "event")),
     };
-    Some(format!("{name}, line {}, event {number}: {}{more}", named.line, words::why(named)))
+    Some(format!("{name}, line {}, event {number}: {why}{more}", named.line))
 }

@@ -2,13 +2,16 @@
 //!
 //! `file` reads the shelf file, and `script::named` the script. The library's shelf answers each event
 //! and says which reach nobody. What happens at one place is the run of the events that reach it, on a
-//! device by itself: so it is proved of the library's shelf. So `story` follows that run, and `words`
-//! tells it.
+//! device by itself: so it is proved of the library's shelf. So `story` follows that run, `words` tells
+//! it, and `rows` has it for other programs.
 
 pub mod file;
+pub mod rows;
 pub mod words;
 
-use gunwaleish::{run, write_trace, Answer, Part, Pins, Refusal, Shelf};
+use std::collections::BTreeMap;
+
+use gunwaleish::{run, write_trace, Answer, Outcome, Part, Pins, Refusal, Shelf};
 
 use crate::script::named::{Name, Named};
 use crate::story::{follow_run, Story};
@@ -42,7 +45,25 @@ impl Shelved {
         let refused = self.answered.iter().zip(1..).filter(|((_, answer), _)| answer.is_err());
         refused.map(|((named, _), number)| (number, named))
     }
+
+    /// The events that devices refuse, each with its number in the script and the places where it is
+    /// refused. One that reaches all may be refused at several.
+    pub fn refused_by_devices(&self) -> impl Iterator<Item = (usize, &Named, Vec<At>)> {
+        let mut refused: BTreeMap<usize, Vec<At>> = BTreeMap::new();
+        for (place, story) in self.stories.iter().enumerate() {
+            for step in story.steps.iter().filter(|step| step.answer.outcome.is_refused()) {
+                refused.entry(step.number).or_default().push((place, step.answer.outcome));
+            }
+        }
+        refused.into_iter().filter_map(|(number, places)| {
+            let (named, _) = self.answered.get(number - 1)?;
+            Some((number, named, places))
+        })
+    }
 }
+
+/// A place where an event is refused, and with what.
+pub type At = (usize, Outcome);
 
 /// Runs a script over a shelf of fresh devices.
 pub fn run_over(slots: Vec<Slot>, events: &[Named]) -> Result<Shelved, Refusal> {

@@ -1,13 +1,13 @@
-//! A run over a shelf in words: how each device stands at the end, what reached nobody, and then what
-//! happened at each place.
+//! A run over a shelf in words: how each device stands at the end, what reached nobody or was refused,
+//! and then what happened at each place.
 
 use gunwaleish::{Answer, Ground, Master};
 
-use super::{Answered, Shelved, Slot};
+use super::{Answered, At, Shelved, Slot};
 use crate::commands::explain;
 use crate::script::named::{Name, Named};
 use crate::story::Story;
-use crate::words::{count, part};
+use crate::words::{count, outcome, part};
 
 /// The whole text. The names are those of the shelf file and of the script.
 pub fn told(names: [&str; 2], shelved: &Shelved) -> String {
@@ -18,6 +18,7 @@ pub fn told(names: [&str; 2], shelved: &Shelved) -> String {
         text.push_str(&format!("{}: {}\n", heading(place, slot), at_the_end(story, shown)));
     }
     text.push_str(&reached_nobody(shelved));
+    text.push_str(&refused_by_devices(shelved));
     for (place, slot, story) in places(shelved) {
         text.push_str(&format!(
             "\n{}: {} of {events} reach it\n{}\n\n{}",
@@ -67,6 +68,40 @@ fn reached_nobody(shelved: &Shelved) -> String {
         true => String::new(),
         false => format!("\nRefused by the shelf, and changing nothing:\n{}", lines.concat()),
     }
+}
+
+/// The events that devices refused, a line each.
+fn refused_by_devices(shelved: &Shelved) -> String {
+    let line = |(number, named, at): (usize, &Named, Vec<At>)| {
+        format!("    event {number}, line {}, {named}: {}\n", named.line, why_at(shelved, &at))
+    };
+    let lines: String = shelved.refused_by_devices().map(line).collect();
+    match lines.is_empty() {
+        true => lines,
+        false => {
+            format!("\nRefused by the device that it reaches, and changing nothing there:\n{lines}")
+        }
+    }
+}
+
+/// Why devices refuse an event, and where.
+pub fn why_at(shelved: &Shelved, at: &[At]) -> String {
+    let alike = at.chunk_by(|one, next| one.1 == next.1);
+    let all = shelved.slots.len();
+    let said = alike.filter_map(|places| {
+        let places_of = |(place, _): &At| {
+            let address = shelved.slots.get(*place).map_or(0, |slot| slot.address);
+            format!("place {place}, address {address:02X}h")
+        };
+        let (_, refused) = places.first()?;
+        let there = match places {
+            [one] => places_of(one),
+            many if many.len() == all => format!("all {all} places"),
+            many => many.iter().map(places_of).collect::<Vec<_>>().join(" and "),
+        };
+        Some(format!("{} (at {there})", outcome(*refused)))
+    });
+    said.collect::<Vec<_>>().join("; ")
 }
 
 /// Why the shelf refuses an event.
