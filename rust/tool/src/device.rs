@@ -51,7 +51,14 @@ fn part(command: &str, words: &[String]) -> Result<Part, String> {
              incident came about"
         ));
     };
-    let unknown = || format!("'{}' is no part, expected {either}", name.escape_debug());
+    read_part(name)
+}
+
+/// The part that a word after --part names.
+pub fn read_part(name: &str) -> Result<Part, String> {
+    let unknown = || {
+        format!("'{}' is no part, expected --part PCA9641 or --part TPT29641", name.escape_debug())
+    };
     Part::named(name).ok_or_else(unknown)
 }
 

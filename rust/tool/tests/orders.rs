@@ -4,7 +4,7 @@
 use std::collections::BTreeMap;
 
 use gunwaleish::{Bus, Event, Master, Part, Pins, Refusal};
-use gunwaleish_tool::commands::orders::{orders, Wanted};
+use gunwaleish_tool::commands::orders::{orders, How, Wanted};
 use gunwaleish_tool::each::Made;
 use gunwaleish_tool::files::Input;
 use gunwaleish_tool::script::write_script;
@@ -34,7 +34,7 @@ fn inputs(script0: &[Event], script1: &[Event]) -> [Input; 2] {
 
 fn make(script0: &[Event], script1: &[Event], wanted: Wanted) -> Made {
     let [a, b] = inputs(script0, script1);
-    orders(&a, &b, &wanted)
+    orders(&a, &b, &wanted, How::default())
 }
 
 fn told(script0: &[Event], script1: &[Event], wanted: Wanted) -> (String, Option<String>) {
@@ -200,23 +200,21 @@ fn groups_hold_every_order() {
 /// Both in one PAIR: by priority, and by last granted.
 #[test]
 fn grounds_are_told() {
+    let opens = |master| Event::Command { master, code: 1 };
     let pair = |value0, value1| {
         let master = Master::Zero;
-        vec![
-            Event::Command { master, code: 1 },
-            Event::Command { master: Master::One, code: 1 },
-            Event::Pair { value0, value1 },
-            Event::Stop { master },
-            Event::Stop { master: Master::One },
-        ]
+        [opens(master), Event::Pair { value0, value1 }, Event::Stop { master }]
     };
-    let (text, refused) = told(&pair(0x01, 0x81), &[Event::Tick], Wanted::Groups);
+    // The PAIR is refused where controller 1's port is not open yet, or no longer.
+    let other = [opens(Master::One), Event::Stop { master: Master::One }];
+    let (text, refused) = told(&pair(0x01, 0x81), &other, Wanted::Groups);
     assert_eq!(refused, None);
-    let line = "in all 6 orders controller 1 owns the bus (ground: priority), controller 0 waits\n";
-    assert!(text.contains(line), "{text}");
-    let (text, _) = told(&pair(0x01, 0x01), &[], Wanted::Groups);
     let line =
-        "in the one order controller 0 owns the bus (ground: last granted), controller 1 waits\n";
+        "in 4 of 10 orders controller 1 owns the bus (ground: priority), controller 0 waits\n";
+    assert!(text.contains(line), "{text}");
+    let (text, _) = told(&pair(0x01, 0x01), &other, Wanted::Groups);
+    let line =
+        "in 4 of 10 orders controller 0 owns the bus (ground: last granted), controller 1 waits\n";
     assert!(text.contains(line), "{text}");
     let (text, _) = told(&[Event::Tick], &[Event::Tick], Wanted::Groups);
     assert!(
@@ -296,22 +294,124 @@ fn scripts_that_are_refused() {
         ("pins 0 0 0 1\ntick\n", "a, line 2: 'tick', expected part PCA9641 or part TPT29641 "),
         (
             "pins 0 0 0 1\npart TPT29641\n",
-            "a: part TPT29641, but all orders are tried on a PCA9641; ",
+            "a: part TPT29641, but all orders are tried on a PCA9641; --part TPT29641 tries them on that",
+        ),
+        (
+            "pins 0 0 0 1\npart PCA9641\ntick\nstop 1\n",
+            "a, line 4: 'stop 1' is an event of controller 1, in the script of controller 0; ",
+        ),
+        (
+            "pins 0 0 0 1\npart PCA9641\nraw 09 01 06 00\n",
+            "a, line 3: 'raw 09 01 06 00' is an event of controller 1, in the script of controller 0; ",
         ),
         ("part PCA9641\npins 0 0 0 0\n", "a, line 2: pins 0 0 0 0, but b, line 1: pins 0 0 0 1; "),
     ];
     for (script, expected) in cases {
         for wanted in [Wanted::Groups, Wanted::All, Wanted::Trace("01".to_string())] {
-            let made = orders(&input("a", script), &input("b", good), &wanted);
+            let made = orders(&input("a", script), &input("b", good), &wanted, How::default());
             let refused = made.refused.unwrap();
             assert!(made.output.is_none() && refused.starts_with(expected), "{refused}");
         }
     }
     let long = "pins 0 0 0 1\npart PCA9641\ntick 4096\n";
-    let made = orders(&input("a", long), &input("b", long), &Wanted::Groups);
+    let made = orders(&input("a", long), &input("b", long), &Wanted::Groups, How::default());
     assert!(made.refused.unwrap().ends_with(" (a has 4096 events; b has 4096 events)"));
     // What stands after 16 MiB is not read, so none of it is taken for the whole.
     let comment = format!("{good}{}", "#".repeat(1 << 24));
-    let made = orders(&input("a", good), &input("b", comment), &Wanted::Groups);
+    let made = orders(&input("a", good), &input("b", comment), &Wanted::Groups, How::default());
     assert_eq!(made.refused.unwrap(), "b: the script is longer than 16 MiB");
+}
+
+/// What belongs to both controllers, or to none, stands in either script.
+#[test]
+fn events_of_one_controller_stand_in_its_script() {
+    let any = "pair 01 01\nlines 1 1 1\ntick\npulse 1\nreset\nraw 09 07 06 00\n";
+    let script = |events: &str| format!("pins 0 0 0 1\npart PCA9641\n{events}");
+    let made =
+        orders(&input("a", script(any)), &input("b", script(any)), &Wanted::Groups, How::default());
+    assert_eq!(made.refused, None);
+    for (controller, other) in [(0, 1), (1, 0)] {
+        let of = |m: u8| {
+            ["command M 01", "write M 01", "read M", "stop M", "general M 06"]
+                .map(|line| script(&format!("tick\n{}\n", line.replace('M', &m.to_string()))))
+        };
+        for (own, others) in of(controller).into_iter().zip(of(other)) {
+            let pair = |text: String| match controller {
+                0 => [input("a", text), input("b", script(""))],
+                _ => [input("a", script("")), input("b", text)],
+            };
+            let [a, b] = pair(own);
+            assert_eq!(orders(&a, &b, &Wanted::Groups, How::default()).refused, None);
+            let [a, b] = pair(others);
+            let refused = orders(&a, &b, &Wanted::Groups, How::default()).refused.unwrap();
+            let expected = format!(
+                "is an event of controller {other}, in the script of controller {controller}"
+            );
+            assert!(refused.contains(", line 4: '") && refused.contains(&expected), "{refused}");
+        }
+    }
+}
+
+/// A refused event in some order: told, and a refusal where that is asked for.
+#[test]
+fn refused_events_are_a_refusal_if_asked_for() {
+    let resets = [
+        Event::Command { master: Master::One, code: 1 },
+        Event::Write { master: Master::One, value: 0x10 },
+        Event::GeneralCall { master: Master::One, code: 6 },
+    ];
+    let [a, b] = inputs(&asks(Master::Zero, 0x01), &resets);
+    let strict = How { strict: true, ..How::default() };
+    let made = |how| orders(&a, &b, &Wanted::Groups, how);
+    let stuck = made(How::default()).refused.unwrap();
+    assert!(!stuck.contains("an event is refused"), "{stuck}");
+    assert_eq!(
+        made(strict).refused.unwrap(),
+        stuck + "; in 9 of 20 orders an event is refused; first: 001110"
+    );
+    assert_eq!(made(strict).output, made(How::default()).output);
+    let [a, b] = inputs(&[Event::Stop { master: Master::Zero }], &[Event::Tick]);
+    assert_eq!(orders(&a, &b, &Wanted::Groups, How::default()).refused, None);
+    let why = "a.script, b.script: in all 2 orders an event is refused; first: 01";
+    assert_eq!(orders(&a, &b, &Wanted::Groups, strict).refused.as_deref(), Some(why));
+    let good = inputs(&asks(Master::Zero, 0x01), &asks(Master::One, 0x01));
+    assert_eq!(orders(&good[0], &good[1], &Wanted::Groups, strict).refused, None);
+}
+
+/// On a TPT29641, by the library's steps, which the text says; its write pointer rolls, and so a byte
+/// comes to CONTR that asks for the bus.
+#[test]
+fn the_other_part_is_tried_if_asked_for() {
+    let master = Master::Zero;
+    let mut rolls = vec![Event::Command { master, code: 0x87 }];
+    rolls.extend([0, 0, 1].map(|value| Event::Write { master, value }));
+    rolls.push(Event::Stop { master });
+    for named in Part::BOTH {
+        let script = |events: &[Event]| write_script(pins(), named, events);
+        let (a, b) = (input("a", script(&rolls)), input("b", script(&[Event::Tick])));
+        for part in Part::BOTH {
+            let how = How { part: Some(part), strict: true };
+            let made = |wanted| orders(&a, &b, &wanted, how);
+            let text = String::from_utf8(made(Wanted::Groups).output.unwrap()).unwrap();
+            let first = text.lines().next().unwrap();
+            let steps = ", by the library's steps: the call that is proved to list all orders is a PCA9641's";
+            let on = format!(", each on a {part} fresh from power-up");
+            match part {
+                Part::Pca9641 => assert!(first.ends_with(&on), "{first}"),
+                _ => assert!(first.ends_with(&format!("{on}{steps}")), "{first}"),
+            }
+            let owns = text
+                .contains("in all 6 orders controller 0 owns the bus (ground: sole requester)\n");
+            assert_eq!(owns, part == Part::Tpt29641, "{text}");
+            assert_eq!(
+                text.contains("b --part TPT29641 --order 0"),
+                part == Part::Tpt29641,
+                "{text}"
+            );
+            let trace = made(Wanted::Trace("000001".to_string())).output.unwrap();
+            assert_eq!(gunwaleish::run(&trace).unwrap().part, part);
+            let script = made(Wanted::Script("000001".to_string())).output.unwrap();
+            assert!(String::from_utf8(script).unwrap().contains(&format!("\npart {part}\n")));
+        }
+    }
 }

@@ -2,6 +2,8 @@
 //! exit codes, and files in and out.
 
 mod common;
+#[path = "common/rows.rs"]
+mod rows;
 
 use std::collections::BTreeSet;
 use std::fs;
@@ -99,7 +101,12 @@ fn exit_codes_are_for_scripts() {
 #[test]
 fn wrong_use_is_2() {
     let [a, b] = START;
-    let cases: [(&[&str], &str); 9] = [
+    let cases: [(&[&str], &str); 14] = [
+        (&[a, b, "--csv", "--json"], "--csv and --json are both there"),
+        (&[a, b, "--csv", "--all"], "--csv and --json have every order, without --all"),
+        (&[a, b, "--json", "--order", "01"], "--order has no rows, and --csv or --json is there"),
+        (&[a, b, "--part", "PCA9541"], "'PCA9541' is no part, expected --part PCA9641 or"),
+        (&[a, b, "--part"], "--part needs "),
         (&[], "orders needs two files, the script of controller 0 and then that of controller 1"),
         (&[a], "and has 1"),
         (&[a, b, b], "and has 3"),
@@ -150,4 +157,69 @@ fn outputs_go_where_they_should() {
     let output = shell(&format!("{BUILT} orders - {b} < {a}"));
     let found = String::from_utf8(output.stdout).unwrap();
     assert!(found.starts_with("924 orders of 6 events (standard input) and 6 events ("), "{found}");
+}
+
+/// The incident of the wrong file: one controller's script given twice is refused, with the event.
+#[test]
+fn the_other_controllers_script_is_refused() {
+    let [a, b] = START;
+    for (scripts, file, other) in [([a, a], a, 0), ([b, b], b, 1)] {
+        let output = run(&["orders", scripts[0], scripts[1]]);
+        assert_eq!((code(&output), output.stdout.len()), (1, 0));
+        let expected = format!(
+            "gunwaleish: {file}, line 3: 'command {other} 03' is an event of controller {other}, "
+        );
+        assert!(said(&output).starts_with(&expected), "{}", said(&output));
+    }
+}
+
+/// Orders with a refused event are told; with --strict the exit code is 1.
+#[test]
+fn refused_events_are_told() {
+    let folder = Folder::new("orders-refused");
+    let script = folder.path("reset.script");
+    std::fs::write(&script, "pins 0 0 0 1\npart PCA9641\nreset\n").unwrap();
+    let loose = run(&["orders", START[0], &script]);
+    let strict = run(&["orders", START[0], &script, "--strict"]);
+    assert_eq!((code(&loose), code(&strict)), (0, 1));
+    assert_eq!((&loose.stdout, said(&loose)), (&strict.stdout, said(&strict)));
+    assert!(said(&loose).contains(" orders an event is refused; first: 0"), "{}", said(&loose));
+    assert_eq!(code(&run(&["orders", START[0], START[1], "--strict"])), 0);
+}
+
+/// A row an order, in the sequence in which they are listed.
+#[test]
+fn a_row_an_order() {
+    let [a, b] = START;
+    let told = |options: &[&str]| {
+        let output = run(&[&["orders", a, b], options].concat());
+        assert_eq!((code(&output), said(&output).as_str()), (0, ""));
+        String::from_utf8(output.stdout).unwrap()
+    };
+    let table = rows::csv(&told(&["--csv"]));
+    let column = |name| rows::column(&table, name);
+    let numbers: Vec<String> = (1..=924).map(|number: usize| number.to_string()).collect();
+    assert_eq!(column("order"), numbers);
+    let owners = column("owner");
+    let owned = ["0", "1"].map(|m| owners.iter().filter(|owner| *owner == m).count());
+    assert_eq!(owned, [462, 462]);
+    assert_eq!((column("pattern")[25].as_str(), owners[25].as_str()), ("000011111001", "1"));
+    assert!(column("ground").iter().all(|ground| ground == "sole requester"));
+    assert!(column("nobody_owns").iter().all(|flag| flag == "false"));
+    let lines = rows::json_lines(&told(&["--json"]));
+    assert_eq!(lines.len(), 924);
+    assert_eq!(lines[25].at("pattern").text(), "000011111001");
+    assert_eq!(
+        (lines[25].at("owner").number(), lines[25].at("waits0")),
+        (1, &rows::Read::Bool(true))
+    );
+    let other = rows::csv(&told(&["--csv", "--part", "TPT29641"]));
+    assert!(rows::column(&other, "part").iter().all(|part| part == "TPT29641"));
+    assert_eq!(rows::column(&other, "owner"), owners);
+    let forgotten = "traces/orders/start1-no-last-stop.script";
+    let stuck = run(&["orders", a, forgotten, "--csv"]);
+    assert_eq!(code(&stuck), 1);
+    let table = rows::csv(&String::from_utf8(stuck.stdout).unwrap());
+    let flags = rows::column(&table, "nobody_owns");
+    assert_eq!(flags.iter().filter(|flag| *flag == "true").count(), 126);
 }

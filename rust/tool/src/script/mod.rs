@@ -34,6 +34,8 @@ pub struct Script {
     pub part: Part,
     /// The events, and of a script with too many only one more than a trace may have.
     pub events: Vec<Event>,
+    /// Where each of them is.
+    pub lines: Vec<usize>,
     /// Where the first event is that is too many.
     pub overflow_line: Option<usize>,
 }
@@ -58,8 +60,8 @@ pub fn read_script(text: &[u8]) -> Result<Script, Unread> {
     let nowhere = |expected| Unread { line: last, word: String::new(), expected };
     let (pins, pins_line) = reading.pins.ok_or(nowhere(NO_PINS))?;
     let part = reading.part.ok_or(nowhere(NO_PART))?;
-    let Reading { events, overflow_line, .. } = reading;
-    Ok(Script { pins, pins_line, part, events, overflow_line })
+    let Reading { events, lines, overflow_line, .. } = reading;
+    Ok(Script { pins, pins_line, part, events, lines, overflow_line })
 }
 
 /// What was read so far: the pins with their line, the part, and what a script has besides.
@@ -68,6 +70,7 @@ struct Reading {
     pins: Option<(Pins, usize)>,
     part: Option<Part>,
     events: Vec<Event>,
+    lines: Vec<usize>,
     overflow_line: Option<usize>,
 }
 
@@ -104,6 +107,7 @@ impl Reading {
         words.end()?;
         let room = MOST_EVENTS + 1 - self.events.len();
         self.events.extend(vec![event; times.min(room)]);
+        self.lines.resize(self.events.len(), words.line);
         if self.events.len() > MOST_EVENTS {
             self.overflow_line.get_or_insert(words.line);
         }

@@ -3,8 +3,10 @@
 //!
 //! The library lists how the bus stands at the end of each order. Who waits then is no part of that, nor
 //! what the registers hold. It is asked of the library too: each order is run with a READ of both CONTR
-//! and both RT after it, and LOCK_REQ stands in CONTR. `words` puts it all into words.
+//! and both RT after it, and LOCK_REQ stands in CONTR. `words` puts it all into words, and `rows` has it
+//! for other programs.
 
+pub mod rows;
 pub mod words;
 
 use std::fmt;
@@ -54,7 +56,8 @@ impl Pattern {
         Pattern::all(events).into_iter().find(|pattern| pattern.digits() == word)
     }
 
-    fn digits(&self) -> String {
+    /// A 0 or 1 for each event.
+    pub fn digits(&self) -> String {
         self.0.iter().map(usize::to_string).collect()
     }
 }

@@ -1,8 +1,8 @@
 //! All orders of two scripts in words.
 
-use gunwaleish::Master;
+use gunwaleish::{Master, Part};
 
-use super::{Ending, Group};
+use super::{Ending, Group, PART};
 use crate::words::{capital, count};
 
 /// A line for each group, and after them, set apart, those in which nobody owns the bus though
@@ -21,10 +21,16 @@ pub fn told(endings: &[Ending], groups: &[Group]) -> String {
     for group in groups.iter().filter(is_stuck) {
         text.push_str(&line(group, all));
     }
-    if let Some((first, some)) = first_and_some(endings, |ending| ending.refused > 0) {
-        text.push_str(&format!("\n{} an event is refused; first: {first}\n", capital(&some)));
+    if let Some(refused) = refused(endings) {
+        text.push_str(&format!("\n{}\n", capital(&refused)));
     }
     text
+}
+
+/// In how many orders an event is refused, and in which first, if there are any.
+pub fn refused(endings: &[Ending]) -> Option<String> {
+    let (first, some) = first_and_some(endings, |ending| ending.refused > 0)?;
+    Some(format!("{some} an event is refused; first: {first}"))
 }
 
 /// In how many orders nobody owns the bus though somebody asks for it, if there are any.
@@ -110,11 +116,15 @@ fn who(flags: [bool; 2]) -> &'static str {
     }
 }
 
-/// So many orders, and of what.
-pub fn head(names: [&str; 2], lengths: [usize; 2], all: usize) -> String {
+/// So many orders, of what, and on which part.
+pub fn head(names: [&str; 2], lengths: [usize; 2], part: Part, all: usize) -> String {
     let of = |script: usize| format!("{} ({})", count(lengths[script], "event"), names[script]);
+    let how = match part {
+        PART => "",
+        _ => ", by the library's steps: the call that is proved to list all orders is a PCA9641's",
+    };
     format!(
-        "{} of {} and {}, each on a PCA9641 fresh from power-up\n",
+        "{} of {} and {}, each on a {part} fresh from power-up{how}\n",
         count(all, "order"),
         of(0),
         of(1)
