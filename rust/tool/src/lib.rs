@@ -24,6 +24,7 @@ pub mod order;
 pub mod picture;
 pub mod release;
 pub mod script;
+pub mod seen;
 pub mod sha256;
 pub mod share;
 pub mod shelf;

@@ -4,10 +4,12 @@ use std::fs;
 use std::path::{Path, PathBuf};
 
 use gunwaleish::{import_capture, run, Event, Master, Part, Pins};
-use gunwaleish_tool::commands::import::import;
+use gunwaleish_tool::commands::import::{import, Wanted};
 use gunwaleish_tool::cut::{cuts, Cut};
 use gunwaleish_tool::device::Device;
+use gunwaleish_tool::each::Made;
 use gunwaleish_tool::files::Input;
+use gunwaleish_tool::seen::Seen;
 use model::capture::{transfers, Edge, Transfer, MOST_SAMPLES};
 use model::capture_damage::{about_bytes, any_samples, damaged, densest, lengthen};
 use model::captures::{any_manner, capture, Manner};
@@ -30,6 +32,10 @@ fn input(bytes: &[u8]) -> Input {
     Input { name: "a.capture".to_string(), bytes: bytes.to_vec() }
 }
 
+fn imported(input: &Input, script: bool, empty: bool) -> (Made, Option<String>) {
+    import(input, Wanted { device: BOX_14, script, empty })
+}
+
 #[test]
 fn the_sample_is_as_it_is_drawn() {
     assert!(file("box14.capture") == box14_capture::samples());
@@ -38,8 +44,8 @@ fn the_sample_is_as_it_is_drawn() {
 #[test]
 fn the_sample_gives_its_script_and_its_trace() {
     let capture = input(&file("box14.capture"));
-    assert!(import(&capture, BOX_14, true).output == Some(file("box14.script")));
-    assert!(import(&capture, BOX_14, false).output == Some(file("box14.trace")));
+    assert!(imported(&capture, true, false).0.output == Some(file("box14.script")));
+    assert!(imported(&capture, false, false).0.output == Some(file("box14.trace")));
 }
 
 /// The capture shows the upstream transfers of the incident, and neither its ticks nor its lines.
@@ -121,8 +127,9 @@ fn refused_captures_are_told() {
     for _ in 0..500 {
         let length = rng.below(120) as usize;
         let samples = any_samples(&mut rng, length);
-        let made = import(&input(&samples), BOX_14, rng.percent(50));
+        let (made, summary) = imported(&input(&samples), rng.percent(50), true);
         assert_eq!(made.output.is_some(), made.refused.is_none());
+        assert_eq!(made.output.is_some(), summary.is_some());
         if let Some(said) = made.refused {
             assert!(
                 said.starts_with("a.capture: refusal 12: ") && said.contains("(bus "),
@@ -132,7 +139,7 @@ fn refused_captures_are_told() {
         }
     }
     assert!(refused > 50, "{refused}");
-    let long = import(&input(&[0x0F; MOST_SAMPLES + 1]), BOX_14, false);
+    let (long, _) = imported(&input(&[0x0F; MOST_SAMPLES + 1]), false, true);
     let said = long.refused.unwrap();
     assert!(said.starts_with("a.capture: refusal 13: ") && !said.contains("bus"), "{said}");
 }
@@ -151,4 +158,85 @@ fn repeated_samples_say_nothing() {
         assert_eq!(import_capture(&changes, made.address), events);
         assert_eq!(import_capture(&slow, made.address), events);
     }
+}
+
+/// The first bytes of the transfers, as the model has them.
+fn model_seen(samples: &[u8]) -> [Vec<u8>; 2] {
+    [0, 1].map(|bus| {
+        let transfers = transfers(samples, bus).into_iter();
+        transfers.filter_map(|transfer| Some(transfer.bytes.first()?.0)).collect()
+    })
+}
+
+#[test]
+fn what_is_seen_is_the_models() {
+    let mut rng = Rng::new(16);
+    let mut seen = 0;
+    for _ in 0..60 {
+        let manner = any_manner(&mut rng);
+        let made = capture(&mut rng, manner, 600);
+        let length = rng.below(300) as usize;
+        let any = any_samples(&mut rng, length);
+        for samples in [&made.samples, &damaged(&mut rng, &made.samples), &any] {
+            let found = Seen::of(samples);
+            assert_eq!((&found.first_bytes, found.samples), (&model_seen(samples), samples.len()));
+            seen += found.transfers();
+        }
+    }
+    assert!(seen > 1000, "{seen}");
+}
+
+/// What every import says, and what it says instead of writing a trace of no events.
+#[test]
+fn what_is_seen_is_told() {
+    let capture = input(&file("box14.capture"));
+    let of =
+        |address: u8| Wanted { device: Device { address, ..BOX_14 }, script: false, empty: false };
+    let (_, summary) = import(&capture, of(0x71));
+    let transfers: Vec<u8> = model_seen(&capture.bytes).concat();
+    let times = transfers.iter().filter(|&&byte| byte / 2 == 0x71).count();
+    assert_eq!(transfers.len(), times + 1);
+    let [bus0, bus1] = model_seen(&capture.bytes).map(|bus| bus.len());
+    let events = import_capture(&capture.bytes, 0x71).unwrap().len();
+    let expected = format!(
+        "a.capture: {} samples; {} transfers (bus 0: {bus0}, bus 1: {bus1}): 71h {times} times, 2Eh once; \
+         1 skipped; {events} events",
+        capture.bytes.len(),
+        transfers.len()
+    );
+    assert_eq!(summary.as_deref(), Some(expected.as_str()));
+    // Another address: what was seen, and no trace.
+    let (made, summary) = import(&capture, of(0x70));
+    assert_eq!((made.output, summary), (None, None));
+    let why = format!(
+        "a.capture: no transfer for 70h; seen: 71h {times} times, 2Eh once; {} transfers skipped; --empty \
+         writes it all the same",
+        transfers.len()
+    );
+    assert_eq!(made.refused.as_deref(), Some(why.as_str()));
+    let (made, summary) = import(&capture, Wanted { empty: true, ..of(0x70) });
+    assert_eq!(run(&made.output.unwrap()).unwrap().events, []);
+    assert!(summary.unwrap().ends_with("; 0 events"));
+    let cases: [(&[u8], &str); 2] = [
+        (&[], "a.capture: no sample; --empty"),
+        (
+            &[0x0F; 100],
+            "a.capture: no transfer in 100 samples; bits 0 to 3 are to be SCL0, SDA0, SCL1 and",
+        ),
+    ];
+    for (samples, expected) in cases {
+        let (made, _) = import(&input(samples), of(0x71));
+        assert_eq!(made.output, None);
+        assert!(made.refused.as_ref().unwrap().starts_with(expected), "{:?}", made.refused);
+    }
+    // A transfer that ends after its address.
+    let mut probe = vec![0x0F, 0x0D];
+    for bit in [1, 1, 1, 0, 0, 0, 1, 0, 1] {
+        probe.extend([0x0C, 0x0C | bit << 1, 0x0D | bit << 1, 0x0C | bit << 1]);
+    }
+    probe.extend([0x0C, 0x0D, 0x0F]);
+    let (made, _) = import(&input(&probe), of(0x71));
+    let why =
+        "a.capture: no event: 1 transfer for 71h, but without a data byte; seen: 71h once; --empty";
+    assert!(made.refused.as_ref().unwrap().starts_with(why), "{:?}", made.refused);
 }

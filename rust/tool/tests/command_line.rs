@@ -130,13 +130,39 @@ fn captures_go_where_they_should() {
         "gunwaleish: {cut}: refusal 12: a START or STOP inside a byte, or the capture ends inside one \
          (bus 0: the capture ends inside a byte)\n"
     );
-    assert_eq!(said(&both), expected);
+    let said_of = said(&both);
+    let (summary, refused) = said_of.split_once('\n').unwrap();
+    assert!(summary.starts_with(&format!("gunwaleish: {whole}: ")), "{summary}");
+    assert!(summary.contains(" transfers (bus 0: ") && summary.contains("2Eh once; 1 skipped; "));
+    assert_eq!(refused, expected);
     let device = ["--address", "71", "--part", "PCA9641"];
     let told = run(&[&["import", &whole, "--script"], &device[..], &["-o", to]].concat());
     assert_eq!(code(&told), 0);
     assert_eq!(folder.files(), ["cut.capture", "whole.capture", "whole.script", "whole.trace"]);
     let script = fs::read(root().join("traces/box14.script")).unwrap();
     assert_eq!(fs::read(folder.path("whole.script")).unwrap(), script);
+}
+
+/// What the page shows of imports, word for word: the line about one, and one from which no event comes.
+#[test]
+fn imports_say_what_the_page_has() {
+    let folder = Folder::new("imports");
+    let page = fs::read_to_string(root().join("docs/CAPTURES.md")).unwrap();
+    let command = "\n    build/release/gunwaleish import ";
+    let mut codes = vec![];
+    for part in page.split(command).skip(1) {
+        let Some((line, rest)) = part.split_once("\n\n```\n") else { continue };
+        if line.contains('\n') {
+            continue;
+        }
+        let (expected, _) = rest.split_once("```\n").unwrap();
+        let line = line.replace(" build/", &format!(" {}/", folder.path("")));
+        let words: Vec<&str> = line.split(' ').collect();
+        let output = run(&[&["import"], &words[..]].concat());
+        assert_eq!((said(&output).as_str(), output.stdout.len()), (expected, 0));
+        codes.push(code(&output));
+    }
+    assert_eq!(codes, [0, 1]);
 }
 
 /// The help of each command, and its example, which works.
