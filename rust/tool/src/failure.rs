@@ -30,6 +30,14 @@ impl Failure {
         }
     }
 
+    /// What it says; nothing where that was told already.
+    pub fn text(&self) -> &str {
+        match self {
+            Failure::Refused(text) | Failure::Wrong(text) => text,
+            Failure::NotReleased | Failure::OfMany { .. } | Failure::Closed => "",
+        }
+    }
+
     pub fn code(&self) -> u8 {
         match self {
             Failure::Closed => 0,

@@ -34,6 +34,7 @@ pub mod stuck;
 pub mod summary;
 pub mod svg;
 pub mod table;
+pub mod walk;
 pub mod words;
 
 use std::ffi::OsString;

@@ -2,6 +2,7 @@
 //!
 //! A thread takes the next trace that nobody has taken. It has one buffer for the traces it reads
 //! and one for their answers, and keeps its own tally; at the end the tallies are added.
+//! A row a trace is kept where it is asked for.
 
 use std::collections::BTreeMap;
 use std::fs::File;
@@ -13,11 +14,11 @@ use std::sync::mpsc::{channel, RecvTimeoutError, Sender};
 use std::thread;
 use std::time::Duration;
 
-use gunwaleish::{MOST_EVENTS, MOST_TRACE};
+use gunwaleish::{Outcome, Report, MOST_EVENTS, MOST_TRACE};
 
 use crate::each::refused;
 use crate::failure::Failure;
-use crate::files::{name_of, Input};
+use crate::files::{is_standard, name_of, Input};
 
 /// What came of some traces.
 #[derive(Clone, Debug, Default, PartialEq, Eq)]
@@ -30,16 +31,30 @@ pub struct Tally {
     pub refused: BTreeMap<u8, usize>,
     /// Why a trace is refused or cannot be read, with its place among all.
     pub failures: Vec<(usize, Failure)>,
+    /// What came of each, with its place, where rows are asked for.
+    pub rows: Vec<(usize, Came)>,
+}
+
+/// What came of one trace.
+#[derive(Clone, Copy, Debug, PartialEq, Eq)]
+pub enum Came {
+    /// It ran, and so many of its events were refused.
+    Ran { report: Report, refused: usize },
+    /// It is refused, with this number.
+    Refused(u8),
+    /// It cannot be read.
+    Unread,
 }
 
 impl Tally {
-    fn add(&mut self, other: Tally) {
+    pub fn add(&mut self, other: Tally) {
         self.traces += other.traces;
         self.events += other.events;
         for (number, count) in other.refused {
             *self.refused.entry(number).or_default() += count;
         }
         self.failures.extend(other.failures);
+        self.rows.extend(other.rows);
     }
 }
 
@@ -48,15 +63,21 @@ pub fn cores() -> usize {
     thread::available_parallelism().map_or(1, NonZero::get)
 }
 
-/// Runs these traces on so many threads. Every now and then it says how many are done.
-pub fn run_all(paths: &[PathBuf], threads: usize, mut progress: impl FnMut(usize)) -> Tally {
+/// Runs these traces on so many threads, with a row for each or without. Every now and then it says how
+/// many are done.
+pub fn run_all(
+    paths: &[PathBuf],
+    threads: usize,
+    rows: bool,
+    mut progress: impl FnMut(usize),
+) -> Tally {
     let (taken, done) = (AtomicUsize::new(0), AtomicUsize::new(0));
     let mut all = thread::scope(|scope| {
         // A worker drops its end when it is through; nothing is ever sent.
         let (end, ended) = channel::<()>();
         let workers: Vec<_> = (0..threads.clamp(1, paths.len().max(1)))
             .map(|_| (end.clone(), &taken, &done))
-            .map(|(end, taken, done)| scope.spawn(move || work(paths, taken, done, end)))
+            .map(|(end, taken, done)| scope.spawn(move || work(paths, taken, rows, done, end)))
             .collect();
         drop(end);
         while ended.recv_timeout(Duration::from_millis(200)) == Err(RecvTimeoutError::Timeout) {
@@ -72,11 +93,18 @@ pub fn run_all(paths: &[PathBuf], threads: usize, mut progress: impl FnMut(usize
         all
     });
     all.failures.sort_by_key(|(place, _)| *place);
+    all.rows.sort_by_key(|(place, _)| *place);
     all
 }
 
 /// One thread's traces, until none is left.
-fn work(paths: &[PathBuf], taken: &AtomicUsize, done: &AtomicUsize, _end: Sender<()>) -> Tally {
+fn work(
+    paths: &[PathBuf],
+    taken: &AtomicUsize,
+    rows: bool,
+    done: &AtomicUsize,
+    _end: Sender<()>,
+) -> Tally {
     let mut tally = Tally::default();
     let mut trace = Vec::with_capacity(MOST_TRACE + 1);
     let mut answers = vec![0; 4 * MOST_EVENTS];
@@ -85,24 +113,37 @@ fn work(paths: &[PathBuf], taken: &AtomicUsize, done: &AtomicUsize, _end: Sender
         let Some(path) = paths.get(place) else {
             return tally;
         };
-        run_one(path, place, &mut trace, &mut answers, &mut tally);
+        let came = run_one(path, place, &mut trace, &mut answers, &mut tally);
+        tally.rows.extend(rows.then_some((place, came)));
         done.fetch_add(1, Ordering::Relaxed);
     }
 }
 
-fn run_one(path: &Path, place: usize, trace: &mut Vec<u8>, answers: &mut [u8], tally: &mut Tally) {
+fn run_one(
+    path: &Path,
+    place: usize,
+    trace: &mut Vec<u8>,
+    answers: &mut [u8],
+    tally: &mut Tally,
+) -> Came {
     if let Err(error) = read_into(path, trace) {
         let failure = Failure::Wrong(format!("{} cannot be read: {error}", name_of(path)));
         tally.failures.push((place, failure));
-        return;
+        return Came::Unread;
     }
     tally.traces += 1;
     match gunwaleish::run_trace(trace, answers) {
-        Ok(report) => tally.events += report.events as u64,
+        Ok(report) => {
+            tally.events += report.events as u64;
+            let first = answers[..4 * report.events].iter().step_by(4);
+            let refused = first.filter(|&&number| Outcome::of(number).is_refused()).count();
+            Came::Ran { report, refused }
+        }
         Err(refusal) => {
             *tally.refused.entry(refusal.number()).or_default() += 1;
             let input = Input { name: name_of(path), bytes: trace.clone() };
             tally.failures.push((place, Failure::Refused(refused(&input, refusal))));
+            Came::Refused(refusal.number())
         }
     }
 }
@@ -110,6 +151,10 @@ fn run_one(path: &Path, place: usize, trace: &mut Vec<u8>, answers: &mut [u8], t
 /// Of a longer file one byte more than a trace may have, which shows that there is more.
 fn read_into(path: &Path, trace: &mut Vec<u8>) -> io::Result<()> {
     trace.clear();
-    File::open(path)?.take(MOST_TRACE as u64 + 1).read_to_end(trace)?;
+    let most = MOST_TRACE as u64 + 1;
+    match is_standard(path) {
+        true => io::stdin().lock().take(most).read_to_end(trace)?,
+        false => File::open(path)?.take(most).read_to_end(trace)?,
+    };
     Ok(())
 }

@@ -7,10 +7,10 @@ use std::path::PathBuf;
 use std::slice::from_ref;
 
 use gunwaleish::{Master, Totals};
-use gunwaleish_tool::share::find::find;
 use gunwaleish_tool::share::progress::Progress;
 use gunwaleish_tool::share::stream::of_stream;
-use gunwaleish_tool::share::{of_files, words, Counted, MOST_TRACES};
+use gunwaleish_tool::share::{kept, of_files, words, Counted, MOST_TRACES};
+use gunwaleish_tool::walk::find;
 use gunwaleish_tool::{story, summary};
 use model::report::{input_of, totals_of_input};
 use model::rng::Rng;
@@ -108,14 +108,18 @@ fn what_is_found_and_what_is_skipped() {
     let folder = Folder::new("share-found");
     let found = |names: &[PathBuf]| find(names);
     let shown = folder.0.display();
-    assert_eq!(found(from_ref(&folder.0)).said, [format!("{shown}: 0 traces")]);
-    let names = ["b.trace", "a.trace", "deep/c.trace", "notes.txt", ".trace", "trace"];
+    // A folder without a trace is a failure, and says so itself.
+    let none = found(from_ref(&folder.0));
+    assert_eq!((none.files.len(), none.said.len(), none.unread.len()), (0, 0, 0));
+    let failures: Vec<(&str, u8)> = none.failures().map(|f| (f.text(), f.code())).collect();
+    assert_eq!(failures, [(format!("{shown}: no trace").as_str(), 1)]);
+    let names = ["b.trace", "a.trace", "deep/c.TRACE", "notes.txt", ".trace", "trace"];
     let paths = names.map(|name| folder.write(name, &[]));
     let all = found(&[paths[3].clone(), folder.0.clone(), paths[0].clone()]);
     let order = [3, 1, 0, 2, 0].map(|place: usize| paths[place].clone());
     assert_eq!(all.files, order);
     let said = format!("{shown}: 3 traces; skipped: 3 files that do not end in .trace");
-    assert_eq!(all.said, [said]);
+    assert_eq!((all.said.as_slice(), all.failures().count()), (&[said][..], 0));
     #[cfg(unix)]
     {
         let link = |to: &str, name: &str| {
@@ -129,6 +133,99 @@ fn what_is_found_and_what_is_skipped() {
         let (counted, unread) = of_files(&all.files, 2, &quiet()).unwrap();
         assert_eq!((counted.totals.traces(), unread.len()), (4, 1));
         assert!(all.said[0].ends_with("not end in .trace, 1 link to folders"), "{:?}", all.said);
+    }
+}
+
+/// Each trace has its own totals, which add up to all; the longest wait is that of the first trace that
+/// has it, whatever the threads.
+#[test]
+fn each_trace_has_its_own_totals() {
+    let mut rng = Rng::new(37);
+    for round in 0..20 {
+        let traces: Vec<Vec<u8>> = (0..rng.below(40)).map(|_| any_trace(&mut rng)).collect();
+        let input = input_of(&traces);
+        for counted in THREADS.map(|threads| stream(&input, threads)) {
+            assert_eq!(counted.each.len(), traces.len());
+            let mut longest = [(0, None); 2];
+            for (place, (at, own)) in counted.each.iter().enumerate() {
+                let mut expected = model::Totals::default();
+                expected.add(&traces[place]);
+                assert_eq!((*at, numbers(own)), (place, expected.numbers()), "round {round}");
+                for (m, most) in Master::BOTH.into_iter().zip(&mut longest) {
+                    if own.longest(m) > most.0 {
+                        *most = (own.longest(m), Some(place));
+                    }
+                }
+            }
+            let found = Master::BOTH.map(|m| (counted.totals.longest(m), counted.longest_in(m)));
+            assert_eq!(found, longest, "round {round}");
+        }
+    }
+}
+
+/// Traces split among any number of counts, in any order, written out and joined: the totals of one.
+#[test]
+fn totals_that_were_kept_are_joined() {
+    let mut rng = Rng::new(38);
+    for round in 0..30 {
+        let traces: Vec<Vec<u8>> = (0..rng.below(40)).map(|_| any_trace(&mut rng)).collect();
+        let parts = 1 + rng.below(6) as usize;
+        let mut split: Vec<Vec<Vec<u8>>> = vec![vec![]; parts];
+        for trace in &traces {
+            split[rng.below(parts as u64) as usize].push(trace.clone());
+        }
+        let mut texts: Vec<String> =
+            split.iter().map(|part| kept::write(&stream(&input_of(part), 2).totals)).collect();
+        (1..parts).for_each(|at| texts.swap(at, rng.below(at as u64 + 1) as usize));
+        let mut joined = Totals::new();
+        for text in &texts {
+            let read = kept::read(text.as_bytes()).unwrap();
+            assert_eq!(kept::write(&read), *text);
+            joined.join(&read).unwrap();
+        }
+        let whole = stream(&input_of(&traces), 1).totals;
+        assert_eq!((joined, numbers(&joined)), (whole, numbers(&whole)), "round {round}");
+    }
+}
+
+/// What is no totals, or was cut or changed, is told with its line where there is one.
+#[test]
+fn what_is_no_totals_is_refused() {
+    let mut rng = Rng::new(39);
+    let traces: Vec<Vec<u8>> = (0..20).map(|_| any_trace(&mut rng)).collect();
+    let text = kept::write(&stream(&input_of(&traces), 2).totals);
+    assert_eq!(text.lines().count(), 1 + 17 + 1);
+    for length in 0..text.len() - 1 {
+        assert!(kept::read(&text.as_bytes()[..length]).is_err(), "{length}");
+    }
+    assert!(kept::read(text.replace('\n', "\r\n").as_bytes()).is_ok());
+    let changed = |from: &str, to: &str| {
+        let changed: String = text
+            .lines()
+            .map(
+                |line| if line.starts_with(from) { format!("{to}\n") } else { format!("{line}\n") },
+            )
+            .collect();
+        kept::read(changed.as_bytes()).unwrap_err()
+    };
+    let cases = [
+        ("gunwaleish", "gunwaleish totals 2", "line 1: it is of another version"),
+        ("gunwaleish", "70 0004", "it does not begin with the line gunwaleish totals 1"),
+        ("traces", "traces 70000", "these are no totals: there are more than 65,535 traces"),
+        ("traces", "traces 0", "these are no totals: more traces are refused than there are"),
+        ("traces", "traces -1", "line 2: expected traces and a number"),
+        ("traces", "ticks 4", "line 2: expected traces and a number"),
+        ("ticks", "ticks 18446744073709551615", "do not add up to the ticks"),
+        ("ticks", "ticks 18446744073709551616", "line 3: expected ticks and a number"),
+        ("connected1", "connected1 99999999", "a controller is connected longer than it owned"),
+        ("waited0", "waited0 99999999", "a controller waits while it owns"),
+        ("longest0", "longest0 99999999", "a longest wait is longer than the waits"),
+        ("end", "ende", "line 19: expected end"),
+        ("end", "end\nend", "line 20: there are lines after end"),
+    ];
+    for (from, to, expected) in cases {
+        let why = changed(from, to);
+        assert!(why.contains(expected), "{to}: {why}");
     }
 }
 

@@ -1,89 +1,136 @@
-//! `run`: many traces on all cores, and one line of what came of them.
+//! `run`: many traces on all cores, and one line of what came of them, or a row a trace.
 
-use std::fs;
 use std::io::{self, IsTerminal, Write};
-use std::path::{Path, PathBuf};
+use std::path::PathBuf;
 use std::time::{Duration, Instant};
 
 use super::Command;
 use crate::arguments::Arguments;
 use crate::failure::Failure;
-use crate::files::{self, is_standard};
-use crate::many::{cores, run_all, Tally};
+use crate::files::{self, is_standard, name_of};
+use crate::json::Value;
+use crate::many::{cores, run_all, Came, Tally};
+use crate::table::{Columns, Form};
+use crate::walk::{find, Found};
 use crate::words::count;
 
 pub const COMMAND: Command = Command {
     name: "run",
     summary: "folders of traces, run on all cores, and one line of what came of them",
-    usage: "FOLDER...",
-    help: "Every file of a folder whose name ends in .trace is run, on all cores, and its answers are\n\
-           dropped; a trace may be named by itself, too. The line at the end has how many traces and\n\
+    usage: "PATH... [--csv | --json]",
+    help: "A PATH is a trace, or a folder, in which and in whose folders every file that ends in .trace, in\n\
+           any letters, is one; what is skipped is told. - is one trace on standard input. They are run\n\
+           on all cores, and their answers are dropped. The line at the end has how many traces and\n\
            events there were, how many traces were refused and by what numbers, and the events a\n\
-           second, the reading of the files included. Each refused trace is told on standard error.\n\
-           On a terminal the progress is shown there meanwhile.\n\n\
-           Exit code: 0 all traces ran; 1 some are refused; 2 wrong use, or a file that cannot be\n\
-           read.",
-    options: &[],
+           second, the reading of the files included. Each refused trace is told on standard error. On\n\
+           a terminal the progress is shown there meanwhile.\n\n\
+           --csv and --json have a row a trace instead, in the order of the names, and the line on\n\
+           standard error; docs/FORMATS.md has the columns. Each row of --json is a line of its own, so\n\
+           that those of several runs may be put behind each other.\n\n\
+           Exit code: 0 all traces ran; 1 some are refused, or a folder has none; 2 wrong use, or a file\n\
+           that cannot be read.",
+    options: &[("--csv", 0), ("--json", 0)],
     example: "build/release/gunwaleish run traces || echo 'some are refused'",
     run,
 };
+
+/// The columns of a row.
+pub const COLUMNS: Columns =
+    &["trace", "result", "refusal", "address", "part", "events", "refused_events", "why"];
+
+/// So many traces are run before their rows are written, so that a long night needs no more memory
+/// than a short one.
+const ROWS: usize = 4096;
 
 fn run(arguments: &Arguments) -> Result<(), Failure> {
     if arguments.output.is_some() {
         return Err(wrong("run writes no file, so there is no -o"));
     }
-    let paths = traces_of(&arguments.files)?;
+    let form = Form::asked(COMMAND.name, arguments)?;
+    let found = traces_of(&arguments.files)?;
+    found.said.iter().for_each(|line| files::complain(line));
+    found.failures().for_each(Failure::say);
     let start = Instant::now();
-    let terminal = io::stderr().is_terminal();
-    let tally = run_all(&paths, cores(), |done| {
-        if terminal {
-            let _ = write!(io::stderr(), "\r{done} of {}", paths.len());
-        }
-    });
-    let time = start.elapsed();
-    if terminal {
-        let _ = writeln!(io::stderr(), "\r{} of {0}", paths.len());
+    let tally = run_in_parts(&found.files, form)?;
+    let line = closing(&tally, start.elapsed());
+    match form {
+        None => files::print(&line)?,
+        Some(_) => files::complain(line.trim_end()),
     }
-    tally.failures.iter().for_each(|(_, failure)| failure.say());
-    files::print(&closing(&tally, time))?;
-    match tally.failures.iter().map(|(_, failure)| failure.code()).max() {
+    let failures = tally.failures.iter().map(|(_, failure)| failure).chain(found.failures());
+    match failures.map(Failure::code).max() {
         None => Ok(()),
         Some(code) => Err(Failure::OfMany { refused: code == 1 }),
     }
 }
 
-/// The traces of these folders by name, a folder after the other. A file is a trace itself.
-fn traces_of(named: &[PathBuf]) -> Result<Vec<PathBuf>, Failure> {
+/// The traces of these names.
+fn traces_of(named: &[PathBuf]) -> Result<Found, Failure> {
     if named.is_empty() {
         return Err(wrong("run needs a folder of traces"));
     }
-    let mut all = vec![];
-    for path in named {
-        if is_standard(path) {
-            return Err(wrong("run reads no standard input"));
-        }
-        match path.is_dir() {
-            true => all.extend(traces_in(path)?),
-            false => all.push(path.clone()),
-        }
+    if named.iter().filter(|path| is_standard(path)).count() > 1 {
+        return Err(wrong("standard input is there twice"));
     }
-    Ok(all)
+    Ok(find(named))
 }
 
-fn traces_in(folder: &Path) -> Result<Vec<PathBuf>, Failure> {
-    let failed = |error| Failure::Wrong(format!("{} cannot be read: {error}", folder.display()));
-    let mut paths = vec![];
-    for entry in fs::read_dir(folder).map_err(failed)? {
-        let path = entry.map_err(failed)?.path();
-        if path.extension().is_some_and(|ending| ending == "trace") {
-            paths.push(path);
+/// Runs all, and after each part writes its rows and says why some are refused.
+fn run_in_parts(paths: &[PathBuf], form: Option<Form>) -> Result<Tally, Failure> {
+    let terminal = io::stderr().is_terminal();
+    let mut whole = Tally::default();
+    let mut done = 0;
+    if let Some(form) = form {
+        files::print(&form.head(COLUMNS))?;
+    }
+    for part in paths.chunks(form.map_or(paths.len().max(1), |_| ROWS)) {
+        let mut tally = run_all(part, cores(), form.is_some(), |more| {
+            if terminal {
+                let _ = write!(io::stderr(), "\r{} of {}", done + more, paths.len());
+            }
+        });
+        done += part.len();
+        if terminal && (done == paths.len() || !tally.failures.is_empty()) {
+            let _ = writeln!(io::stderr(), "\r{done} of {}", paths.len());
         }
+        tally.failures.iter().for_each(|(_, failure)| failure.say());
+        if let Some(form) = form {
+            files::print(&rows(part, &tally, form))?;
+        }
+        tally.rows.clear();
+        whole.add(tally);
     }
-    paths.sort();
-    match paths.is_empty() {
-        true => Err(wrong(&format!("{} has no file that ends in .trace", folder.display()))),
-        false => Ok(paths),
-    }
+    Ok(whole)
+}
+
+/// A row a trace.
+pub fn rows(paths: &[PathBuf], tally: &Tally, form: Form) -> String {
+    let mut failures = tally.failures.iter().peekable();
+    let rows = tally.rows.iter().map(|&(place, came)| {
+        // Both are in the order of the places.
+        let why = failures.next_if(|(failed, _)| *failed == place);
+        row(name_of(&paths[place]), came, why.map(|(_, failure)| failure.text()))
+    });
+    rows.map(|row| form.row(COLUMNS, &row)).collect()
+}
+
+fn row(name: String, came: Came, why: Option<&str>) -> Vec<Value> {
+    let (result, refusal) = match came {
+        Came::Ran { .. } => ("ran", None),
+        Came::Refused(number) => ("refused", Some(number)),
+        Came::Unread => ("unread", None),
+    };
+    let ran = match came {
+        Came::Ran { report, refused } => [
+            format!("{:02X}", report.address).into(),
+            report.part.name().into(),
+            report.events.into(),
+            refused.into(),
+        ],
+        _ => [Value::Null, Value::Null, Value::Null, Value::Null],
+    };
+    let front = [name.into(), result.into(), refusal.into()];
+    front.into_iter().chain(ran).chain([why.into()]).collect()
 }
 
 /// The one line: traces, events, refused by number, events a second.

@@ -1,58 +1,74 @@
 //! `share`: how two controllers shared the bus, over many traces.
 
 use std::fs::File;
-use std::io;
+use std::io::{self, Read};
 use std::path::{Path, PathBuf};
 use std::thread;
 
-use gunwaleish::{Refusal, MOST_TRACE};
-
 use super::Command;
 use crate::arguments::Arguments;
-use crate::each::{output_of, refused, Made};
+use crate::each::{output_of, Made};
 use crate::failure::Failure;
 use crate::files::{self, is_standard, name_of};
-use crate::share::find::find;
 use crate::share::progress::Progress;
-use crate::share::stream::of_stream;
-use crate::share::{of_files, words, Counted};
+use crate::share::stream::{name_in, of_stream};
+use crate::share::{kept, of_files, rows, words, Counted};
+use crate::table::Form;
+use crate::walk::find;
 
 pub const COMMAND: Command = Command {
     name: "share",
     summary: "over many traces, the ticks each controller owned the bus, was connected and waited",
-    usage: "PATH... [--stream] [--table] [--threads N] [-o OUT]",
-    help: "A PATH is a trace, or a folder, in which and in whose folders every file that ends in .trace is\n\
-           one; what is skipped is told. With --stream the one PATH holds many traces, each after its\n\
-           length in two bytes, low first; - is standard input and is read so.\n\n\
+    usage: "(PATH... [--threads N] | --stream FILE [--threads N] | --join FILE...)\n       \
+            [--table | --csv | --json] [--totals OUT] [-o OUT]",
+    help: "A PATH is a trace, or a folder, in which and in whose folders every file that ends in .trace, in\n\
+           any letters, is one; what is skipped is told. - is one trace on standard input. With --stream\n\
+           the one FILE, or -, holds many traces, each after its length in two bytes, low first.\n\n\
            The output is a line a controller: its number, then the ticks it owned the bus, was\n\
            connected, and waited (its LOCK_REQ stands, and it is not granted). What counts is the\n\
            state after each accepted TICK, so a reserve of 50 ticks that is granted at a STOP shows\n\
-           49 owned. --table has the same with per cent of all ticks, the longest wait of each, the\n\
-           ticks nobody owned, and the refused traces by number.\n\n\
+           49 owned. --table has the same with per cent of all ticks, the longest wait of each and the\n\
+           trace that has it, the ticks nobody owned, and the refused traces by number. --csv and\n\
+           --json have a row a trace and a last one for all; docs/FORMATS.md has the columns.\n\n\
+           --totals OUT writes the totals to a file besides. --join puts such files together, as if one\n\
+           process had counted all their traces: docs/SHARE.md tells how several machines share a night.\n\n\
            A refused trace adds nothing but one to the count of its number, and is told. A stream that\n\
            ends inside a length or a trace has one trace more, refused with 5; so is a length of 0.\n\
            The first 65,535 traces are counted, refused ones included; if there are more, R6 stands\n\
            after the two lines. All processors work on it, or N threads, which changes no figure; nor\n\
            does the order of as many traces as are counted.\n\n\
-           Exit code: 0 done, also with refused traces; 1 there are more than 65,535 traces; 2 wrong\n\
-           use, or something cannot be read, which is told, or written; what can be read is counted.",
-    options: &[("--stream", 0), ("--table", 0), ("--threads", 1)],
+           Exit code: 0 done, also with refused traces among the others; 1 there is no trace, or none in\n\
+           a folder, all are refused, there are more than 65,535, or a file of --join is no totals; 2\n\
+           wrong use, or something cannot be read, which is told, or written; what can be read is\n\
+           counted, but of --join nothing.",
+    options: &[
+        ("--stream", 0),
+        ("--join", 0),
+        ("--table", 0),
+        ("--csv", 0),
+        ("--json", 0),
+        ("--totals", 1),
+        ("--threads", 1),
+    ],
     example: "build/release/gunwaleish share traces --table",
     run,
 };
 
 fn run(arguments: &Arguments) -> Result<(), Failure> {
     let paths = arguments.files.as_slice();
-    let stream = arguments.options.contains_key("--stream");
+    let has = |name| arguments.options.contains_key(name);
+    let report = Report::asked(arguments)?;
     let threads = threads(arguments)?;
-    match paths {
-        [] => Err(wrong("share needs a trace, a folder of traces, or - for a stream of them")),
-        [one] if stream || is_standard(one) => share_stream(arguments, one, threads),
-        _ if stream => Err(wrong(&format!("--stream needs one file, and has {}", paths.len()))),
-        _ if paths.iter().any(|path| is_standard(path)) => {
-            Err(wrong("standard input is a stream of traces, and is read alone"))
-        }
-        _ => share_files(arguments, threads),
+    let standard = paths.iter().filter(|path| is_standard(path)).count();
+    match (has("--stream"), has("--join"), paths) {
+        (true, true, _) => Err(wrong("--stream and --join are both there")),
+        (_, true, []) => Err(wrong("--join needs files that --totals wrote")),
+        (_, _, []) => Err(wrong("share needs a trace or a folder of traces")),
+        _ if standard > 1 => Err(wrong("standard input is there twice")),
+        (true, _, [one]) => share_stream(arguments, &report, one, threads),
+        (true, _, _) => Err(wrong(&format!("--stream needs one file, and has {}", paths.len()))),
+        (_, true, _) => share_joined(arguments, &report),
+        _ => share_files(arguments, &report, threads),
     }
 }
 
@@ -70,75 +86,159 @@ fn wrong(what: &str) -> Failure {
     Failure::Wrong(format!("{what}; gunwaleish share --help tells more"))
 }
 
-/// How a trace is named, by its place.
-struct Names<'a> {
-    name: &'a dyn Fn(usize) -> String,
-    /// And why it is refused.
-    why: &'a dyn Fn(usize, Refusal) -> String,
+/// How the report is written.
+#[derive(Clone, Copy, PartialEq, Eq)]
+enum Shape {
+    Lines,
+    Table,
+    Rows(Form),
 }
 
-fn share_stream(arguments: &Arguments, path: &Path, threads: usize) -> Result<(), Failure> {
-    let output = output_of(&arguments.files, "txt", arguments.output.as_deref())?;
-    let input = name_of(path);
-    let progress = Progress::new(None);
-    let counted = match is_standard(path) {
-        true => of_stream(io::stdin().lock(), &input, threads, &progress),
-        false => match File::open(path) {
-            Ok(file) => of_stream(file, &input, threads, &progress),
-            Err(error) => Err(Failure::Wrong(format!("{input} cannot be read: {error}"))),
-        },
+/// What is to be written.
+struct Report {
+    shape: Shape,
+    /// The file for the totals.
+    totals: Option<PathBuf>,
+}
+
+impl Report {
+    fn asked(arguments: &Arguments) -> Result<Report, Failure> {
+        let table = arguments.options.contains_key("--table");
+        let shape = match (Form::asked(COMMAND.name, arguments)?, table) {
+            (Some(_), true) => {
+                return Err(wrong("--table is for people, and --csv or --json is there"))
+            }
+            (Some(form), false) => Shape::Rows(form),
+            (None, true) => Shape::Table,
+            (None, false) => Shape::Lines,
+        };
+        let totals = arguments.options.get("--totals").and_then(|words| words.first());
+        let totals = totals.map(PathBuf::from);
+        match &totals {
+            Some(path) if is_standard(path) => Err(wrong("--totals needs the name of a file")),
+            Some(path) if arguments.output.as_ref() == Some(path) => {
+                Err(wrong("--totals and -o name the same file"))
+            }
+            _ => Ok(Report { shape, totals }),
+        }
+    }
+
+    fn ending(&self) -> &'static str {
+        match self.shape {
+            Shape::Lines | Shape::Table => "txt",
+            Shape::Rows(form) => form.ending(),
+        }
+    }
+
+    /// Where the report goes and where the totals go: neither in the place of an input.
+    fn outputs(&self, arguments: &Arguments, inputs: &[PathBuf]) -> Result<Outputs, Failure> {
+        let report = output_of(inputs, self.ending(), arguments.output.as_deref())?;
+        let totals = output_of(inputs, "totals", self.totals.as_deref())?;
+        Ok(Outputs { report, totals })
+    }
+}
+
+struct Outputs {
+    report: Option<PathBuf>,
+    totals: Option<PathBuf>,
+}
+
+fn share_stream(
+    arguments: &Arguments,
+    report: &Report,
+    path: &Path,
+    threads: usize,
+) -> Result<(), Failure> {
+    let outputs = report.outputs(arguments, &arguments.files)?;
+    let name = name_of(path);
+    let unread = |error| Failure::Wrong(format!("{name} cannot be read: {error}"));
+    let from: Box<dyn Read> = match is_standard(path) {
+        true => Box::new(io::stdin().lock()),
+        false => Box::new(File::open(path).map_err(unread)?),
     };
+    let progress = Progress::new(None);
+    let counted = of_stream(from, &name, threads, &progress);
     progress.end();
-    let name = |place: usize| format!("{input}, trace {}", place + 1);
-    let why = |place: usize, refusal: Refusal| format!("{}: {refusal}", name(place));
-    let names = Names { name: &name, why: &why };
-    hand_out(arguments, &counted?, &names, output.as_deref())
+    hand_out(report.shape, &counted?, &|place| name_in(&name, place), &outputs)
 }
 
-fn share_files(arguments: &Arguments, threads: usize) -> Result<(), Failure> {
+fn share_files(arguments: &Arguments, report: &Report, threads: usize) -> Result<(), Failure> {
     let found = find(&arguments.files);
     let inputs: Vec<PathBuf> = arguments.files.iter().chain(&found.files).cloned().collect();
-    let output = match &arguments.output {
-        Some(output) => output_of(&inputs, "txt", Some(output))?,
-        None => None,
-    };
+    let outputs = report.outputs(arguments, &inputs)?;
     let progress = Progress::new(Some(found.files.len()));
     let counted = of_files(&found.files, threads, &progress);
     progress.end();
     let (counted, unread) = counted?;
-    let unread: Vec<Failure> = found.unread.into_iter().chain(unread).collect();
+    let failures: Vec<&Failure> = found.failures().chain(&unread).collect();
     found.said.iter().for_each(|line| files::complain(line));
-    unread.iter().for_each(Failure::say);
+    failures.iter().for_each(|failure| failure.say());
     let name = |place: usize| name_of(&found.files[place]);
-    let why = |place: usize, refusal| match files::read(&found.files[place], MOST_TRACE) {
-        Ok(input) => refused(&input, refusal),
-        Err(_) => format!("{}: {refusal}", name(place)),
+    let handed = hand_out(report.shape, &counted, &name, &outputs);
+    let Some(code) = failures.iter().map(|failure| failure.code()).max() else {
+        return handed;
     };
-    let names = Names { name: &name, why: &why };
-    let handed = hand_out(arguments, &counted, &names, output.as_deref());
-    match handed {
-        _ if unread.is_empty() => handed,
-        Ok(()) => Err(Failure::OfMany { refused: false }),
-        Err(failure) => {
+    let code = handed.map_or_else(
+        |failure| {
             failure.say();
-            Err(Failure::OfMany { refused: false })
-        }
-    }
+            failure.code().max(code)
+        },
+        |()| code,
+    );
+    Err(Failure::OfMany { refused: code == 1 })
 }
 
-/// Writes the report. That there were too many traces is told as a refusal too.
-fn hand_out(
-    arguments: &Arguments,
-    counted: &Counted,
-    names: &Names,
-    output: Option<&Path>,
-) -> Result<(), Failure> {
-    let text = match arguments.options.contains_key("--table") {
-        true => words::table(counted, names.name),
-        false => {
-            words::refused(counted, names.why).iter().for_each(|line| files::complain(line));
-            words::lines(counted)
+/// Totals that were kept, put together. If one of the files is none, nothing is joined.
+fn share_joined(arguments: &Arguments, report: &Report) -> Result<(), Failure> {
+    let outputs = report.outputs(arguments, &arguments.files)?;
+    let mut counted = Counted::default();
+    let mut code = 0;
+    for path in &arguments.files {
+        if let Err(failure) = join_file(&mut counted, path) {
+            failure.say();
+            code = code.max(failure.code());
         }
+    }
+    if code > 0 {
+        files::complain("nothing is joined");
+        return Err(Failure::OfMany { refused: code == 1 });
+    }
+    // Of the traces behind the totals no place is known, and no name.
+    hand_out(report.shape, &counted, &|_| String::new(), &outputs)
+}
+
+fn join_file(counted: &mut Counted, path: &Path) -> Result<(), Failure> {
+    let input = files::read(path, kept::MOST_KEPT)?;
+    let refused = |why: String| Failure::Refused(format!("{}: {why}", input.name));
+    let totals = kept::read(&input.bytes).map_err(refused)?;
+    counted.totals.join(&totals).map_err(|refusal| refused(refusal.to_string()))
+}
+
+/// Writes the totals and the report. `name` has the name of a place. That there were too many traces, or
+/// none that counts, is told as a refusal too.
+fn hand_out(
+    shape: Shape,
+    counted: &Counted,
+    name: &dyn Fn(usize) -> String,
+    to: &Outputs,
+) -> Result<(), Failure> {
+    if let Some(path) = &to.totals {
+        match counted.past {
+            0 => files::write_whole(path, kept::write(&counted.totals).as_bytes())?,
+            _ => files::complain(&format!(
+                "{} is not written, since the totals are not of all traces",
+                path.display()
+            )),
+        }
+    }
+    if shape != Shape::Table {
+        words::refused(counted).iter().for_each(|line| files::complain(line));
+    }
+    let text = match shape {
+        Shape::Lines => words::lines(counted),
+        Shape::Table => words::table(counted, name),
+        Shape::Rows(form) => rows::rows(counted, name, form),
     };
-    Made { output: Some(text.into()), refused: words::past(counted) }.hand_out(output)
+    let refused = words::past(counted).or(words::none_taken(counted));
+    Made { output: Some(text.into()), refused }.hand_out(to.report.as_deref())
 }

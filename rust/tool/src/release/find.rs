@@ -14,7 +14,7 @@ use crate::commands::fill;
 use crate::failure::Failure;
 use crate::files::is_standard;
 use crate::sha256::{hex, Sha256};
-use crate::share::find::{find, Found};
+use crate::walk::{find, Found};
 
 /// The files that are named by options. They take the place of what the folder has.
 #[derive(Clone, Debug, Default, PartialEq, Eq)]

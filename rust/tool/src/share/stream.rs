@@ -48,7 +48,7 @@ pub fn of_stream(
     let (to, batches) = sync_channel(threads);
     let batches = Mutex::new(batches);
     let (read, parts) = thread::scope(|scope| {
-        let work = || count_batches(&batches, progress);
+        let work = || count_batches(&batches, name, progress);
         let running: Vec<_> = (0..threads.max(1)).map(|_| scope.spawn(work)).collect();
         let read = hand_out(from, to);
         (read, running.into_iter().map(ended).collect::<Vec<Counted>>())
@@ -61,14 +61,20 @@ pub fn of_stream(
     Ok(whole)
 }
 
+/// How the trace of a place is called, from 1, in an input with this name.
+pub fn name_in(input: &str, place: usize) -> String {
+    format!("{input}, trace {}", place + 1)
+}
+
 /// One thread's part: batches, until there are no more.
-fn count_batches(batches: &Mutex<Receiver<Batch>>, progress: &Progress) -> Counted {
+fn count_batches(batches: &Mutex<Receiver<Batch>>, name: &str, progress: &Progress) -> Counted {
     let mut counted = Counted::default();
     // Locked only while a batch is taken.
     let next = || batches.lock().ok()?.recv().ok();
     while let Some(batch) = next() {
         for (place, trace) in batch.traces() {
-            counted.add(place, trace);
+            let why = |refusal| format!("{}: {refusal}", name_in(name, place));
+            counted.add(place, trace, why);
             progress.one_more();
         }
     }

@@ -8,6 +8,16 @@ use crate::words::count;
 /// The numbers with which a trace is refused here.
 pub const REFUSALS: [u8; 6] = [3, 5, 6, 7, 8, 10];
 
+/// And the refusals of these numbers.
+const WHY: [Refusal; 6] = [
+    Refusal::NoSuchPart,
+    Refusal::TraceCut,
+    Refusal::TooManyEvents,
+    Refusal::BytesAfterEnd,
+    Refusal::NoSuchStrapping,
+    Refusal::WrongCount,
+];
+
 /// A line a controller: number, owned, connected, waited; and `R6` past the most traces.
 pub fn lines(counted: &Counted) -> String {
     let totals = &counted.totals;
@@ -36,12 +46,20 @@ pub fn table(counted: &Counted, name: &dyn Fn(usize) -> String) -> String {
         let shares = [totals.owned(m), totals.connected(m), totals.waited(m)];
         let [owned, connected, waited] = shares.map(|part| share(part, totals));
         let longest = totals.longest(m);
-        text.push_str(&format!("controller {m}  {owned}  {connected}  {waited}  {longest:>12}\n"));
+        let place =
+            counted.longest_in(m).map_or(String::new(), |place| format!("  in {}", name(place)));
+        text.push_str(&format!(
+            "controller {m}  {owned}  {connected}  {waited}  {longest:>12}{place}\n"
+        ));
     }
     text.push_str(&format!("{:12}  {}\n", "nobody", share(totals.unowned(), totals)));
-    let refused = firsts(counted).into_iter().map(|(refusal, number, first)| match number {
-        1 => format!("{refusal}: 1 trace, {}", name(first)),
-        _ => format!("{refusal}: {number} traces, the first {}", name(first)),
+    let refused = firsts(counted).into_iter().map(|(refusal, number, first)| {
+        let traces = format!("{refusal}: {}", count(number as usize, "trace"));
+        match (first, number) {
+            (None, _) => traces,
+            (Some(place), 1) => format!("{traces}, {}", name(place)),
+            (Some(place), _) => format!("{traces}, the first {}", name(place)),
+        }
     });
     let below: Vec<String> = refused.chain(past(counted)).collect();
     match below.is_empty() {
@@ -64,26 +82,41 @@ pub fn per_cent(part: u64, all: u64) -> String {
     }
 }
 
-/// The refusals that there were, each with the number of traces and the place of the first one.
-fn firsts(counted: &Counted) -> Vec<(Refusal, u64, usize)> {
-    let first = |number| {
-        let found = counted.refused.iter().find(|(_, refusal)| refusal.number() == number);
-        found.map(|&(place, refusal)| (refusal, counted.totals.refused(number), place))
+/// The refusals that there were, each with the number of traces and, if it is known, the place of the
+/// first one.
+fn firsts(counted: &Counted) -> Vec<(Refusal, u64, Option<usize>)> {
+    let first = |refusal: Refusal| {
+        let number = counted.totals.refused(refusal.number());
+        let found = counted.refused.iter().find(|(_, other)| *other == refusal);
+        (number > 0).then_some((refusal, number, found.map(|&(place, _)| place)))
     };
-    REFUSALS.into_iter().filter_map(first).collect()
+    WHY.into_iter().filter_map(first).collect()
 }
 
-/// What is said of refused traces beside the two lines, which do not show them. `why` tells why the
-/// trace of a place is refused.
-pub fn refused(counted: &Counted, why: &dyn Fn(usize, Refusal) -> String) -> Vec<String> {
-    let line = |(refusal, number, first): (Refusal, u64, usize)| {
+/// What is said of refused traces beside the two lines, which do not show them: why the first of each
+/// number is, and how many more there are.
+pub fn refused(counted: &Counted) -> Vec<String> {
+    let line = |(refusal, number, _): (Refusal, u64, Option<usize>)| {
         let more = match number.saturating_sub(1) {
             0 => String::new(),
             others => format!(" (and {} more)", count(others as usize, "trace")),
         };
-        why(first, refusal) + &more
+        match counted.reasons.get(&refusal.number()) {
+            Some((_, why)) => format!("{why}{more}"),
+            None => format!("{refusal}: {}", count(number as usize, "trace")),
+        }
     };
     firsts(counted).into_iter().map(line).collect()
+}
+
+/// That there was no trace, or refused ones alone.
+pub fn none_taken(counted: &Counted) -> Option<String> {
+    let why = match counted.totals.traces() {
+        0 => "there is no trace".to_string(),
+        1 => "no figures: the one trace is refused".to_string(),
+        all => format!("no figures: all {all} traces are refused"),
+    };
+    (!counted.has_taken()).then_some(why)
 }
 
 /// That there were too many traces.

@@ -1,4 +1,5 @@
-//! The files that are traces: those that are named, and those of folders that end in `.trace`.
+//! The files that are traces: those that are named, and those of folders that end in `.trace`. What is
+//! run and what is counted is found by this one walk.
 
 use std::fs::{self, DirEntry};
 use std::io;
@@ -21,6 +22,15 @@ pub struct Found {
     pub links: Vec<PathBuf>,
     /// Folders that cannot be read.
     pub unread: Vec<Failure>,
+    /// Folders that were named and have no trace, each with what was skipped in it.
+    pub empty: Vec<Failure>,
+}
+
+impl Found {
+    /// What is wrong with the folders, where each that is named is to have traces.
+    pub fn failures(&self) -> impl Iterator<Item = &Failure> {
+        self.empty.iter().chain(&self.unread)
+    }
 }
 
 /// A file is taken whatever its name. A folder is searched, and so are the folders in it.
@@ -38,11 +48,16 @@ pub fn find(names: &[PathBuf]) -> Found {
 impl Found {
     fn search(&mut self, folder: &Path) {
         let mut here = Search::default();
-        here.look_into(folder, &mut self.unread);
+        let unread = here.look_into(folder);
         for paths in [&mut here.files, &mut here.others, &mut here.links] {
             paths.sort();
         }
-        self.said.push(format!("{}: {}", folder.display(), here.told()));
+        let told = format!("{}: {}", folder.display(), here.told());
+        match here.files.is_empty() && unread.is_empty() {
+            true => self.empty.push(Failure::Refused(told)),
+            false => self.said.push(told),
+        }
+        self.unread.extend(unread);
         self.files.extend(here.files);
         self.others.extend(here.others);
         self.links.extend(here.links);
@@ -58,7 +73,9 @@ struct Search {
 }
 
 impl Search {
-    fn look_into(&mut self, folder: &Path, unread: &mut Vec<Failure>) {
+    /// Gives the folders that cannot be read.
+    fn look_into(&mut self, folder: &Path) -> Vec<Failure> {
+        let mut unread = vec![];
         let mut folders = vec![folder.to_path_buf()];
         while let Some(folder) = folders.pop() {
             let looked = fs::read_dir(&folder).and_then(|entries| {
@@ -72,6 +89,7 @@ impl Search {
                 unread.push(Failure::Wrong(why));
             }
         }
+        unread
     }
 
     /// Gives a folder that is to be searched too.
@@ -80,7 +98,7 @@ impl Search {
         if kind.is_dir() {
             return Ok(Some(path));
         }
-        let trace = path.extension().is_some_and(|ending| ending == "trace");
+        let trace = path.extension().is_some_and(|ending| ending.eq_ignore_ascii_case("trace"));
         // A link that leads nowhere is taken, and told when it cannot be read.
         let file = kind.is_file() || kind.is_symlink() && !path.is_dir();
         match (trace && file, kind.is_symlink() && path.is_dir()) {
@@ -101,7 +119,10 @@ impl Search {
         if links > 0 {
             skipped.push(format!("{} to folders", count(links, "link")));
         }
-        let traces = count(self.files.len(), "trace");
+        let traces = match self.files.len() {
+            0 => "no trace".to_string(),
+            some => count(some, "trace"),
+        };
         match skipped.is_empty() {
             true => traces,
             false => format!("{traces}; skipped: {}", skipped.join(", ")),
