@@ -9,6 +9,7 @@ use gunwaleish::{convert_trace, Refusal, MOST_TRACE};
 use crate::arguments::Arguments;
 use crate::failure::Failure;
 use crate::files::{self, Input};
+use crate::hint::{hint, Kind};
 
 /// What a command makes of one input. With a refusal there may be an output all the same: a
 /// listing says of a refused trace that it is refused.
@@ -173,7 +174,7 @@ fn wrong<T>(what: &str) -> Result<T, Failure> {
     Err(Failure::Wrong(what.to_string()))
 }
 
-/// Why a trace is refused: number, words, and the byte where it was seen.
+/// Why a trace is refused: number, words, the byte where it was seen, and what the file is instead.
 pub fn refused(input: &Input, refusal: Refusal) -> String {
     let place = seen_at(&input.bytes, refusal);
     // What can be converted is an old trace.
@@ -181,7 +182,7 @@ pub fn refused(input: &Input, refusal: Refusal) -> String {
         Ok(_) => "; it is an old trace, which names no part: gunwaleish convert gives it PCA9641",
         Err(_) => "",
     };
-    format!("{}: {refusal} (seen at byte {place}{old})", input.name)
+    format!("{}: {refusal} (seen at byte {place}{old}){}", input.name, hint(input, Kind::Trace))
 }
 
 /// The place of the byte that is wrong, from 0; for bytes that are missing, that of the first one.

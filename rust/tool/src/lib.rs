@@ -18,6 +18,7 @@ pub mod each;
 pub mod failure;
 pub mod files;
 pub mod form;
+pub mod hint;
 pub mod json;
 pub mod many;
 pub mod order;

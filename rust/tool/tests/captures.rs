@@ -218,7 +218,7 @@ fn what_is_seen_is_told() {
     assert_eq!(run(&made.output.unwrap()).unwrap().events, []);
     assert!(summary.unwrap().ends_with("; 0 events"));
     let cases: [(&[u8], &str); 2] = [
-        (&[], "a.capture: no sample; --empty"),
+        (&[], "a.capture: no sample; it is empty; --empty"),
         (
             &[0x0F; 100],
             "a.capture: no transfer in 100 samples; bits 0 to 3 are to be SCL0, SDA0, SCL1 and",

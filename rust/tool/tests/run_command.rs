@@ -106,7 +106,9 @@ fn standard_input_is_one_trace() {
     let one = shell(&format!("{BUILT} run - < traces/m1.trace"));
     assert_eq!(told(&one), (0, "1 trace, 4 events; none refused".into(), String::new()));
     let stream = shell(&format!("{BUILT} run - < crates/report/stdin"));
-    assert_eq!(told(&stream).0, 1);
+    let (code, _, said) = told(&stream);
+    assert_eq!(code, 1);
+    assert!(said.ends_with("looks like a stream of traces: gunwaleish share --stream counts it\n"));
 }
 
 /// A row a trace, in the order of the names: as CSV, and as lines of JSON that may be put behind each

@@ -147,9 +147,15 @@ fn standard_input_is_one_trace() {
     let stream = piped(&["-"], &input_of(&[trace.clone(), trace.clone()]));
     assert_eq!((code(&stream), told(&stream).as_str()), (1, "0 0 0 0\n1 0 0 0\n"));
     let why = said(&stream);
+    assert!(why.contains("looks like a stream of traces: gunwaleish share --stream counts it\n"));
     assert!(why.ends_with("gunwaleish: no figures: the one trace is refused\n"), "{why}");
     let wrong = piped(&["--stream", "-"], &trace);
     assert_eq!(code(&wrong), 1);
+    let why = said(&wrong);
+    assert!(
+        why.ends_with("; it looks like a trace: one trace is counted without --stream\n"),
+        "{why}"
+    );
 }
 
 /// No trace at all, or refused ones alone, is no success; one that is taken is enough.
@@ -164,7 +170,11 @@ fn without_a_trace_it_is_1() {
     assert_eq!(code(&run(&[cut, EMPTY])), 0);
     let stream = piped(&["--stream", "-"], &[]);
     assert_eq!(code(&stream), 1);
-    assert!(said(&stream).ends_with("gunwaleish: there is no trace\n"), "{}", said(&stream));
+    assert!(
+        said(&stream).ends_with("gunwaleish: there is no trace; it is empty\n"),
+        "{}",
+        said(&stream)
+    );
     let none = run(&["sheets"]);
     assert_eq!(code(&none), 1);
     assert!(said(&none).contains("gunwaleish: sheets: no trace; skipped: "), "{}", said(&none));
@@ -256,7 +266,8 @@ fn what_cannot_be_joined_is_told() {
     let output = join(&[&good, FILLED, "no-such.totals"]);
     assert_eq!((code(&output), told(&output)), (2, String::new()));
     let lines: Vec<String> = said(&output).lines().map(String::from).collect();
-    assert!(lines[0].contains("it does not begin with the line gunwaleish totals 1"));
+    assert!(lines[0]
+        .contains("it does not begin with the line gunwaleish totals 1; it looks like a trace"));
     assert!(lines[1].contains("no-such.totals cannot be read: "), "{lines:?}");
     assert_eq!(lines[2], "gunwaleish: nothing is joined");
     assert_eq!(code(&join(&[&good, FILLED])), 1);

@@ -227,7 +227,8 @@ fn no_sheets() -> [(Vec<u8>, &'static str, Vec<&'static str>); 9] {
 fn what_is_no_sheet_is_told_with_its_bytes() {
     let good = with(&[]);
     for (bad, number, bytes) in no_sheets() {
-        let expected = format!("refusal {number} (byte {})", bytes.join("; byte "));
+        let empty = if bad.is_empty() { "; it is empty" } else { "" };
+        let expected = format!("refusal {number} (byte {}){empty}", bytes.join("; byte "));
         let (text, as_board) = told(&bad, &good);
         assert_eq!(text, "");
         assert_eq!(as_board, format!("a.sheet, the board sheet: {expected}"));

@@ -5,6 +5,7 @@ use gunwaleish::{write_trace, Refusal};
 use super::Command;
 use crate::each::{Each, Made};
 use crate::files::Input;
+use crate::hint::{hint, Kind};
 use crate::script::{read_script, Script};
 
 /// A script of the longest trace has far less, even with long comments.
@@ -47,7 +48,10 @@ pub fn compose(input: &Input) -> Made {
     }
     let script = match read_script(&input.bytes) {
         Ok(script) => script,
-        Err(unread) => return Made::refused(format!("{}, {unread}", input.name)),
+        Err(unread) => {
+            let hint = hint(input, Kind::Script);
+            return Made::refused(format!("{}, {unread}{hint}", input.name));
+        }
     };
     match write_trace(script.pins, script.part, &script.events) {
         Ok(trace) => Made::done(trace),

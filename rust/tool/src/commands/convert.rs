@@ -5,6 +5,7 @@ use gunwaleish::{convert_trace, Refusal};
 use super::{Command, TRACES};
 use crate::each::{each_trace, end_of_events, seen_at, Made};
 use crate::files::Input;
+use crate::hint::{hint, Kind};
 
 pub const COMMAND: Command = Command {
     name: "convert",
@@ -38,5 +39,6 @@ fn refused(input: &Input, refusal: Refusal) -> String {
         Ok(run) => format!("; it is a new trace, and names its part: {}", run.part),
         Err(_) => String::new(),
     };
-    format!("{}: {refusal} (seen at byte {place}{new})", input.name)
+    let hint = hint(input, Kind::Trace);
+    format!("{}: {refusal} (seen at byte {place}{new}){hint}", input.name)
 }

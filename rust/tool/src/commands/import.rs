@@ -9,6 +9,7 @@ use crate::device::{read_device, Device};
 use crate::each::{Each, Made};
 use crate::failure::Failure;
 use crate::files::{self, Input};
+use crate::hint::{hint, Kind};
 use crate::script::write_script;
 use crate::seen::Seen;
 
@@ -80,7 +81,8 @@ pub fn import(input: &Input, wanted: Wanted) -> (Made, Option<String>) {
 /// That no event came of a capture, and what was seen in it.
 fn none(input: &Input, address: u8, seen: &Seen) -> Made {
     let (name, why) = (&input.name, seen.why_none(address));
-    Made::refused(format!("{name}: {why}; --empty writes it all the same"))
+    let hint = hint(input, Kind::Capture);
+    Made::refused(format!("{name}: {why}{hint}; --empty writes it all the same"))
 }
 
 /// Why a capture is refused: number, words, and for 12 what was seen where.
@@ -90,5 +92,6 @@ fn refused(input: &Input, address: u8, refusal: Refusal) -> Made {
         _ => vec![],
     };
     let place = if seen.is_empty() { String::new() } else { format!(" ({})", seen.join("; ")) };
-    Made::refused(format!("{}: {refusal}{place}", input.name))
+    let hint = hint(input, Kind::Capture);
+    Made::refused(format!("{}: {refusal}{place}{hint}", input.name))
 }

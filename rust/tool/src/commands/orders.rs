@@ -9,6 +9,7 @@ use crate::device::read_part;
 use crate::each::{output_of, Made};
 use crate::failure::Failure;
 use crate::files::{self, is_standard, Input};
+use crate::hint::{hint, Kind};
 use crate::script::{line_of, read_script, write_script, Script};
 use crate::startup::{rows, words, Ending, Pattern, Scripts, PART};
 use crate::table::Form;
@@ -240,7 +241,8 @@ fn read_one(input: &Input, controller: Master, how: How) -> Result<Script, Strin
     if input.bytes.len() > MOST_TEXT {
         return Err(format!("{}: the script is longer than 16 MiB", input.name));
     }
-    let script = read_script(&input.bytes).map_err(|unread| format!("{}, {unread}", input.name))?;
+    let unread = |unread| format!("{}, {unread}{}", input.name, hint(input, Kind::Script));
+    let script = read_script(&input.bytes).map_err(unread)?;
     if let Err(refusal) = script.pins.address() {
         return Err(format!("{}, line {}: {refusal}", input.name, script.pins_line));
     }

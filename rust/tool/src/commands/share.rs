@@ -5,11 +5,14 @@ use std::io::{self, Read};
 use std::path::{Path, PathBuf};
 use std::thread;
 
+use gunwaleish::MOST_TRACE;
+
 use super::Command;
 use crate::arguments::Arguments;
 use crate::each::{output_of, Made};
 use crate::failure::Failure;
-use crate::files::{self, is_standard, name_of};
+use crate::files::{self, is_standard, name_of, Input};
+use crate::hint::{hint, Kind};
 use crate::share::progress::Progress;
 use crate::share::stream::{name_in, of_stream};
 use crate::share::{kept, of_files, rows, words, Counted};
@@ -152,14 +155,20 @@ fn share_stream(
     let outputs = report.outputs(arguments, &arguments.files)?;
     let name = name_of(path);
     let unread = |error| Failure::Wrong(format!("{name} cannot be read: {error}"));
-    let from: Box<dyn Read> = match is_standard(path) {
+    let mut from: Box<dyn Read> = match is_standard(path) {
         true => Box::new(io::stdin().lock()),
         false => Box::new(File::open(path).map_err(unread)?),
     };
+    // The beginning, by which another file is known.
+    let mut bytes = vec![];
+    from.by_ref().take(MOST_TRACE as u64 + 1).read_to_end(&mut bytes).map_err(unread)?;
     let progress = Progress::new(None);
-    let counted = of_stream(from, &name, threads, &progress);
+    let counted = of_stream(bytes.chain(from), &name, threads, &progress);
     progress.end();
-    hand_out(report.shape, &counted?, &|place| name_in(&name, place), &outputs)
+    let counted = counted?;
+    let input = Input { name, bytes };
+    let hint = || hint(&input, Kind::Stream);
+    hand_out(report.shape, &counted, &|place| name_in(&input.name, place), &hint, &outputs)
 }
 
 fn share_files(arguments: &Arguments, report: &Report, threads: usize) -> Result<(), Failure> {
@@ -174,7 +183,7 @@ fn share_files(arguments: &Arguments, report: &Report, threads: usize) -> Result
     found.said.iter().for_each(|line| files::complain(line));
     failures.iter().for_each(|failure| failure.say());
     let name = |place: usize| name_of(&found.files[place]);
-    let handed = hand_out(report.shape, &counted, &name, &outputs);
+    let handed = hand_out(report.shape, &counted, &name, &String::new, &outputs);
     let Some(code) = failures.iter().map(|failure| failure.code()).max() else {
         return handed;
     };
@@ -204,22 +213,24 @@ fn share_joined(arguments: &Arguments, report: &Report) -> Result<(), Failure> {
         return Err(Failure::OfMany { refused: code == 1 });
     }
     // Of the traces behind the totals no place is known, and no name.
-    hand_out(report.shape, &counted, &|_| String::new(), &outputs)
+    hand_out(report.shape, &counted, &|_| String::new(), &String::new, &outputs)
 }
 
 fn join_file(counted: &mut Counted, path: &Path) -> Result<(), Failure> {
     let input = files::read(path, kept::MOST_KEPT)?;
     let refused = |why: String| Failure::Refused(format!("{}: {why}", input.name));
-    let totals = kept::read(&input.bytes).map_err(refused)?;
+    let totals = kept::read(&input.bytes);
+    let totals = totals.map_err(|why| refused(why + &hint(&input, Kind::Totals)))?;
     counted.totals.join(&totals).map_err(|refusal| refused(refusal.to_string()))
 }
 
 /// Writes the totals and the report. `name` has the name of a place. That there were too many traces, or
-/// none that counts, is told as a refusal too.
+/// none that counts, is told as a refusal too, the latter with a hint.
 fn hand_out(
     shape: Shape,
     counted: &Counted,
     name: &dyn Fn(usize) -> String,
+    hint: &dyn Fn() -> String,
     to: &Outputs,
 ) -> Result<(), Failure> {
     if let Some(path) = &to.totals {
@@ -239,6 +250,7 @@ fn hand_out(
         Shape::Table => words::table(counted, name),
         Shape::Rows(form) => rows::rows(counted, name, form),
     };
-    let refused = words::past(counted).or(words::none_taken(counted));
+    let none_taken = || words::none_taken(counted).map(|why| why + &hint());
+    let refused = words::past(counted).or_else(none_taken);
     Made { output: Some(text.into()), refused }.hand_out(to.report.as_deref())
 }

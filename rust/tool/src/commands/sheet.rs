@@ -2,7 +2,7 @@
 
 use std::path::Path;
 
-use gunwaleish::{sheet_events, write_trace, Master, Refusal, Sheet, SHEET_EVENTS, SHEET_LENGTH};
+use gunwaleish::{sheet_events, write_trace, Master, Refusal, Sheet, MOST_TRACE, SHEET_EVENTS};
 
 use super::Command;
 use crate::arguments::Arguments;
@@ -11,6 +11,7 @@ use crate::each::{output_of, Each, Made};
 use crate::failure::Failure;
 use crate::files::{self, is_standard, Input};
 use crate::form;
+use crate::hint::{hint, Kind};
 use crate::order::{faults, words, Order};
 use crate::script::write_script;
 
@@ -70,7 +71,7 @@ impl Wanted {
 fn run(arguments: &Arguments) -> Result<(), Failure> {
     let two = "two files, the board sheet and then the house sheet";
     match (arguments.files.as_slice(), arguments.options.keys().next()) {
-        ([_], None) => Each { most: SHEET_LENGTH, ending: "txt", make: one }.run(arguments),
+        ([_], None) => Each { most: MOST_TRACE, ending: "txt", make: one }.run(arguments),
         ([board, house], _) => pair(board, house, arguments),
         ([_], Some(option)) => Err(wrong(&format!("with {option} sheet needs {two}, and has 1"))),
         (files, _) => {
@@ -96,7 +97,8 @@ fn pair(board: &Path, house: &Path, arguments: &Arguments) -> Result<(), Failure
     }
     let wanted = wanted(arguments)?;
     let output = output_of(&arguments.files, wanted.ending(), arguments.output.as_deref())?;
-    let read = |path| files::read(path, SHEET_LENGTH);
+    // More than a sheet has, by which another file is known.
+    let read = |path| files::read(path, MOST_TRACE);
     sheet(&read(board)?, &read(house)?, wanted).hand_out(output.as_deref())
 }
 
@@ -165,7 +167,8 @@ fn refused(board: &Input, house: &Input, refusal: Refusal) -> String {
     let sheets = [(board, Sheet::Board), (house, Sheet::House)];
     let told = sheets.into_iter().filter_map(|(input, which)| {
         let fault = faults::fault(&input.bytes, which)?;
-        Some(faults::in_words(&input.name, which, &input.bytes, fault))
+        let said = faults::in_words(&input.name, which, &input.bytes, fault);
+        Some(said + &hint(input, Kind::Sheet))
     });
     let told: Vec<String> = told.collect();
     match told.is_empty() {

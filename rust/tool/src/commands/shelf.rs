@@ -6,7 +6,9 @@ use crate::arguments::Arguments;
 use crate::each::{output_of, Made};
 use crate::failure::Failure;
 use crate::files::{self, is_standard, Input};
+use crate::hint::{hint, Kind};
 use crate::script::named::{read_named, Named};
+use crate::script::Unread;
 use crate::shelf::file::{self, read_shelf};
 use crate::shelf::{rows, run_over, words, Shelved};
 use crate::table::Form;
@@ -109,10 +111,11 @@ fn run_both(shelf: &Input, script: &Input) -> Result<Shelved, String> {
             return Err(format!("{}: the file is longer than 16 MiB", input.name));
         }
     }
-    let (slots, last) =
-        read_shelf(&shelf.bytes).map_err(|unread| format!("{}, {unread}", shelf.name))?;
-    let events =
-        read_named(&script.bytes).map_err(|unread| format!("{}, {unread}", script.name))?;
+    let unread = |input: &Input, wanted: Kind, unread: Unread| {
+        format!("{}, {unread}{}", input.name, hint(input, wanted))
+    };
+    let (slots, last) = read_shelf(&shelf.bytes).map_err(|why| unread(shelf, Kind::Shelf, why))?;
+    let events = read_named(&script.bytes).map_err(|why| unread(script, Kind::ShelfScript, why))?;
     run_over(slots.clone(), &events)
         .map_err(|refusal| format!("{}, {}", shelf.name, file::refused(&slots, last, refusal)))
 }
