@@ -12,8 +12,8 @@ use crate::check::{pattern, Difference};
 use crate::figures::Figures;
 use crate::imaging::{good_images, images_differ};
 
-/// "This is never above six from any state reached from power-up."
-const MOST_CHANGING: u32 = 6;
+/// "This is never above six from any state reached from power-up", and what is proved is three.
+const MOST_CHANGING: u32 = 3;
 
 /// Advances any buffer. Gives what the model said.
 pub fn check_advance(ticks: u32, image: &[u8]) -> Result<Advanced, Difference> {
