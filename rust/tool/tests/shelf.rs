@@ -63,7 +63,7 @@ fn scripts_that_cannot_be_read_are_told() {
         ("raw 00 00 01 00", "line 1: 'raw', expected at and an address before it"),
         ("at 71 raw 05 01 01 01", "line 1: 'raw', expected place and a number before it"),
         ("at 71 raw 0A 00 00 00", "line 1: 'raw', expected no name before it"),
-        ("at 71h read 0", "line 1: '71h', expected a byte in hex"),
+        ("at 71g read 0", "line 1: '71g', expected a byte in hex"),
         ("at", "line 1: the line ends, expected a byte in hex"),
         ("at 71", "line 1: the line ends, expected command, write, read, stop, pair, lines, pulse"),
         ("at 71 at 72 read 0", "line 1: 'at', expected command, write"),

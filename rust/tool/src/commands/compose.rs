@@ -6,7 +6,7 @@ use super::Command;
 use crate::each::{Each, Made};
 use crate::files::Input;
 use crate::hint::{hint, Kind};
-use crate::script::{read_script, Script};
+use crate::script::{read_script, warnings, Script};
 
 /// A script of the longest trace has far less, even with long comments.
 pub const MOST_TEXT: usize = 1 << 24;
@@ -17,11 +17,13 @@ pub const COMMAND: Command = Command {
     usage: "[SCRIPT...] [-o OUT]",
     help:
         "A script begins with the codes of AD3 to AD0 and with the part, and has one event a line.\n\
-           Bytes are in hex, the count of ticks is in decimal, and # begins a comment.\n\n\
+           Bytes are in hex, and may say so: 32, 32h and 0x32 are one byte. 50d is the same in\n\
+           decimal, and 50ms too, for a byte of RT. A byte of RT that does not say which it is gets a\n\
+           warning with its value in ms. The count of ticks is in decimal, and # begins a comment.\n\n\
            pins 0 0 0 1       # VSS VSS VSS VDD, which is address 71h\n\
            part PCA9641       # or part TPT29641\n\
            command 0 03       # controller 0 opens register 3, RT\n\
-           write 0 32         # 50 ticks\n\
+           write 0 50ms       # 50 ticks; the same as 32h\n\
            read 0\n\
            stop 0\n\
            pair 01 81         # both write at once\n\
@@ -39,7 +41,13 @@ pub const COMMAND: Command = Command {
            If a line cannot be read, nothing is written.",
     options: &[],
     example: "build/release/gunwaleish compose traces/m1.script | cmp - traces/m1.trace",
-    run: |arguments| Each { most: MOST_TEXT, ending: "trace", make: compose }.run(arguments),
+    run: |arguments| {
+        let make = |input: &Input| {
+            warnings::tell(input);
+            compose(input)
+        };
+        Each { most: MOST_TEXT, ending: "trace", make }.run(arguments)
+    },
 };
 
 pub fn compose(input: &Input) -> Made {

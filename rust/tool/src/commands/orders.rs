@@ -10,7 +10,7 @@ use crate::each::{output_of, Made};
 use crate::failure::Failure;
 use crate::files::{self, is_standard, Input};
 use crate::hint::{hint, Kind};
-use crate::script::{line_of, read_script, write_script, Script};
+use crate::script::{line_of, read_script, warnings, write_script, Script};
 use crate::startup::{rows, words, Ending, Pattern, Scripts, PART};
 use crate::table::Form;
 use crate::words::count;
@@ -101,7 +101,9 @@ fn run(arguments: &Arguments) -> Result<(), Failure> {
     let how = How { part, strict: arguments.options.contains_key("--strict") };
     let output = output_of(&arguments.files, wanted.ending(), arguments.output.as_deref())?;
     let read = |path| files::read(path, MOST_TEXT);
-    let (made, said) = tried(&read(script0)?, &read(script1)?, &wanted, how);
+    let (script0, script1) = (read(script0)?, read(script1)?);
+    [&script0, &script1].into_iter().for_each(warnings::tell);
+    let (made, said) = tried(&script0, &script1, &wanted, how);
     said.iter().for_each(|line| files::complain(line));
     made.hand_out(output.as_deref())
 }

@@ -8,7 +8,7 @@ use crate::failure::Failure;
 use crate::files::{self, is_standard, Input};
 use crate::hint::{hint, Kind};
 use crate::script::named::{read_named, Named};
-use crate::script::Unread;
+use crate::script::{warnings, Unread};
 use crate::shelf::file::{self, read_shelf};
 use crate::shelf::{rows, run_over, words, Shelved};
 use crate::table::Form;
@@ -96,6 +96,7 @@ pub fn over(shelf: &Input, script: &Input, wanted: Wanted) -> Made {
         Ok(shelved) => shelved,
         Err(why) => return Made::refused(why),
     };
+    warnings::tell_shelved(script, &shelved);
     let text = match (wanted.form, wanted.list) {
         (None, true) => words::listed(&shelved),
         (None, false) => words::told([&shelf.name, &script.name], &shelved),
@@ -105,7 +106,8 @@ pub fn over(shelf: &Input, script: &Input, wanted: Wanted) -> Made {
     Made { output: Some(text.into()), refused: refused(&script.name, &shelved) }
 }
 
-fn run_both(shelf: &Input, script: &Input) -> Result<Shelved, String> {
+/// The run of the script over the shelf, or why there is none.
+pub fn run_both(shelf: &Input, script: &Input) -> Result<Shelved, String> {
     for input in [shelf, script] {
         if input.bytes.len() > MOST_TEXT {
             return Err(format!("{}: the file is longer than 16 MiB", input.name));

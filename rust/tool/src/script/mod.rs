@@ -15,15 +15,21 @@
 //! | `general 0 06` | GENERAL CALL of controller 0 with 06h |
 //! | `raw FF 00 00 00` | four bytes as they are |
 //!
-//! Bytes are in hex, the count of ticks is in decimal, and what stands after `#` is a comment. Pins and
-//! part have no default. In a script for a shelf an event has a name before it (`named`).
+//! Bytes are in hex, and may say so or be in decimal (`bytes`); the count of ticks is in decimal, and what
+//! stands after `#` is a comment. Pins and part have no default. In a script for a shelf an event has a
+//! name before it (`named`). What is worth a second look is in `warnings`.
 
+pub mod bytes;
 pub mod named;
+pub mod warnings;
 mod words;
 
 pub use words::{each_line, shown, Unread, Words};
 
-use gunwaleish::{Event, Part, Pins, MOST_EVENTS};
+use gunwaleish::{run, write_trace, Event, Master, Part, Pins, MOST_EVENTS};
+
+use crate::story::pointers;
+use bytes::{written_by, Written};
 
 /// A script that was read.
 #[derive(Clone, Debug, PartialEq, Eq)]
@@ -38,7 +44,12 @@ pub struct Script {
     pub lines: Vec<usize>,
     /// Where the first event is that is too many.
     pub overflow_line: Option<usize>,
+    /// The bytes that the events write, as they stand there.
+    pub written: Vec<Written>,
 }
+
+/// The register of the reserve.
+const RT: u8 = 3;
 
 const AN_EVENT: &str =
     "command, write, read, stop, pair, lines, tick, pulse, reset, general, raw, pins or part";
@@ -60,8 +71,8 @@ pub fn read_script(text: &[u8]) -> Result<Script, Unread> {
     let nowhere = |expected| Unread { line: last, word: String::new(), expected };
     let (pins, pins_line) = reading.pins.ok_or(nowhere(NO_PINS))?;
     let part = reading.part.ok_or(nowhere(NO_PART))?;
-    let Reading { events, lines, overflow_line, .. } = reading;
-    Ok(Script { pins, pins_line, part, events, lines, overflow_line })
+    let Reading { events, lines, overflow_line, written, .. } = reading;
+    Ok(Script { pins, pins_line, part, events, lines, overflow_line, written })
 }
 
 /// What was read so far: the pins with their line, the part, and what a script has besides.
@@ -72,6 +83,7 @@ struct Reading {
     events: Vec<Event>,
     lines: Vec<usize>,
     overflow_line: Option<usize>,
+    written: Vec<Written>,
 }
 
 impl Reading {
@@ -97,7 +109,7 @@ impl Reading {
     }
 
     fn take_event(&mut self, word: &str, words: &mut Words) -> Result<(), Unread> {
-        let (event, times) = words.events(word, AN_EVENT)?;
+        let (first, times) = words.events(word, AN_EVENT)?;
         if self.pins.is_none() {
             return Err(words.unread(word, PINS_FIRST));
         }
@@ -105,8 +117,13 @@ impl Reading {
             return Err(words.unread(word, PART_FIRST));
         }
         words.end()?;
+        if self.events.len() < MOST_EVENTS {
+            let (event, line) = (self.events.len(), words.line);
+            let bytes = written_by(first, &words.bytes).into_iter();
+            self.written.extend(bytes.map(|(master, byte)| Written { event, line, master, byte }));
+        }
         let room = MOST_EVENTS + 1 - self.events.len();
-        self.events.extend(vec![event; times.min(room)]);
+        self.events.extend(vec![first; times.min(room)]);
         self.lines.resize(self.events.len(), words.line);
         if self.events.len() > MOST_EVENTS {
             self.overflow_line.get_or_insert(words.line);
@@ -118,23 +135,45 @@ impl Reading {
 /// The script of these pins, this part and these events. Reading it gives the same bytes again.
 pub fn write_script(pins: Pins, part: Part, events: &[Event]) -> String {
     let mut text = format!("pins {pins}\npart {part}\n");
+    let at = registers(pins, part, events);
+    let mut place = 0;
     let both_ticks = |a: &Event, b: &Event| *a == Event::Tick && *b == Event::Tick;
     for run in events.chunk_by(both_ticks) {
-        text.push_str(&line_of(run[0], run.len()));
+        text.push_str(&line_at(run[0], run.len(), at.get(place).copied().flatten()));
         text.push('\n');
+        place += run.len();
     }
     text
 }
 
+/// The registers that the bytes of each event are for, controller 0's first; of a refused event, or of
+/// what is no trace, none.
+fn registers(pins: Pins, part: Part, events: &[Event]) -> Vec<Option<[u8; 2]>> {
+    let run = write_trace(pins, part, events).and_then(|trace| run(&trace));
+    run.map_or(vec![], |run| pointers(&run))
+}
+
 /// The line of an event, or of so many ticks.
 pub fn line_of(event: Event, times: usize) -> String {
+    line_at(event, times, None)
+}
+
+/// The same, with the registers that its bytes are for. A reserve is written in ms.
+fn line_at(event: Event, times: usize, at: Option<[u8; 2]>) -> String {
     let level = u8::from;
+    let byte = |master: Master, value: u8| match (at.map(|both| both[master as usize]), value) {
+        // 00h is no time of 0 ms: it holds until let go.
+        (Some(RT), 1..) => format!("{value}ms"),
+        _ => format!("{value:02X}"),
+    };
     match event {
         Event::Command { master, code } => format!("command {master} {code:02X}"),
-        Event::Write { master, value } => format!("write {master} {value:02X}"),
+        Event::Write { master, value } => format!("write {master} {}", byte(master, value)),
         Event::Read { master } => format!("read {master}"),
         Event::Stop { master } => format!("stop {master}"),
-        Event::Pair { value0, value1 } => format!("pair {value0:02X} {value1:02X}"),
+        Event::Pair { value0, value1 } => {
+            format!("pair {} {}", byte(Master::Zero, value0), byte(Master::One, value1))
+        }
         Event::Lines { scl, sda, int_in } => {
             format!("lines {} {} {}", level(scl), level(sda), level(int_in))
         }

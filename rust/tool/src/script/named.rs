@@ -15,6 +15,7 @@ use std::fmt;
 
 use gunwaleish::{Event, MOST_EVENTS};
 
+use super::bytes::{written_by, Written};
 use super::{each_line, line_of, Unread, Words};
 
 /// The device that an event is for.
@@ -69,9 +70,23 @@ const FEWER: &str = "the end: a script has 4,096 events at the most";
 
 /// The events of a script for a shelf.
 pub fn read_named(text: &[u8]) -> Result<Vec<Named>, Unread> {
-    let mut events = vec![];
-    each_line(text, |words| take_line(words, &mut events))?;
-    Ok(events)
+    read_named_bytes(text).map(|(events, _)| events)
+}
+
+/// The same with the bytes that they write, as they stand there.
+pub fn read_named_bytes(text: &[u8]) -> Result<(Vec<Named>, Vec<Written>), Unread> {
+    let (mut events, mut written) = (vec![], vec![]);
+    each_line(text, |words| {
+        let event = events.len();
+        take_line(words, &mut events)?;
+        if let Some(named) = events.get(event) {
+            let bytes = written_by(named.event, &words.bytes).into_iter();
+            let line = words.line;
+            written.extend(bytes.map(|(master, byte)| Written { event, line, master, byte }));
+        }
+        Ok(())
+    })?;
+    Ok((events, written))
 }
 
 fn take_line(words: &mut Words, events: &mut Vec<Named>) -> Result<(), Unread> {

@@ -4,6 +4,8 @@ use std::borrow::Cow;
 
 use gunwaleish::{Event, Master, Part, MOST_EVENTS};
 
+use super::bytes::{self, Byte};
+
 /// What could not be read, and where.
 #[derive(Clone, Debug, PartialEq, Eq)]
 pub struct Unread {
@@ -29,7 +31,7 @@ impl std::fmt::Display for Unread {
     }
 }
 
-const A_BYTE: &str = "a byte in hex, 00 to FF";
+const A_BYTE: &str = "a byte in hex, 00 to FF, or as 32h, 0x32, 50d or 50ms";
 const A_CONTROLLER: &str = "a controller, 0 or 1";
 const A_LEVEL: &str = "a level, 0 or 1";
 const A_PART: &str = "the name of a part, PCA9641 or TPT29641";
@@ -41,6 +43,8 @@ const THE_END: &str = "the line's end";
 pub struct Words<'a> {
     pub line: usize,
     words: std::str::SplitWhitespace<'a>,
+    /// The bytes that were read, as they stand there.
+    pub bytes: Vec<Byte>,
 }
 
 /// Goes through a text line by line, without its comments, and gives the number of the last line.
@@ -54,7 +58,7 @@ pub fn each_line(
         let code = line.split(|&byte| byte == b'#').next().unwrap_or_default();
         let code = String::from_utf8_lossy(code);
         last = place + 1;
-        take(&mut Words { line: last, words: code.split_whitespace() })?;
+        take(&mut Words { line: last, words: code.split_whitespace(), bytes: vec![] })?;
     }
     Ok(last)
 }
@@ -85,10 +89,10 @@ impl<'a> Words<'a> {
     }
 
     pub fn byte(&mut self) -> Result<u8, Unread> {
-        self.next(A_BYTE, |word| {
-            let digits = word.len() <= 2 && word.bytes().all(|byte| byte.is_ascii_hexdigit());
-            u8::from_str_radix(word, 16).ok().filter(|_| digits)
-        })
+        let byte = self.next(A_BYTE, bytes::read)?;
+        let value = byte.value;
+        self.bytes.push(byte);
+        Ok(value)
     }
 
     pub fn part(&mut self) -> Result<Part, Unread> {

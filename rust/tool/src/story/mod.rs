@@ -105,6 +105,20 @@ pub fn follow(trace: &[u8]) -> Result<Story, Refusal> {
     gunwaleish::run(trace).map(follow_run)
 }
 
+/// The pointers of both masters before each event of a run: the registers that its bytes are for. `None`
+/// of an event that is refused.
+pub fn pointers(run: &Run) -> Vec<Option<[u8; 2]>> {
+    let mut written = [Written::new(run.part); 2];
+    let mut owner = None;
+    let step = |(&event, &answer): (&Event, &Answer)| {
+        let before = written.each_ref().map(|own| own.pointer);
+        written::take(&mut written, event, answer, owner);
+        owner = answer.owner;
+        (!answer.outcome.is_refused()).then_some(before)
+    };
+    run.events.iter().zip(&run.answers).map(step).collect()
+}
+
 /// Follows a run.
 pub fn follow_run(run: Run) -> Story {
     let hung = hung::flags(&run);
