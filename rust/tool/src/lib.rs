@@ -11,6 +11,7 @@
 //! command line to the files and back.
 
 pub mod arguments;
+pub mod columns;
 pub mod commands;
 pub mod cut;
 pub mod device;
@@ -37,6 +38,7 @@ pub mod svg;
 pub mod table;
 pub mod walk;
 pub mod words;
+pub mod wrap;
 
 use std::ffi::OsString;
 use std::process::ExitCode;

@@ -13,7 +13,8 @@ const REGISTERS: [&str; 8] =
 const CONTR_BITS: [&str; 8] = [
     "PRIORITY",
     "SMBUS_DIS",
-    "IDLE_TIMER_DIS",
+    // Its name says the contrary of what its 1 does.
+    "IDLE_TIMER_DIS (1 turns the idle timer on)",
     "SMBUS_SWRST",
     "BUS_INIT",
     "BUS_CONNECT",

@@ -8,6 +8,7 @@ use std::fs;
 
 use common::{code, run, shell, text, told, Folder, BUILT};
 
+use gunwaleish_tool::commands::explain::COLUMNS as EXPLAIN;
 use gunwaleish_tool::commands::run::COLUMNS as RUN;
 use gunwaleish_tool::share::kept;
 use gunwaleish_tool::share::rows::COLUMNS as SHARE;
@@ -19,13 +20,14 @@ const SHELF: &str = "traces/shelf/chassis.shelf traces/shelf/hang.script";
 const STARTS: &str = "traces/orders/start0.script traces/orders/start1.script";
 
 /// The columns of each command, by its heading on the page, with a command line that has them.
-fn commands() -> [(&'static str, Columns, String); 5] {
+fn commands() -> [(&'static str, Columns, String); 6] {
     [
         ("share", SHARE, "share traces/m1.trace traces/pair.trace".to_string()),
         ("orders", ORDERS, format!("orders {STARTS}")),
         ("shelf", PLACES, format!("shelf {SHELF}")),
         ("shelf --list", EVENTS, format!("shelf {SHELF} --list")),
         ("run", RUN, "run traces/m1.trace traces/pair.trace".to_string()),
+        ("explain", EXPLAIN, "explain traces/m1.trace".to_string()),
     ]
 }
 

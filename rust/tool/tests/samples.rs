@@ -129,10 +129,20 @@ fn the_way_back_is_told_in_words() {
     assert!(!told.contains("aiting "), "nobody waits at the end");
 }
 
-/// The words of a sample's run.
+/// The words of a sample's run. What goes on below, since it is too long for a line, is put behind it.
 fn told(name: &str) -> String {
     let made = explain::explain(&input(&format!("traces/{name}.trace")));
-    String::from_utf8(output(made)).unwrap()
+    let text = String::from_utf8(output(made)).unwrap();
+    let (events, totals) = text.split_once("\nIn all: ").unwrap();
+    let mut lines: Vec<String> = vec![];
+    for line in events.lines() {
+        // No column but the last goes on below in the samples.
+        match (line.starts_with(&" ".repeat(40)), lines.last_mut()) {
+            (true, Some(last)) => *last += &format!(" {}", line.trim_start()),
+            _ => lines.push(line.to_string()),
+        }
+    }
+    format!("{}\nIn all: {}", lines.join("\n"), totals.replace("\n    ", " "))
 }
 
 /// The same events on either part: the samples differ in the last byte, and the parts as they should.

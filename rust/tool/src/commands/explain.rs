@@ -1,18 +1,24 @@
 //! `explain`: a run in words.
 
-use gunwaleish::Master;
+use gunwaleish::{Master, MOST_TRACE};
 
-use super::{Command, TRACES};
-use crate::each::{each_trace, refused, Made};
+use super::Command;
+use crate::arguments::Arguments;
+use crate::columns::{Layout, Line};
+use crate::each::{refused, Each, Made};
+use crate::failure::Failure;
 use crate::files::Input;
-use crate::story::{follow, Scene, Step, Story};
+use crate::json::Value;
+use crate::story::{follow, Step, Story};
 use crate::summary::{self, HOW_COUNTED};
-use crate::{stuck, words};
+use crate::table::{Columns, Form};
+use crate::wrap::paragraph;
+use crate::{stuck, words, wrap};
 
 pub const COMMAND: Command = Command {
     name: "explain",
     summary: "the run in words, one event a line, and totals for each controller",
-    usage: TRACES,
+    usage: "[TRACE...] [--csv | --json] [-o OUT]",
     help: "The first lines name the part and what its idle timer and its write pointer do. A line has\n\
            the event's number, the ticks passed, what came, what was answered, then who owns the\n\
            bus, who is connected, who waits, which interrupt outputs are asserted and the levels of\n\
@@ -20,69 +26,130 @@ pub const COMMAND: Command = Command {
            mailbox drops it, and what changed, a claim with its ground.\n\
            What a controller does begins with its number. Ticks in which nothing changes share a\n\
            line. If one still waits at the end, the last lines say why, whether waiting helps, and\n\
-           what else does: docs/RECOVERY.md.",
-    options: &[],
+           what else does: docs/RECOVERY.md. Lines are as wide as the terminal, and elsewhere 160\n\
+           columns; what is longer goes on below.\n\n\
+           --csv and --json give the run to other programs, a row an event: docs/FORMATS.md has the\n\
+           columns.",
+    options: &[("--csv", 0), ("--json", 0)],
     example: "build/release/gunwaleish explain traces/box14-rt00.trace",
-    run: |arguments| each_trace(arguments, "txt", explain),
+    run,
 };
 
-pub fn explain(input: &Input) -> Made {
+/// A row an event. `docs/FORMATS.md` says what each column has.
+pub const COLUMNS: Columns = &[
+    "trace",
+    "event",
+    "tick",
+    "bytes",
+    "came",
+    "outcome",
+    "why",
+    "byte_read",
+    "owner",
+    "connected",
+    "initialising",
+    "claimant",
+    "ground",
+    "waits0",
+    "waits1",
+    "int0",
+    "int1",
+    "scl",
+    "sda",
+    "hung",
+    "dropped0",
+    "dropped1",
+    "changed",
+];
+
+fn run(arguments: &Arguments) -> Result<(), Failure> {
+    let width = wrap::width(arguments.output.as_deref());
+    let form = Form::asked(COMMAND.name, arguments)?;
+    let make = |input: &Input| match form {
+        Some(form) => explain_as(input, form),
+        None => explain_within(input, width),
+    };
+    let ending = form.map_or("txt", Form::ending);
+    Each { most: MOST_TRACE, ending, make }.run(arguments)
+}
+
+/// The run as rows for other programs.
+pub fn explain_as(input: &Input, form: Form) -> Made {
     match follow(&input.bytes) {
         Err(refusal) => Made::refused(refused(input, refusal)),
-        Ok(story) => Made::done(told(&input.name, &story)),
+        Ok(story) => {
+            Made::done(form.table(COLUMNS, story.steps.iter().map(|step| row(&input.name, step))))
+        }
     }
 }
 
-/// The columns of one line.
-struct Line {
-    numbers: String,
-    ticks: String,
-    came: String,
-    answered: String,
-    scene: Scene,
-    changed: String,
+fn row(name: &str, step: &Step) -> Vec<Value> {
+    let (answer, scene) = (&step.answer, &step.scene);
+    let master = |master: Option<Master>| master.map(Master::number);
+    let bytes = step.event.bytes().map(|byte| format!("{byte:02X}")).join(" ");
+    let changed: Vec<String> = step.changes.iter().map(words::change).collect();
+    vec![
+        name.into(),
+        step.number.into(),
+        step.tick.into(),
+        bytes.into(),
+        words::event(step).into(),
+        answer.outcome.number().into(),
+        answer.outcome.to_string().into(),
+        answer.byte_read.into(),
+        master(scene.owner).into(),
+        master(scene.connected).into(),
+        scene.initialising.into(),
+        master(scene.claimant).into(),
+        scene.ground.map(|ground| ground.to_string()).into(),
+        scene.waits[0].into(),
+        scene.waits[1].into(),
+        scene.asserted[0].into(),
+        scene.asserted[1].into(),
+        scene.scl.into(),
+        scene.sda.into(),
+        scene.hung.into(),
+        step.dropped[0].into(),
+        step.dropped[1].into(),
+        changed.join("; ").into(),
+    ]
 }
 
-fn told(name: &str, story: &Story) -> String {
-    format!(
-        "{name}: {} at address {:02X}h, pins {}, {}\n{}\n\n{}",
+/// The run in words, in lines of the width for a file.
+pub fn explain(input: &Input) -> Made {
+    explain_within(input, wrap::WIDTH)
+}
+
+fn explain_within(input: &Input, width: usize) -> Made {
+    match follow(&input.bytes) {
+        Err(refusal) => Made::refused(refused(input, refusal)),
+        Ok(story) => Made::done(told(&input.name, &story, width)),
+    }
+}
+
+fn told(name: &str, story: &Story, width: usize) -> String {
+    let head = format!(
+        "{name}: {} at address {:02X}h, pins {}, {}",
         story.part,
         story.address,
         story.pins,
-        words::count(story.steps.len(), "event"),
-        words::part(story.part),
-        body(story)
-    )
+        words::count(story.steps.len(), "event")
+    );
+    let (head, part) = (paragraph(&head, width), paragraph(&words::part(story.part), width));
+    format!("{head}{part}\n{}", body_within(story, width))
 }
 
 /// The lines of a run, and its totals.
 pub fn body(story: &Story) -> String {
+    body_within(story, wrap::WIDTH)
+}
+
+fn body_within(story: &Story, width: usize) -> String {
     let lines = lines(story);
-    // As wide as the columns need, but a long event may stick out.
-    let width = |cell: fn(&Line) -> &String, head: &str| {
-        let widths = lines.iter().map(|line| cell(line).len()).filter(|&width| width <= 60);
-        widths.max().unwrap_or(0).max(head.len())
-    };
-    let came = width(|line| &line.came, "what came");
-    let answered = width(|line| &line.answered, "answer");
-    let mut text = format!(
-        "{:>9}  {:>9}  {:came$}  {:answered$}  own con wait int SCL SDA  what changed\n",
-        "event", "tick", "what came", "answer"
-    );
-    for line in &lines {
-        let row = format!(
-            "{:>9}  {:>9}  {:came$}  {:answered$}  {}  {}",
-            line.numbers,
-            line.ticks,
-            line.came,
-            line.answered,
-            seen(&line.scene),
-            line.changed
-        );
-        text.push_str(row.trim_end());
-        text.push('\n');
-    }
-    text.push_str(&totals(story));
+    let layout = Layout::of(&lines, width);
+    let mut text = layout.head();
+    lines.iter().for_each(|line| text.push_str(&layout.row(line)));
+    text.push_str(&totals(story, width));
     text
 }
 
@@ -122,37 +189,17 @@ fn remarks(step: &Step) -> Vec<String> {
     byte.chain(step.changes.iter().map(words::change)).collect()
 }
 
-/// Who owns, who is connected, who waits, which outputs are asserted, and the lines.
-fn seen(scene: &Scene) -> String {
-    let who = |flags: [bool; 2]| match flags {
-        [false, false] => "-",
-        [true, false] => "0",
-        [false, true] => "1",
-        [true, true] => "0,1",
-    };
-    let one = |master: Option<Master>| who(Master::BOTH.map(|m| master == Some(m)));
-    format!(
-        "{:3} {:3} {:4} {:3} {:3} {:3}",
-        one(scene.owner),
-        one(scene.connected),
-        who(scene.waits),
-        who(scene.asserted),
-        u8::from(scene.scl),
-        u8::from(scene.sda)
-    )
-}
-
-fn totals(story: &Story) -> String {
+fn totals(story: &Story, width: usize) -> String {
     let refused = story.steps.iter().filter(|step| step.answer.outcome.is_refused()).count();
     let ticks = story.ticks();
-    let mut text = format!(
-        "\nIn all: {}, {}, {refused} refused. {HOW_COUNTED}\n",
+    let all = format!(
+        "In all: {}, {}, {refused} refused. {HOW_COUNTED}",
         words::count(ticks, "tick"),
         words::count(story.steps.len() - ticks, "other event"),
     );
+    let mut text = format!("\n{}", paragraph(&all, width));
     for line in summary::in_words(story).into_iter().chain(stuck::in_words(story)) {
-        text.push_str(&line);
-        text.push('\n');
+        text.push_str(&paragraph(&line, width));
     }
     text
 }

@@ -93,3 +93,14 @@ pub fn samples_on(page: &str, command: &str) -> usize {
     }
     parts.len()
 }
+
+/// Runs a line of a shell on a terminal of its own at the repository's root, with the tool's path in $TOOL.
+/// Gives the exit code and what the terminal showed, or `None` where the program `script` is not installed.
+pub fn in_terminal(line: &str) -> Option<(i32, String)> {
+    let mut command = Command::new("script");
+    command.args(["-qec", line, "/dev/null"]).current_dir(root());
+    command.env("TOOL", TOOL).env("SHELL", "/bin/sh").env_remove("COLUMNS");
+    let shown = command.stdin(std::process::Stdio::null()).output().ok()?;
+    let text = String::from_utf8(shown.stdout).unwrap().replace('\r', "");
+    Some((shown.status.code().unwrap(), text))
+}
