@@ -13,6 +13,8 @@ pub enum Failure {
     OfMany { refused: bool },
     /// A bundle is not released. The verdict was told already, with its reasons.
     NotReleased,
+    /// Two runs are not alike. Where, was told already.
+    NotAlike,
     /// Nobody reads the output any more.
     Closed,
 }
@@ -34,14 +36,15 @@ impl Failure {
     pub fn text(&self) -> &str {
         match self {
             Failure::Refused(text) | Failure::Wrong(text) => text,
-            Failure::NotReleased | Failure::OfMany { .. } | Failure::Closed => "",
+            Failure::NotReleased | Failure::NotAlike | Failure::OfMany { .. } | Failure::Closed => "",
         }
     }
 
     pub fn code(&self) -> u8 {
         match self {
             Failure::Closed => 0,
-            Failure::Refused(_) | Failure::NotReleased | Failure::OfMany { refused: true } => 1,
+            Failure::Refused(_) | Failure::NotReleased | Failure::NotAlike => 1,
+            Failure::OfMany { refused: true } => 1,
             Failure::Wrong(_) | Failure::OfMany { refused: false } => 2,
         }
     }

@@ -15,6 +15,7 @@ pub mod columns;
 pub mod commands;
 pub mod cut;
 pub mod device;
+pub mod diff;
 pub mod each;
 pub mod failure;
 pub mod files;

@@ -3,6 +3,7 @@
 pub mod compose;
 pub mod convert;
 pub mod decompose;
+pub mod diff;
 pub mod explain;
 pub mod fill;
 pub mod import;
@@ -44,6 +45,7 @@ pub const COMMANDS: &[Command] = &[
     share::COMMAND,
     list::COMMAND,
     explain::COMMAND,
+    diff::COMMAND,
     compose::COMMAND,
     decompose::COMMAND,
     import::COMMAND,
