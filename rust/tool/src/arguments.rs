@@ -1,11 +1,12 @@
 //! The command line, read word by word.
 
 use std::collections::BTreeMap;
-use std::ffi::OsString;
+use std::ffi::{OsStr, OsString};
 use std::path::PathBuf;
 
 use crate::commands::{Command, COMMANDS};
 use crate::failure::Failure;
+use crate::options;
 
 /// What the command line asks for.
 pub enum Asked {
@@ -38,16 +39,28 @@ pub fn read_arguments(words: Vec<OsString>) -> Result<Asked, Failure> {
     match first.to_str() {
         Some("--help" | "-h") => return Ok(Asked::Help),
         Some("--version" | "-V") => return Ok(Asked::Version),
+        Some("help") => {
+            let Some(name) = words.next() else {
+                return Ok(Asked::Help);
+            };
+            return command_named(&name).map(Asked::HelpFor);
+        }
         _ => {}
     }
-    let named = COMMANDS.iter().find(|command| first.to_str() == Some(command.name));
-    let Some(command) = named else {
-        return Err(wrong(&format!("there is no command '{}'", first.to_string_lossy())));
-    };
+    let command = command_named(&first)?;
     let Some(arguments) = read_rest(command, words)? else {
         return Ok(Asked::HelpFor(command));
     };
     Ok(Asked::Run(command, arguments))
+}
+
+fn command_named(word: &OsStr) -> Result<&'static Command, Failure> {
+    let named = COMMANDS.iter().find(|command| word.to_str() == Some(command.name));
+    named.ok_or_else(|| {
+        let word = word.to_string_lossy();
+        let names = COMMANDS.iter().map(|command| command.name);
+        wrong(&format!("there is no command '{word}'{}", options::perhaps(&word, names)))
+    })
 }
 
 /// What stands after the command, or `None` if help is asked for.
@@ -63,18 +76,16 @@ fn read_rest(
             _ if only_files => arguments.files.push(word.into()),
             "--" => only_files = true,
             "--help" | "-h" => return Ok(None),
-            "-o" | "--output" => {
-                let Some(output) = words.next() else {
-                    return Err(wrong(&format!("{text} needs a name after it")));
-                };
-                if arguments.output.replace(output.into()).is_some() {
-                    return Err(wrong("-o is there twice"));
-                }
-            }
             option if option.starts_with('-') && option != "-" => {
+                if let Some(output) = output_of(command, &word, &mut words)? {
+                    if arguments.output.replace(output.into()).is_some() {
+                        return Err(wrong_for(command, "-o is there twice"));
+                    }
+                    continue;
+                }
                 let (name, values) = own_option(command, option, &mut words)?;
                 if arguments.options.contains_key(name) && !REPEATED.contains(&name) {
-                    return Err(wrong(&format!("{name} is there twice")));
+                    return Err(wrong_for(command, &format!("{name} is there twice")));
                 }
                 let text = values.iter().map(|word| word.to_string_lossy().into_owned());
                 arguments.options.entry(name).or_default().extend(text);
@@ -87,22 +98,87 @@ fn read_rest(
     Ok(Some(arguments))
 }
 
-/// An option that only this command has, with as many words as stand after it.
+/// The name after -o, with or without a space, or after --output, with a space or a sign =. `None` if the
+/// word is another option.
+fn output_of(
+    command: &Command,
+    word: &OsStr,
+    words: &mut impl Iterator<Item = OsString>,
+) -> Result<Option<OsString>, Failure> {
+    let text = word.to_string_lossy();
+    // -output is no -o with the name "utput", but --output with a sign too few.
+    let short = text.starts_with("-o") && !is_long(command, &text);
+    let joined = match () {
+        () if text == "-o" || text == "--output" => None,
+        () if short => Some("-o".len()),
+        () if text.starts_with("--output=") => Some("--output=".len()),
+        () => return Ok(None),
+    };
+    let output = match joined {
+        Some(before) => Some(after(word, before)).filter(|name| !name.is_empty()),
+        None => words.next(),
+    };
+    let needs = || wrong_for(command, &format!("{text} needs a name after it"));
+    output.map(Some).ok_or_else(needs)
+}
+
+/// A long option that lacks one of its two signs.
+fn is_long(command: &Command, word: &str) -> bool {
+    let name = word.split('=').next().unwrap_or_default();
+    options::of(command).any(|option| option.strip_prefix('-') == Some(name))
+}
+
+/// What stands in a word after so many bytes, which are ASCII. The rest may be any name of a file.
+fn after(word: &OsStr, bytes: usize) -> OsString {
+    #[cfg(unix)]
+    {
+        use std::os::unix::ffi::OsStrExt;
+        OsStr::from_bytes(&word.as_bytes()[bytes..]).into()
+    }
+    #[cfg(not(unix))]
+    {
+        word.to_string_lossy()[bytes..].into()
+    }
+}
+
+/// An option that only this command has, with as many words as stand after it, or after a sign = with
+/// commas between them.
 fn own_option(
     command: &'static Command,
     option: &str,
     words: &mut impl Iterator<Item = OsString>,
 ) -> Result<(&'static str, Vec<OsString>), Failure> {
-    let Some(&(name, count)) = command.options.iter().find(|(name, _)| *name == option) else {
-        return Err(wrong(&format!("{} has no option '{option}'", command.name)));
+    let (word, joined) = match option.split_once('=') {
+        Some((word, value)) => (word, Some(value)),
+        None => (option, None),
     };
-    let values: Vec<OsString> = words.take(count).collect();
-    match values.len() == count {
+    let Some(&(name, count)) = command.options.iter().find(|(name, _)| *name == word) else {
+        let perhaps = options::perhaps(word, options::of(command));
+        let what = format!("{} has no option '{word}'{perhaps}", command.name);
+        return Err(wrong_for(command, &what));
+    };
+    let values: Vec<OsString> = match joined {
+        Some(_) if count == 0 => {
+            return Err(wrong_for(command, &format!("{name} takes no value")));
+        }
+        Some(value) if count == 1 => vec![value.into()],
+        Some(value) => value.split(',').map(OsString::from).collect(),
+        None => words.take(count).collect(),
+    };
+    match values.len() == count && !values.iter().any(|value| value.is_empty()) {
         true => Ok((name, values)),
-        false => Err(wrong(&format!("{name} needs {count} after it, and has {}", values.len()))),
+        false => {
+            let has = if count > 1 { format!(", and has {}", values.len()) } else { String::new() };
+            let takes = options::takes(name);
+            Err(wrong_for(command, &format!("{name} needs {takes} after it{has}")))
+        }
     }
 }
 
 fn wrong(what: &str) -> Failure {
     Failure::Wrong(format!("{what}; gunwaleish --help lists the commands"))
+}
+
+fn wrong_for(command: &Command, what: &str) -> Failure {
+    Failure::Wrong(format!("{what}; gunwaleish {} --help tells more", command.name))
 }

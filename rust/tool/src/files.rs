@@ -2,7 +2,7 @@
 
 use std::ffi::OsString;
 use std::fs::{self, File, OpenOptions};
-use std::io::{self, ErrorKind, Read, Write};
+use std::io::{self, ErrorKind, IsTerminal, Read, Write};
 use std::path::Path;
 
 use crate::failure::Failure;
@@ -22,7 +22,10 @@ pub fn is_standard(path: &Path) -> bool {
 pub fn read(path: &Path, most: usize) -> Result<Input, Failure> {
     let name = name_of(path);
     let read = match is_standard(path) {
-        true => read_up_to(io::stdin().lock(), most),
+        true => {
+            hint_at_terminal();
+            read_up_to(io::stdin().lock(), most)
+        }
         false => File::open(path).and_then(|file| read_up_to(file, most)),
     };
     match read {
@@ -37,23 +40,48 @@ fn read_up_to(from: impl Read, most: usize) -> io::Result<Vec<u8>> {
     Ok(bytes)
 }
 
+/// Says that standard input is read, where a person sits before it and might wait for an answer.
+pub fn hint_at_terminal() {
+    if io::stdin().is_terminal() {
+        complain("reading standard input, which is this terminal: Ctrl-D ends it; or name a file");
+    }
+}
+
+/// The name of a file as it can be shown.
 pub fn name_of(path: &Path) -> String {
     match is_standard(path) {
         true => "standard input".to_string(),
-        false => path.display().to_string(),
+        false => shown(&path.to_string_lossy()),
     }
+}
+
+/// A text without control characters, which a terminal would obey: they are escaped.
+pub fn shown(text: &str) -> String {
+    let escaped = |letter: char| match letter.is_control() {
+        true => letter.escape_default().to_string(),
+        false => letter.to_string(),
+    };
+    text.chars().map(escaped).collect()
 }
 
 /// Writes a file whole or not at all: under another name beside it, which then becomes its name.
 /// What is no file, such as /dev/null, is written to directly, and a link to a file stays a link.
+/// A file that is replaced keeps its mode.
 pub fn write_whole(path: &Path, bytes: &[u8]) -> Result<(), Failure> {
     let target = path.canonicalize().unwrap_or(path.to_path_buf());
     let written = match target.exists() && !target.is_file() {
         true => OpenOptions::new().write(true).open(path).and_then(|mut to| to.write_all(bytes)),
-        false => write_beside(&target, bytes),
+        false => match write_beside(&target, bytes) {
+            // No file can be made in this folder, but the one that is there may be written to.
+            Err(error) if is_shut(&error) && target.is_file() => write_over(&target, bytes),
+            written => written,
+        },
     };
-    written
-        .map_err(|error| Failure::Wrong(format!("{} cannot be written: {error}", path.display())))
+    written.map_err(|error| Failure::Wrong(format!("{} cannot be written: {error}", name_of(path))))
+}
+
+fn is_shut(error: &io::Error) -> bool {
+    matches!(error.kind(), ErrorKind::PermissionDenied | ErrorKind::ReadOnlyFilesystem)
 }
 
 fn write_beside(path: &Path, bytes: &[u8]) -> io::Result<()> {
@@ -63,6 +91,10 @@ fn write_beside(path: &Path, bytes: &[u8]) -> io::Result<()> {
     let new = path.with_file_name(name);
     let write = || -> io::Result<()> {
         let mut file = File::create(&new)?;
+        // Before the first byte, since a mode may keep others from reading it.
+        if let Ok(old) = fs::metadata(path) {
+            file.set_permissions(old.permissions())?;
+        }
         file.write_all(bytes)?;
         file.sync_all()?;
         fs::rename(&new, path)
@@ -73,13 +105,34 @@ fn write_beside(path: &Path, bytes: &[u8]) -> io::Result<()> {
     })
 }
 
+/// Writes over a file in its place. If that fails midway, what was there is put back.
+fn write_over(path: &Path, bytes: &[u8]) -> io::Result<()> {
+    let old = fs::read(path);
+    let put = |bytes: &[u8]| -> io::Result<()> {
+        let mut file = OpenOptions::new().write(true).open(path)?;
+        file.write_all(bytes)?;
+        file.set_len(bytes.len() as u64)?;
+        file.sync_all()
+    };
+    put(bytes).inspect_err(|_| {
+        let _ = old.map(|old| put(&old));
+    })
+}
+
 /// Prints text on standard output.
 pub fn print(text: &str) -> Result<(), Failure> {
     print_bytes(text.as_bytes())
 }
 
+/// Prints bytes there. A terminal is spared what is no text.
 pub fn print_bytes(bytes: &[u8]) -> Result<(), Failure> {
     let mut out = io::stdout().lock();
+    if out.is_terminal() && is_binary(bytes) {
+        let what =
+            "what comes out is binary, and standard output is a terminal: -o FILE writes it to \
+                    a file, and a pipe hands it on, as in: | gunwaleish explain";
+        return Err(Failure::Wrong(what.to_string()));
+    }
     match out.write_all(bytes).and_then(|()| out.flush()) {
         Ok(()) => Ok(()),
         Err(error) if error.kind() == ErrorKind::BrokenPipe => Err(Failure::Closed),
@@ -87,9 +140,14 @@ pub fn print_bytes(bytes: &[u8]) -> Result<(), Failure> {
     }
 }
 
+fn is_binary(bytes: &[u8]) -> bool {
+    let control = |letter: char| letter.is_control() && !matches!(letter, '\n' | '\t' | '\r');
+    std::str::from_utf8(bytes).map_or(true, |text| text.chars().any(control))
+}
+
 /// Says something on standard error, with the tool's name before each line. Nothing can be done if that
 /// fails too.
 pub fn complain(text: &str) {
-    let lines: String = text.lines().map(|line| format!("gunwaleish: {line}\n")).collect();
+    let lines: String = text.lines().map(|line| format!("gunwaleish: {}\n", shown(line))).collect();
     let _ = io::stderr().write_all(lines.as_bytes());
 }

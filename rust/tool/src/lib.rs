@@ -23,6 +23,7 @@ pub mod form;
 pub mod hint;
 pub mod json;
 pub mod many;
+pub mod options;
 pub mod order;
 pub mod picture;
 pub mod release;
@@ -65,25 +66,34 @@ fn run(arguments: Vec<OsString>) -> Result<(), Failure> {
     }
 }
 
+/// What the tool is.
+pub const ABOUT: &str =
+    "traces of a PCA9641 or TPT29641 bus arbiter, answered by the proved library";
+
+/// How files are named.
+pub const FILES: &str =
+    "Without FILE, or with -, standard input is read; orders, shelf and diff need two files, sheet one or\n\
+     two; release needs a folder; share and run take folders too, and run writes no file. -o names the\n\
+     file to write, or a folder that is there; then each output has its input's name. Many files need\n\
+     such a folder.\n\
+     Controller 0 and controller 1 are document 01's masters 0 and 1.\n\n\
+     gunwaleish COMMAND --help, or gunwaleish help COMMAND, tells more, with an example. What stands after\n\
+     an option may stand after a sign = too, as in --part=PCA9641. --version gives the version.";
+
+pub const EXIT_CODES: &str =
+    "Exit code: 0 done; 1 a trace, script, shelf, capture or order sheet is refused, standard\n\
+     error says why and where, or a bundle is not released; 2 wrong use, or a file that cannot\n\
+     be read or written.";
+
 /// What the tool says of itself.
 pub fn overview() -> String {
-    let mut text = String::from(
-        "gunwaleish: traces of a PCA9641 or TPT29641 bus arbiter, answered by the proved library\n\n\
-         Usage: gunwaleish COMMAND [FILE...] [-o OUT]\n\nCommands:\n",
+    let mut text = format!(
+        "gunwaleish: {ABOUT}\n\nUsage: gunwaleish COMMAND [FILE...] [-o OUT]\n\nCommands:\n"
     );
     for command in COMMANDS {
         text.push_str(&format!("  {:<10} {}\n", command.name, command.summary));
     }
-    text.push_str(
-        "\nWithout FILE, or with -, standard input is read; orders and shelf need two files, sheet one or two; release\n\
-         needs a folder; share and run take folders too, and run writes no file. -o names the file to write, or a\n\
-         folder that is there; then each output has its input's name. Many files need such a folder.\n\
-         Controller 0 and controller 1 are document 01's masters 0 and 1.\n\n\
-         gunwaleish COMMAND --help tells more, with an example. --version gives the version.\n\n\
-         Exit code: 0 done; 1 a trace, script, shelf, capture or order sheet is refused, standard\n\
-         error says why and where, or a bundle is not released; 2 wrong use, or a file that cannot\n\
-         be read or written.\n",
-    );
+    text.push_str(&format!("\n{FILES}\n\n{EXIT_CODES}\n"));
     text
 }
 

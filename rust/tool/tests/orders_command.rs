@@ -112,7 +112,7 @@ fn wrong_use_is_2() {
         (&[a, b, b], "and has 3"),
         (&["-", "-"], "standard input cannot be both scripts"),
         (&[a, "no-such.script"], "no-such.script cannot be read"),
-        (&[a, b, "--order"], "--order needs 1 after it, and has 0"),
+        (&[a, b, "--order"], "--order needs a pattern, such as 000111 after it"),
         (&[a, b, "--order", "01", "--all"], "--all and --order are both there"),
         (&[a, b, "--script"], "--script needs --order"),
         (&[a, b, "-o", b], "traces/orders/start1.script is an input, and is not written over"),

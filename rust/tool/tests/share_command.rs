@@ -379,9 +379,9 @@ fn wrong_use_is_2() {
         (&[EMPTY, "--totals", EMPTY], "box14-rt00.trace is an input, and is not written over"),
         (&["traces", "--totals", EMPTY], "box14-rt00.trace is an input, and is not written over"),
         (&["--join", EMPTY, "--totals", EMPTY], "is an input, and is not written over"),
-        (&[EMPTY, "--threads", "0"], "--threads '0', expected 1 to 256"),
-        (&[EMPTY, "--threads", "many"], "--threads 'many', expected 1 to 256"),
-        (&[EMPTY, "--threads"], "--threads needs 1 after it, and has 0"),
+        (&[EMPTY, "--threads", "0"], "--threads needs a number of at least 1, 256 at the most"),
+        (&[EMPTY, "--threads", "many"], "at the most, and has 'many'"),
+        (&[EMPTY, "--threads"], "--threads needs a number of at least 1 after it"),
         (&[EMPTY, "-o", EMPTY], "box14-rt00.trace is an input, and is not written over"),
         (&["traces", "-o", EMPTY], "box14-rt00.trace is an input, and is not written over"),
     ];

@@ -81,7 +81,10 @@ fn threads(arguments: &Arguments) -> Result<usize, Failure> {
     };
     match word.parse() {
         Ok(number @ 1..=256) => Ok(number),
-        _ => Err(wrong(&format!("--threads '{}', expected 1 to 256", word.escape_debug()))),
+        _ => Err(wrong(&format!(
+            "--threads needs a number of at least 1, 256 at the most, and has '{}'",
+            word.escape_debug()
+        ))),
     }
 }
 
@@ -156,7 +159,10 @@ fn share_stream(
     let name = name_of(path);
     let unread = |error| Failure::Wrong(format!("{name} cannot be read: {error}"));
     let mut from: Box<dyn Read> = match is_standard(path) {
-        true => Box::new(io::stdin().lock()),
+        true => {
+            files::hint_at_terminal();
+            Box::new(io::stdin().lock())
+        }
         false => Box::new(File::open(path).map_err(unread)?),
     };
     // The beginning, by which another file is known.
