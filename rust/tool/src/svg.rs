@@ -56,6 +56,11 @@ impl Drawing {
         self.line(class, [x - size, y + size], [x + size, y - size]);
     }
 
+    /// A small triangle that points downwards, for what is dropped.
+    pub fn triangle(&mut self, class: &str, [x, y]: [f64; 2], size: f64) {
+        self.path(class, &[[x - size, y - size], [x + size, y - size], [x, y + size]]);
+    }
+
     fn close(&mut self, element: &str, inside: &str) {
         let _ = match inside.is_empty() {
             true => writeln!(self.shapes, "/>"),
@@ -63,11 +68,13 @@ impl Drawing {
         };
     }
 
-    /// The whole file.
-    pub fn finish(self, width: f64, height: f64, style: &str) -> String {
+    /// The whole file, on white, each unit as many millimetres as the scale says.
+    pub fn finish(self, [width, height]: [f64; 2], scale: f64, style: &str) -> String {
+        let (wide, high) = (width * scale, height * scale);
         format!(
-            "<svg xmlns=\"http://www.w3.org/2000/svg\" width=\"{width:.0}\" height=\"{height:.0}\" \
-             viewBox=\"0 0 {width:.0} {height:.0}\">\n{style}{}</svg>\n",
+            "<svg xmlns=\"http://www.w3.org/2000/svg\" width=\"{wide:.1}mm\" height=\"{high:.1}mm\" \
+             viewBox=\"0 0 {width:.0} {height:.0}\">\n{style}\
+             <rect class=\"paper\" x=\"0\" y=\"0\" width=\"{width:.0}\" height=\"{height:.0}\"/>\n{}</svg>\n",
             self.shapes
         )
     }

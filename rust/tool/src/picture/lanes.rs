@@ -40,8 +40,9 @@ impl Lane {
 
     /// The room above for the words of the events.
     fn head(self, story: &Story, places: &Places) -> f64 {
-        let own = story.steps.iter().filter(|step| places.wordy && self.shows(step.event));
-        let longest = own.map(|step| short(step).len()).max().unwrap_or(0);
+        let shown = story.steps[places.shown.clone()].iter();
+        let own = shown.filter(|step| places.wordy && self.shows(step.event));
+        let longest = own.map(|step| self.short(step).len()).max().unwrap_or(0);
         22.0 + LETTER * longest as f64
     }
 
@@ -53,41 +54,76 @@ impl Lane {
         self.head(story, places) + below
     }
 
-    pub fn draw(self, drawing: &mut Drawing, story: &Story, places: &Places, top: f64) {
-        let y = top + self.head(story, places);
-        self.events(drawing, story, places, y - 6.0);
+    pub fn draw(self, drawing: &mut Drawing, story: &Story, on: Strip, top: f64) {
+        let y = top + self.head(story, on.0);
+        self.events(drawing, story, on, y - 6.0);
         match self {
-            Lane::Controller(master) => controller(drawing, story, places, master, y),
-            Lane::Bus => bus(drawing, story, places, y),
+            Lane::Controller(master) => controller(drawing, story, on, master, y),
+            Lane::Bus => bus(drawing, story, on, y),
         }
     }
 
-    /// A mark for each event, with its words if there is room, and a cross if it is refused.
-    fn events(self, drawing: &mut Drawing, story: &Story, places: &Places, y: f64) {
-        for (step, &x) in story.steps.iter().zip(&places.at) {
-            if !self.shows(step.event) {
+    /// A mark for each event, with its words if there is room, a cross if it is refused, and a triangle if
+    /// its byte is dropped.
+    fn events(self, drawing: &mut Drawing, story: &Story, (places, strip): Strip, y: f64) {
+        for step in &story.steps[places.shown.clone()] {
+            let (here, x) = places.point(places.at[step.number - 1]);
+            if here != strip || !self.shows(step.event) {
                 continue;
             }
             if places.marked {
                 drawing.line("axis", [x, y - 4.0], [x, y + 4.0]);
             }
             if places.wordy {
-                let look = if step.answer.outcome == Outcome::Done { "event" } else { "bad" };
-                drawing.upward_text(look, [x + 3.5, y - 7.0], &short(step), &tip(step));
+                let done = step.answer.outcome == Outcome::Done;
+                let look = if done { "event" } else { "bad" };
+                drawing.upward_text(look, [x + 3.5, y - 7.0], &self.short(step), &tip(step));
             }
             if step.answer.outcome.is_refused() {
                 drawing.cross("cross", [x, y], 3.5);
             }
+            if self.drops(step) {
+                drawing.triangle("dropped", [x, y], 4.0);
+            }
         }
     }
+
+    /// True if a byte of this lane's controller is dropped.
+    fn drops(self, step: &Step) -> bool {
+        matches!(self, Lane::Controller(m) if step.dropped[m as usize])
+    }
+
+    /// An event in a few letters.
+    fn short(self, step: &Step) -> String {
+        let dropped = if self.drops(step) { ", dropped" } else { "" };
+        format!("{}{dropped}", short(step))
+    }
 }
+
+/// The places, and the strip that is drawn.
+pub type Strip<'a> = (&'a Places, usize);
 
 /// What a controller has: owns, connected, waits.
 type State = (bool, bool, bool);
 
-fn controller(drawing: &mut Drawing, story: &Story, places: &Places, master: Master, y: f64) {
+fn controller(drawing: &mut Drawing, story: &Story, on: Strip, master: Master, y: f64) {
     let m = master as usize;
     drawing.text("lane", [14.0, y + 16.0], &format!("controller {m}"));
+    bars(drawing, story, on, master, [y, BAR]);
+    drawing.text("small", [14.0, y + BAR + 12.0], &format!("INT{m}"));
+    let band = [y + BAR + 5.0, INT];
+    bands(drawing, story, on, ("int", &format!("INT{m} asserted")), band, |s| s.asserted[m]);
+}
+
+/// A bar wherever a controller owns the bus or waits for it, at this y and of this height.
+pub fn bars(
+    drawing: &mut Drawing,
+    story: &Story,
+    (places, strip): Strip,
+    master: Master,
+    [y, height]: [f64; 2],
+) {
+    let m = master as usize;
     let state = |scene: &Scene| -> State {
         (scene.owner == Some(master), scene.connected == Some(master), scene.waits[m])
     };
@@ -98,18 +134,17 @@ fn controller(drawing: &mut Drawing, story: &Story, places: &Places, master: Mas
             (_, _, true) => "waits".to_string(),
             _ => continue,
         };
-        let [x, width] = places.span(from, to);
         let said = bar_words(state, story.tick_at(from), story.tick_at(to));
-        drawing.rect(&class, [x, y, width, BAR], &format!("controller {m}: {}", said[0]));
-        let fits = |words: &&String| width > BAR_LETTER * words.len() as f64 + 10.0;
-        if let Some(words) = said.iter().find(fits) {
-            let look = if state.1 { "onbar" } else { "onlight" };
-            drawing.text(look, [x + 6.0, y + 16.0], words);
+        for piece in places.span(story, from, to).iter().filter(|piece| piece.strip == strip) {
+            let place = [piece.x, y, piece.width, height];
+            drawing.rect(&class, place, &format!("controller {m}: {}", said[0]));
+            let fits = |words: &&String| piece.width > BAR_LETTER * words.len() as f64 + 10.0;
+            if let Some(words) = said.iter().find(fits) {
+                let look = if state.1 { "onbar" } else { "onlight" };
+                drawing.text(look, [piece.x + 6.0, y + height / 2.0 + 4.0], words);
+            }
         }
     }
-    drawing.text("small", [14.0, y + BAR + 12.0], &format!("INT{m}"));
-    let band = [y + BAR + 5.0, INT];
-    bands(drawing, story, places, ("int", &format!("INT{m} asserted")), band, |s| s.asserted[m]);
 }
 
 /// What a bar says: all of it, and shorter if there is no room.
@@ -119,44 +154,52 @@ fn bar_words(state: State, from: usize, to: usize) -> Vec<String> {
         (true, false, _) => ("owns, switch open", "owns"),
         _ => ("waits", "waits"),
     };
-    let when = match from == to {
-        true => String::new(),
-        false => format!(", tick {from} to {to}"),
+    let (when, briefly) = match from == to {
+        true => (String::new(), String::new()),
+        false => (format!(", tick {from} to {to}"), format!(" {from} to {to}")),
     };
-    vec![format!("{long}{when}"), format!("{short}{when}"), short.to_string()]
+    let shorter = [format!("{short}{when}"), format!("{short}{briefly}"), short.to_string()];
+    [vec![format!("{long}{when}")], shorter.to_vec()].concat()
 }
 
-fn bus(drawing: &mut Drawing, story: &Story, places: &Places, y: f64) {
+fn bus(drawing: &mut Drawing, story: &Story, on: Strip, y: f64) {
     drawing.text("lane", [14.0, y - 4.0], "bus");
-    level(drawing, story, places, "SCL", y + 4.0, |scene| scene.scl);
-    level(drawing, story, places, "SDA", y + 4.0 + LEVEL + 8.0, |scene| scene.sda);
+    level(drawing, story, on, "SCL", y + 4.0, |scene| scene.scl);
+    level(drawing, story, on, "SDA", y + 4.0 + LEVEL + 8.0, |scene| scene.sda);
     let below = y + 4.0 + 2.0 * (LEVEL + 8.0);
     let (one, two) = ([below, BAND], [below + BAND + 2.0, BAND]);
-    bands(drawing, story, places, ("initialising", "initialising"), one, |s| s.initialising);
-    bands(drawing, story, places, ("hung", "hung"), two, |scene| scene.hung);
+    bands(drawing, story, on, ("initialising", "initialising"), one, |s| s.initialising);
+    bands(drawing, story, on, ("hung", "hung"), two, |scene| scene.hung);
 }
 
 fn level(
     drawing: &mut Drawing,
     story: &Story,
-    places: &Places,
+    (places, strip): Strip,
     name: &str,
     y: f64,
     of: fn(&Scene) -> bool,
 ) {
     drawing.text("small", [14.0, y + LEVEL - 1.0], name);
     let height = |high: bool| if high { y } else { y + LEVEL };
-    let mut points = vec![[LEFT, y]];
+    let mut points: Vec<[f64; 2]> = vec![];
+    // Before the first event both lines are high.
     let mut was = true;
     for (high, from, to) in stretches(story, of) {
-        let [x, width] = places.span(from, to);
-        if !high {
-            drawing.rect("low", [x, y, width, LEVEL], &format!("{name} low"));
+        for piece in places.span(story, from, to).iter().filter(|piece| piece.strip == strip) {
+            if !high {
+                let place = [piece.x, y, piece.width, LEVEL];
+                drawing.rect("low", place, &format!("{name} low"));
+            }
+            if points.is_empty() {
+                was = if piece.x > LEFT { was } else { high };
+                points.push([LEFT, height(was)]);
+            }
+            let end = piece.x + piece.width;
+            points.extend([[piece.x, height(was)], [piece.x, height(high)], [end, height(high)]]);
+            was = high;
         }
-        points.extend([[x, height(was)], [x, height(high)], [x + width, height(high)]]);
-        was = high;
     }
-    points.push([places.end, height(was)]);
     drawing.path("wave", &points);
 }
 
@@ -165,17 +208,19 @@ fn level(
 fn bands(
     drawing: &mut Drawing,
     story: &Story,
-    places: &Places,
+    (places, strip): Strip,
     (class, name): (&str, &str),
     [y, height]: [f64; 2],
     of: impl Fn(&Scene) -> bool,
 ) {
     for (there, from, to) in stretches(story, of) {
-        if there {
-            let [x, width] = places.span(from, to);
-            drawing.rect(class, [x, y, width, height], name);
-            if height > 10.0 && width > BAR_LETTER * name.len() as f64 + 6.0 {
-                drawing.text("onbar", [x + 4.0, y + 11.0], name);
+        for piece in places.span(story, from, to) {
+            if !there || piece.strip != strip {
+                continue;
+            }
+            drawing.rect(class, [piece.x, y, piece.width, height], name);
+            if height > 10.0 && piece.width > BAR_LETTER * name.len() as f64 + 6.0 {
+                drawing.text("onbar", [piece.x + 4.0, y + 11.0], name);
             }
         }
     }
@@ -205,6 +250,7 @@ fn short(step: &Step) -> String {
 fn tip(step: &Step) -> String {
     let mut parts = vec![format!("event {}: {}", step.number, words::event(step))];
     parts.push(words::outcome(step.answer.outcome));
+    parts.extend(words::dropped(step));
     parts.extend(step.changes.iter().map(words::change));
     parts.join("; ")
 }

@@ -1,7 +1,14 @@
-//! A run as a timeline: a lane for each controller, one for the bus, and the ticks below.
+//! Pictures: a run as a timeline (here), a shelf with a row a device (`shelf`), and the bus share as bars
+//! (`share`). `paper` is what they are drawn on, `places` where a step stands from left to right, and
+//! `lanes` what each controller and the bus do.
 
 mod lanes;
+mod paper;
 mod places;
+pub mod share;
+pub mod shelf;
+
+use std::ops::Range;
 
 use gunwaleish::{Event, Master};
 
@@ -9,169 +16,167 @@ use crate::story::Story;
 use crate::svg::Drawing;
 use crate::{summary, words};
 use lanes::Lane;
-use places::{Places, FILE, LEFT, PAGE};
+pub use paper::style_in_page;
+use paper::{file_name, Look, Paper};
+use places::{Moment, Places, FILE, LEFT, PAGE};
 
-/// A rule a line.
-const STYLE: &str = "\
-text { font: 11px 'DejaVu Sans', Verdana, Arial, sans-serif; fill: #222 }
-.title { font-size: 16px; font-weight: bold }
-.verdict { font-size: 12px; font-weight: bold; fill: #b00020 }
-.lane { font-weight: bold }
-.small { font-size: 10px; fill: #555 }
-.middle { font-size: 10px; fill: #555; text-anchor: middle }
-.event { font-size: 10px; fill: #333 }
-.bad { font-size: 10px; fill: #b00020; font-weight: bold }
-.onbar { fill: #fff; font-weight: bold }
-.onlight { fill: #3f2a00; font-weight: bold }
-.paper { fill: #fff }
-.ground { fill: #f6f7f9 }
-.apart { fill: #e3e7ee }
-.c0 { fill: #1f5fa8 }
-.c1 { fill: #0f766e }
-.open0 { fill: #9dbfe4 }
-.open1 { fill: #93d3c9 }
-.waits { fill: #fbc274; stroke: #b45309; stroke-dasharray: 4 3 }
-.int { fill: #7c3aed }
-.low { fill: #f3d3d7 }
-.hung { fill: #b00020 }
-.initialising { fill: #64748b }
-.wave { fill: none; stroke: #222; stroke-width: 1.4 }
-.paper-line { stroke: #fff; stroke-width: 3 }
-.axis { stroke: #888 }
-.cross { stroke: #b00020; stroke-width: 2 }
-";
+/// What the signs of a run mean.
+const LOOKS: [(Look, &str); 13] = [
+    (Look::Boxes(&["waits"]), "asks and waits"),
+    (Look::Boxes(&["open0", "open1"]), "owns, switch open"),
+    (Look::Boxes(&["c0", "c1"]), "owns and is connected"),
+    (Look::Boxes(&["int"]), "interrupt output asserted"),
+    (Look::Boxes(&["low"]), "line low"),
+    (Look::Boxes(&["initialising"]), "initialising"),
+    (Look::Boxes(&["hung"]), "hung"),
+    (Look::Boxes(&["apart"]), "events set apart, no time passes"),
+    (Look::Cross, "event refused"),
+    (Look::Red, "refused or not acknowledged"),
+    (Look::Dropped, "byte dropped: mailbox full"),
+    (Look::End, "end of the run"),
+    (Look::Fold, "quiet ticks folded"),
+];
 
-/// The class of a picture in a page.
-const IN_PAGE: &str = "run";
+/// The widest that an event is drawn, so that its words fit.
+const WORDS: f64 = 15.0;
+/// Folded ticks that are at least so wide have room for their number.
+const NUMBERED: f64 = 32.0;
+/// The height of the ticks below the lanes.
+const AXIS: f64 = 38.0;
 
-const RIGHT: f64 = 24.0;
-/// The width of a letter of the lines of text, and of the bold ones.
-const LETTER: f64 = 6.4;
-const BOLD_LETTER: f64 = 7.4;
+/// A file that a picture is made of.
+pub struct Source {
+    pub name: String,
+    /// Its bytes.
+    pub size: usize,
+}
 
-/// The whole picture of a run, as a file of SVG.
-pub fn draw(story: &Story, name: &str) -> String {
+/// The picture of a run, or of these steps of it, as a file of SVG.
+pub fn draw(story: &Story, source: &Source, shown: Range<usize>) -> String {
     let lines = summary::in_words(story);
     let (totals, verdicts) = lines.split_at(lines.len().min(2));
-    let places = Places::new(story, FILE);
-    let top = 40.0 + 17.0 * verdicts.len() as f64;
-    let axis = top + height_of_lanes(story, &places);
-    let height = axis + 82.0 + 16.0 * totals.len() as f64;
-    let width = width(&places, totals, verdicts);
-
-    let mut drawing = Drawing::default();
-    drawing.rect("paper", [0.0, 0.0, width, height], "");
-    head(&mut drawing, story, name, verdicts);
-    lanes(&mut drawing, story, &places, top);
-    ticks(&mut drawing, story, &places, axis);
-    legend(&mut drawing, axis + 28.0, f64::INFINITY);
-    for (place, line) in totals.iter().enumerate() {
-        drawing.text("line", [14.0, axis + 64.0 + 16.0 * place as f64], line);
+    let places = Places::new(&Moment::all(story), shown, WORDS, FILE);
+    let mut paper = Paper::new(places.strips() > 1);
+    paper.title(&title(story, file_name(&source.name), &places));
+    verdicts.iter().for_each(|verdict| paper.lines("verdict", verdict));
+    for strip in 0..places.strips() {
+        draw_strip(&mut paper, story, &places, strip);
     }
-    drawing.text("small", [14.0, height - 10.0], summary::HOW_COUNTED);
-    drawing.finish(width, height, &format!("<style>\n{STYLE}</style>\n"))
+    paper.legend(&LOOKS);
+    paper.y += 6.0;
+    totals.iter().for_each(|line| paper.lines("line", line));
+    paper.lines("small", summary::HOW_COUNTED);
+    paper.foot(&[(file_name(&source.name), source.size)]);
+    paper.finish()
 }
 
-/// The lanes, the ticks and what the colours say, for a page of HTML that says the rest. `label` tells
-/// the picture to those who do not see it.
+/// The lanes, the ticks and what the signs mean, for a page of HTML that says the rest. `label` tells the
+/// picture to those who do not see it.
 pub fn draw_in_page(story: &Story, label: &str) -> String {
-    let places = Places::new(story, PAGE);
-    let axis = height_of_lanes(story, &places);
-    // Short runs are not drawn larger than others.
-    let width = (places.end + RIGHT).max(740.0);
-    let mut drawing = Drawing::default();
-    lanes(&mut drawing, story, &places, 0.0);
-    ticks(&mut drawing, story, &places, axis);
-    let bottom = legend(&mut drawing, axis + 28.0, width);
-    drawing.in_page(width, bottom + 4.0, IN_PAGE, label)
-}
-
-/// The style of all pictures in a page. It bears on nothing else there.
-pub fn style_in_page() -> String {
-    STYLE.lines().map(|rule| format!("svg.{IN_PAGE} {rule}\n")).collect()
-}
-
-const LANES: [Lane; 3] = [Lane::Controller(Master::Zero), Lane::Controller(Master::One), Lane::Bus];
-
-fn height_of_lanes(story: &Story, places: &Places) -> f64 {
-    LANES.iter().map(|lane| lane.height(story, places)).sum()
-}
-
-/// All lanes on their ground, one below the other.
-fn lanes(drawing: &mut Drawing, story: &Story, places: &Places, top: f64) {
-    let height = height_of_lanes(story, places);
-    drawing.rect("ground", [LEFT, top, places.end - LEFT, height], "");
-    for [from, to] in &places.apart {
-        drawing.rect("apart", [*from, top, to - from, height], "");
+    let places = Places::new(&Moment::all(story), 0..story.steps.len(), WORDS, PAGE);
+    let mut paper = Paper::in_page();
+    for strip in 0..places.strips() {
+        draw_strip(&mut paper, story, &places, strip);
     }
-    let mut y = top;
-    for lane in LANES {
-        drawing.line("paper-line", [LEFT, y], [places.end, y]);
-        lane.draw(drawing, story, places, y);
-        y += lane.height(story, places);
-    }
+    paper.legend(&LOOKS);
+    paper.finish_in_page(label)
 }
 
-/// Wide enough for the lanes, for the lines of text, and for the legend.
-fn width(places: &Places, totals: &[String], verdicts: &[String]) -> f64 {
-    let longest = |lines: &[String]| lines.iter().map(|line| line.chars().count()).max();
-    let text = LETTER * longest(totals).unwrap_or(0) as f64;
-    let bold = BOLD_LETTER * longest(verdicts).unwrap_or(0) as f64;
-    (places.end + RIGHT).max(text + 28.0).max(bold + 28.0).max(930.0)
-}
-
-fn head(drawing: &mut Drawing, story: &Story, name: &str, verdicts: &[String]) {
-    let file = name.rsplit(['/', '\\']).next().unwrap_or(name);
+fn title(story: &Story, file: &str, places: &Places) -> String {
     let events = words::count(story.steps.len(), "event");
     let ticks = words::ticks(story.ticks());
     let (part, address) = (story.part, story.address);
-    let title = format!("{file}: {part} at address {address:02X}h, {events}, {ticks}");
-    drawing.text("title", [14.0, 24.0], &title);
-    for (place, verdict) in verdicts.iter().enumerate() {
-        drawing.text("verdict", [14.0, 45.0 + 17.0 * place as f64], verdict);
-    }
-}
-
-fn ticks(drawing: &mut Drawing, story: &Story, places: &Places, y: f64) {
-    drawing.line("axis", [LEFT, y], [places.end, y]);
-    drawing.text("lane", [14.0, y + 16.0], "ticks (ms)");
-    let mut label = |x: f64, tick: usize| {
-        drawing.line("axis", [x, y], [x, y + 5.0]);
-        drawing.text("middle", [x, y + 16.0], &tick.to_string());
+    let all = places.shown == (0..story.steps.len());
+    let shown = match (all, &story.steps[places.shown.clone()]) {
+        (false, [first, .., last]) => format!("; from tick {} to {}", first.tick, last.tick),
+        (false, [one]) => format!("; at tick {}", one.tick),
+        _ => String::new(),
     };
-    label(places.first_tick, 0);
-    // A dozen labels at the most, at round numbers.
-    let steps = [1, 2, 5, 10, 20, 50, 100, 200, 500];
-    let every = steps.into_iter().find(|step| story.ticks() / step <= 12).unwrap_or(500);
-    for (step, &x) in story.steps.iter().zip(&places.at) {
-        if step.event == Event::Tick && step.tick % every == 0 {
-            label(x, step.tick);
+    format!("{file}: {part} at address {address:02X}h, {events}, {ticks}{shown}")
+}
+
+fn draw_strip(paper: &mut Paper, story: &Story, places: &Places, strip: usize) {
+    let lanes = [Lane::Controller(Master::Zero), Lane::Controller(Master::One), Lane::Bus];
+    let height = lanes.iter().map(|lane| lane.height(story, places)).sum::<f64>();
+    let top = paper.block(height + AXIS);
+    let drawing = &mut paper.drawing;
+    ground(drawing, places, strip, [top, height]);
+    let mut y = top;
+    for lane in lanes {
+        drawing.line("paper-line", [LEFT, y], [places.right(strip), y]);
+        lane.draw(drawing, story, (places, strip), y);
+        y += lane.height(story, places);
+    }
+    let ends = places.shown.end == story.steps.len();
+    marks(drawing, places, (strip, ends), [top, height]);
+    let ticks = story.steps.iter().filter(|step| step.event == Event::Tick);
+    let ticks: Vec<(usize, usize)> = ticks.map(|step| (step.number, step.tick)).collect();
+    axis(drawing, places, strip, &ticks, y);
+}
+
+/// The ground of a strip, and on it the events that take no time.
+fn ground(drawing: &mut Drawing, places: &Places, strip: usize, [top, height]: [f64; 2]) {
+    drawing.rect("ground", [LEFT, top, places.right(strip) - LEFT, height], "");
+    for stretch in &places.apart {
+        for piece in places.pieces(*stretch).iter().filter(|piece| piece.strip == strip) {
+            drawing.rect("apart", [piece.x, top, piece.width, height], "");
         }
     }
 }
 
-/// What the colours say, in rows of this width at the most. Gives where the last row ends.
-fn legend(drawing: &mut Drawing, top: f64, width: f64) -> f64 {
-    let looks = [
-        (vec!["waits"], "asks and waits"),
-        (vec!["open0", "open1"], "owns, switch open"),
-        (vec!["c0", "c1"], "owns and is connected"),
-        (vec!["int"], "interrupt output asserted"),
-        (vec!["low"], "line low"),
-        (vec!["apart"], "events set apart, no time passes"),
-    ];
-    let (mut x, mut y) = (14.0, top);
-    for (classes, words) in looks {
-        let wide = 16.0 * classes.len() as f64 + 6.1 * words.len() as f64;
-        if x + wide > width {
-            (x, y) = (14.0, y + 16.0);
+/// Ticks that are folded, and the end of the run.
+fn marks(
+    drawing: &mut Drawing,
+    places: &Places,
+    (strip, ends): (usize, bool),
+    [top, height]: [f64; 2],
+) {
+    for (stretch, ticks) in &places.folded {
+        for piece in places.pieces(*stretch).iter().filter(|piece| piece.strip == strip) {
+            for x in [piece.x, piece.x + piece.width] {
+                drawing.line("fold", [x, top], [x, top + height]);
+            }
+            if piece.width >= NUMBERED {
+                let place = [piece.x + piece.width / 2.0, top + height + 31.0];
+                drawing.text("middle", place, &format!("{ticks} folded"));
+            }
         }
-        for class in classes {
-            drawing.rect(class, [x, y, 14.0, 10.0], "");
-            x += 16.0;
-        }
-        drawing.text("small", [x + 2.0, y + 9.0], words);
-        x += 6.1 * words.len() as f64 + 16.0;
     }
-    y + 12.0
+    if ends && strip + 1 == places.strips() {
+        let x = places.right(strip);
+        drawing.line("end", [x, top], [x, top + height + 20.0]);
+        drawing.text("middle", [x, top + height + 31.0], "end");
+    }
+}
+
+/// The ticks below a strip. `ticks` has the number of each TICK's event and that of the tick.
+fn axis(drawing: &mut Drawing, places: &Places, strip: usize, ticks: &[(usize, usize)], y: f64) {
+    drawing.line("axis", [LEFT, y], [places.right(strip), y]);
+    drawing.text("lane", [14.0, y + 16.0], "ticks (ms)");
+    let Some(first) = places.first_tick else {
+        return drawing.text("small", [LEFT, y + 16.0], "no tick: all of it takes no time");
+    };
+    let shown = ticks.iter().filter(|(number, _)| places.shown.contains(&(number - 1)));
+    let shown: Vec<(f64, usize)> =
+        shown.map(|&(number, tick)| (places.at[number - 1], tick)).collect();
+    // A dozen labels at the most, at round numbers, where nothing is folded.
+    let steps = [1, 2, 5, 10, 20, 50, 100, 200, 500];
+    let few = |step: &usize| shown.len() / step <= 12;
+    let every = if places.folded.is_empty() { steps.into_iter().find(few) } else { Some(1) };
+    let every = every.unwrap_or(500);
+    let before = shown.first().map(|&(_, tick)| (first, tick - 1));
+    let mut last = f64::MIN;
+    for (place, tick) in before.into_iter().chain(shown) {
+        let (here, x) = places.point(place);
+        let apart = x - last >= 30.0;
+        if here == strip && tick % every == 0 && apart && !is_inside_a_fold(places, place) {
+            drawing.line("axis", [x, y], [x, y + 5.0]);
+            drawing.text("middle", [x, y + 16.0], &tick.to_string());
+            last = x;
+        }
+    }
+}
+
+fn is_inside_a_fold(places: &Places, place: f64) -> bool {
+    places.folded.iter().any(|([from, to], _)| *from < place && place < to - 0.001)
 }
