@@ -13,6 +13,7 @@
 pub mod arguments;
 pub mod columns;
 pub mod commands;
+pub mod completion;
 pub mod cut;
 pub mod device;
 pub mod diff;
@@ -22,6 +23,7 @@ pub mod files;
 pub mod form;
 pub mod hint;
 pub mod json;
+pub mod manual;
 pub mod many;
 pub mod options;
 pub mod order;

@@ -1,5 +1,6 @@
 //! The subcommands, a file each.
 
+pub mod completion;
 pub mod compose;
 pub mod convert;
 pub mod decompose;
@@ -8,6 +9,7 @@ pub mod explain;
 pub mod fill;
 pub mod import;
 pub mod list;
+pub mod manual;
 pub mod orders;
 pub mod picture;
 pub mod release;
@@ -53,4 +55,6 @@ pub const COMMANDS: &[Command] = &[
     wave::COMMAND,
     picture::COMMAND,
     run::COMMAND,
+    manual::COMMAND,
+    completion::COMMAND,
 ];

@@ -1,0 +1,80 @@
+//! The manual page, made from the table of commands that the help is made from. `man` shows it.
+
+use crate::commands::{Command, COMMANDS};
+use crate::options::{takes, COMMON};
+use crate::{ABOUT, EXIT_CODES, FILES};
+
+/// The whole page, in the macros of man(7).
+pub fn page() -> String {
+    let version = env!("CARGO_PKG_VERSION");
+    let mut text = format!(
+        ".TH GUNWALEISH 1 \"\" \"gunwaleish {version}\" \"User Commands\"\n\
+         .SH NAME\ngunwaleish \\- {}\n\
+         .SH SYNOPSIS\n.nf\ngunwaleish COMMAND [FILE...] [\\-o OUT]\ngunwaleish help COMMAND\n.fi\n\
+         .SH DESCRIPTION\n{}.SH COMMANDS\n",
+        escaped(ABOUT),
+        paragraphs(FILES)
+    );
+    COMMANDS.iter().for_each(|command| text.push_str(&section(command)));
+    text.push_str(&format!(
+        ".SH OPTIONS OF ALL COMMANDS\n{}.SH EXIT STATUS\n{}",
+        COMMON.map(option).concat(),
+        paragraphs(EXIT_CODES)
+    ));
+    text
+}
+
+fn section(command: &Command) -> String {
+    let mut text = format!(
+        ".SS {}\n{}\n.PP\n.nf\ngunwaleish {0} {}\n.fi\n{}",
+        escaped(command.name),
+        escaped(&sentence(command.summary)),
+        escaped(command.usage),
+        paragraphs(command.help)
+    );
+    command.options.iter().for_each(|(name, _)| text.push_str(&option(name)));
+    text.push_str(&format!(
+        ".PP\nAt the repository's root:\n.PP\n.nf\n{}\n.fi\n",
+        escaped(command.example)
+    ));
+    text
+}
+
+/// An option, and what stands after it.
+fn option(name: &str) -> String {
+    let after = match has_value(name) {
+        true => escaped(&sentence(&format!("followed by {}", takes(name)))),
+        false => "Stands alone.".to_string(),
+    };
+    format!(".TP\n.B {}\n{after}\n", escaped(name))
+}
+
+fn has_value(name: &str) -> bool {
+    let own = COMMANDS.iter().flat_map(|command| command.options);
+    own.into_iter().any(|(own, count)| *own == name && *count > 0)
+        || matches!(name, "-o" | "--output")
+}
+
+fn sentence(text: &str) -> String {
+    let (first, rest) = text.split_at(text.chars().next().map_or(0, char::len_utf8));
+    format!("{}{rest}.", first.to_uppercase())
+}
+
+/// Paragraphs of text. One that stands in columns keeps its lines.
+fn paragraphs(text: &str) -> String {
+    let one = |paragraph: &str| match paragraph.lines().any(|line| line.trim().contains("  ")) {
+        true => format!(".PP\n.nf\n{}\n.fi\n", escaped(paragraph)),
+        false => format!(".PP\n{}\n", escaped(paragraph)),
+    };
+    text.split("\n\n").map(one).collect()
+}
+
+/// Text as it may stand in a manual page: a line that begins with a point is no macro there.
+fn escaped(text: &str) -> String {
+    let text = text.replace('\\', "\\e").replace('-', "\\-");
+    let line = |line: &str| match line.starts_with(['.', '\'']) {
+        true => format!("\\&{line}"),
+        false => line.to_string(),
+    };
+    text.lines().map(|one| line(one.trim_end())).collect::<Vec<_>>().join("\n")
+}
