@@ -6,6 +6,7 @@ use std::path::PathBuf;
 
 use crate::commands::{Command, COMMANDS};
 use crate::failure::Failure;
+use crate::files::shown;
 use crate::options;
 
 /// What the command line asks for.
@@ -57,7 +58,7 @@ pub fn read_arguments(words: Vec<OsString>) -> Result<Asked, Failure> {
 fn command_named(word: &OsStr) -> Result<&'static Command, Failure> {
     let named = COMMANDS.iter().find(|command| word.to_str() == Some(command.name));
     named.ok_or_else(|| {
-        let word = word.to_string_lossy();
+        let word = shown(&word.to_string_lossy());
         let names = COMMANDS.iter().map(|command| command.name);
         wrong(&format!("there is no command '{word}'{}", options::perhaps(&word, names)))
     })
@@ -83,7 +84,7 @@ fn read_rest(
                     }
                     continue;
                 }
-                let (name, values) = own_option(command, option, &mut words)?;
+                let (name, values) = own_option(command, &word, &mut words)?;
                 if arguments.options.contains_key(name) && !REPEATED.contains(&name) {
                     return Err(wrong_for(command, &format!("{name} is there twice")));
                 }
@@ -145,23 +146,25 @@ fn after(word: &OsStr, bytes: usize) -> OsString {
 /// commas between them.
 fn own_option(
     command: &'static Command,
-    option: &str,
+    option: &OsStr,
     words: &mut impl Iterator<Item = OsString>,
 ) -> Result<(&'static str, Vec<OsString>), Failure> {
-    let (word, joined) = match option.split_once('=') {
+    let text = option.to_string_lossy();
+    let (word, joined) = match text.split_once('=') {
         Some((word, value)) => (word, Some(value)),
-        None => (option, None),
+        None => (&*text, None),
     };
     let Some(&(name, count)) = command.options.iter().find(|(name, _)| *name == word) else {
         let perhaps = options::perhaps(word, options::of(command));
-        let what = format!("{} has no option '{word}'{perhaps}", command.name);
+        let what = format!("{} has no option '{}'{perhaps}", command.name, shown(word));
         return Err(wrong_for(command, &what));
     };
     let values: Vec<OsString> = match joined {
         Some(_) if count == 0 => {
             return Err(wrong_for(command, &format!("{name} takes no value")));
         }
-        Some(value) if count == 1 => vec![value.into()],
+        // It may name a file, and need not be text.
+        Some(_) if count == 1 => vec![after(option, word.len() + 1)],
         Some(value) => value.split(',').map(OsString::from).collect(),
         None => words.take(count).collect(),
     };

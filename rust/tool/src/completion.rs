@@ -1,7 +1,7 @@
 //! Completion of the command line for three shells, made from the table of commands.
 
 use crate::commands::{Command, COMMANDS};
-use crate::options::{choices, of, takes};
+use crate::options::{choices, count_after, names_file, of, takes};
 
 /// A shell for which there is completion.
 #[derive(Clone, Copy, Debug, PartialEq, Eq)]
@@ -119,23 +119,13 @@ fn zsh() -> String {
 }
 
 fn zsh_option(command: &Command, option: &str) -> String {
-    let after = match (values(command, option), choices(option)) {
+    let after = match (count_after(command, option), choices(option)) {
         (0, _) => String::new(),
-        (_, []) if is_output(option) => ":file:_files".to_string(),
+        (_, []) if names_file(option) => ":file:_files".to_string(),
         (count, []) => ":word: ".repeat(count),
         (_, words) => format!(":word:({})", words.join(" ")),
     };
     format!("'{option}{after}'")
-}
-
-fn is_output(option: &str) -> bool {
-    matches!(option, "-o" | "--output")
-}
-
-/// How many words stand after an option.
-fn values(command: &Command, option: &str) -> usize {
-    let own = command.options.iter().find(|(name, _)| *name == option);
-    own.map_or(usize::from(is_output(option)), |(_, count)| *count)
 }
 
 fn fish() -> String {
@@ -160,9 +150,9 @@ fn fish() -> String {
             let (long, short) = (option.strip_prefix("--"), option.strip_prefix('-'));
             let name =
                 long.map_or(format!("-s {}", short.unwrap_or(option)), |long| format!("-l {long}"));
-            let after = match (values(command, option), choices(option)) {
+            let after = match (count_after(command, option), choices(option)) {
                 (0, _) => String::new(),
-                (_, []) if is_output(option) => " -r".to_string(),
+                (_, []) if names_file(option) => " -r".to_string(),
                 (_, []) => format!(" -x -d {}", quoted(takes(option))),
                 (_, words) => format!(" -x -a {}", quoted(&words.join(" "))),
             };

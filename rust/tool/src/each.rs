@@ -122,7 +122,7 @@ impl<F: Fn(&Input) -> Made> Each<F> {
         for (file, path) in files.iter().zip(&outputs) {
             let Some(path) = path else { continue };
             if let Some(other) = taken.insert(path, file) {
-                let (one, two, to) = (other.display(), file.display(), path.display());
+                let [one, two, to] = [other, file, path].map(|path| files::name_of(path));
                 return wrong(&format!("{one} and {two} would both be written to {to}"));
             }
             keep_inputs(path, &inputs)?;
@@ -154,7 +154,7 @@ fn found(files: &[PathBuf]) -> HashSet<PathBuf> {
 
 fn keep_inputs(path: &Path, inputs: &HashSet<PathBuf>) -> Result<(), Failure> {
     match path.canonicalize().is_ok_and(|path| inputs.contains(&path)) {
-        true => wrong(&format!("{} is an input, and is not written over", path.display())),
+        true => wrong(&format!("{} is an input, and is not written over", files::name_of(path))),
         false => Ok(()),
     }
 }

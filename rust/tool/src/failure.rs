@@ -36,7 +36,9 @@ impl Failure {
     pub fn text(&self) -> &str {
         match self {
             Failure::Refused(text) | Failure::Wrong(text) => text,
-            Failure::NotReleased | Failure::NotAlike | Failure::OfMany { .. } | Failure::Closed => "",
+            Failure::NotReleased | Failure::NotAlike | Failure::OfMany { .. } | Failure::Closed => {
+                ""
+            }
         }
     }
 

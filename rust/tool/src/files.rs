@@ -129,8 +129,8 @@ pub fn print_bytes(bytes: &[u8]) -> Result<(), Failure> {
     let mut out = io::stdout().lock();
     if out.is_terminal() && is_binary(bytes) {
         let what =
-            "what comes out is binary, and standard output is a terminal: -o FILE writes it to \
-                    a file, and a pipe hands it on, as in: | gunwaleish explain";
+            "what comes out is binary, and standard output is a terminal: -o FILE writes it \
+                    to a file, and a pipe hands it on to another command";
         return Err(Failure::Wrong(what.to_string()));
     }
     match out.write_all(bytes).and_then(|()| out.flush()) {

@@ -5,6 +5,7 @@
 use gunwaleish::{convert_trace, run_trace, Pins, Sheet, MOST_EVENTS, SHEET_LENGTH};
 
 use crate::files::Input;
+use crate::form;
 use crate::order::faults::fault;
 use crate::script::{each_line, Unread, Words};
 use crate::seen::Seen;
@@ -21,6 +22,7 @@ pub enum Kind {
     ShelfScript,
     Shelf,
     Sheet,
+    SheetText,
     Capture,
     Totals,
     Listing,
@@ -36,8 +38,13 @@ pub enum Kind {
 
 /// What to say behind the refusal of a file that was to be of a kind; nothing if it looks like one.
 pub fn hint(input: &Input, wanted: Kind) -> String {
-    let kind = kind_of(&input.bytes).or_else(|| kind_by_name(&input.name));
-    let kind = kind.or_else(|| is_text(&input.bytes).then_some(Kind::Text));
+    hint_of(&input.name, &input.bytes, wanted)
+}
+
+/// The same of a name and what the file has.
+pub fn hint_of(name: &str, bytes: &[u8], wanted: Kind) -> String {
+    let kind = kind_of(bytes).or_else(|| kind_by_name(name));
+    let kind = kind.or_else(|| is_text(bytes).then_some(Kind::Text));
     kind.and_then(|kind| said(kind, wanted)).map_or(String::new(), |text| format!("; it {text}"))
 }
 
@@ -68,7 +75,14 @@ fn said(kind: Kind, wanted: Kind) -> Option<String> {
         Kind::Shelf => {
             "looks like a shelf file: gunwaleish shelf takes it, and then a script".to_string()
         }
-        Kind::Sheet => "looks like an order sheet: gunwaleish sheet tells two of them".to_string(),
+        Kind::Sheet => {
+            "looks like an order sheet: gunwaleish sheet shows it, and tells what two of them order"
+                .to_string()
+        }
+        Kind::SheetText => {
+            "looks like the text of an order sheet: gunwaleish fill makes the sheet of it"
+                .to_string()
+        }
         Kind::Capture => "looks like a capture: gunwaleish import makes a trace of it".to_string(),
         Kind::Totals => "looks like totals: gunwaleish share --join takes them".to_string(),
         Kind::Listing => {
@@ -80,11 +94,20 @@ fn said(kind: Kind, wanted: Kind) -> Option<String> {
             .to_string(),
         Kind::Gzip => "is compressed: gunzip gives what is in it".to_string(),
         Kind::Vcd => exported("a VCD file of waveforms"),
+        // The name of a box has commas too.
+        Kind::Csv if wanted == Kind::SheetText => return None,
         Kind::Csv => exported("a CSV file"),
         Kind::Picture => "looks like a picture, which nothing reads".to_string(),
+        // What cannot be filled in says so itself.
+        Kind::Utf16 if wanted == Kind::SheetText => return None,
         Kind::Utf16 => "is text in UTF-16: save it as UTF-8".to_string(),
         Kind::Text => match wanted {
-            Kind::Script | Kind::ShelfScript | Kind::Shelf | Kind::Totals => return None,
+            Kind::Script | Kind::ShelfScript | Kind::Shelf | Kind::Totals | Kind::SheetText => {
+                return None
+            }
+            Kind::Sheet => {
+                "looks like plain text: gunwaleish fill makes a sheet of a sheet's text".to_string()
+            }
             _ => "looks like plain text, which no trace, capture or order sheet is".to_string(),
         },
     })
@@ -158,6 +181,11 @@ fn begins_trace(bytes: &[u8]) -> bool {
     strapped && (1..=MOST_EVENTS).contains(&events) && kind <= 9
 }
 
+/// True of text that is of no other kind than a sheet's text, or of none.
+pub fn is_plain(bytes: &[u8]) -> bool {
+    is_text(bytes) && matches!(kind_of(bytes), None | Some(Kind::SheetText))
+}
+
 fn is_text(bytes: &[u8]) -> bool {
     let control = |byte: &u8| *byte < b' ' && !b"\t\r\n\x0C".contains(byte);
     !bytes.iter().any(|byte| control(byte) || *byte == 0x7F)
@@ -179,6 +207,8 @@ fn kind_of_text(bytes: &[u8]) -> Option<Kind> {
         () if is_listing(first) => Some(Kind::Listing),
         // sigrok begins with comments, which have a semicolon.
         () if begins(&["; CSV", ";CSV"]) => Some(Kind::Csv),
+        // Before CSV, since a box's name has commas.
+        () if form::begins_with_box(text) => Some(Kind::SheetText),
         () => kind_of_lines(text.as_bytes())
             .or_else(|| (first.matches(',').count() >= 2).then_some(Kind::Csv)),
     }

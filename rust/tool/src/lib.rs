@@ -4,10 +4,11 @@
 //! runs folders of traces on all cores, or counts over many traces how the bus was shared.
 //!
 //! Every answer comes from the proved library. What is here is words and pictures: `story` follows
-//! a run and says what changed, `stuck` why one still waits at its end, `order` says what is on two sheets, `form` has the text of one,
-//! `startup` how the orders of two scripts end, `shelf` what happens at each place of a shelf, `share` how the bus was shared, `release`
-//! whether a bundle is safe by all of that,
-//! `commands` has a file for each subcommand, and `arguments`, `files` and `each` are the way from the
+//! a run and says what changed, `stuck` why one still waits at its end, `diff` where two runs part, `order`
+//! says what is on two sheets, `form` has the text of one, `startup` how the orders of two scripts end,
+//! `shelf` what happens at each place of a shelf, `share` how the bus was shared, `release` whether a bundle
+//! is safe by all of that, `hint` what a wrong file is, `commands` has a file for each subcommand, which
+//! `manual` and `completion` are made from, and `arguments`, `walk`, `files` and `each` are the way from the
 //! command line to the files and back.
 
 pub mod arguments;

@@ -18,7 +18,7 @@ pub fn page() -> String {
     COMMANDS.iter().for_each(|command| text.push_str(&section(command)));
     text.push_str(&format!(
         ".SH OPTIONS OF ALL COMMANDS\n{}.SH EXIT STATUS\n{}",
-        COMMON.map(option).concat(),
+        COMMON.map(|name| option(name, matches!(name, "-o" | "--output"))).concat(),
         paragraphs(EXIT_CODES)
     ));
     text
@@ -32,7 +32,7 @@ fn section(command: &Command) -> String {
         escaped(command.usage),
         paragraphs(command.help)
     );
-    command.options.iter().for_each(|(name, _)| text.push_str(&option(name)));
+    command.options.iter().for_each(|(name, count)| text.push_str(&option(name, *count > 0)));
     text.push_str(&format!(
         ".PP\nAt the repository's root:\n.PP\n.nf\n{}\n.fi\n",
         escaped(command.example)
@@ -41,18 +41,12 @@ fn section(command: &Command) -> String {
 }
 
 /// An option, and what stands after it.
-fn option(name: &str) -> String {
-    let after = match has_value(name) {
+fn option(name: &str, has_value: bool) -> String {
+    let after = match has_value {
         true => escaped(&sentence(&format!("followed by {}", takes(name)))),
         false => "Stands alone.".to_string(),
     };
     format!(".TP\n.B {}\n{after}\n", escaped(name))
-}
-
-fn has_value(name: &str) -> bool {
-    let own = COMMANDS.iter().flat_map(|command| command.options);
-    own.into_iter().any(|(own, count)| *own == name && *count > 0)
-        || matches!(name, "-o" | "--output")
 }
 
 fn sentence(text: &str) -> String {

@@ -6,6 +6,12 @@ use crate::commands::Command;
 /// The options of every command.
 pub const COMMON: [&str; 4] = ["-o", "--output", "-h", "--help"];
 
+/// How many words stand after an option of a command.
+pub fn count_after(command: &Command, option: &str) -> usize {
+    let own = command.options.iter().find(|(name, _)| *name == option);
+    own.map_or(usize::from(matches!(option, "-o" | "--output")), |(_, count)| *count)
+}
+
 /// All options of a command.
 pub fn of(command: &Command) -> impl Iterator<Item = &str> {
     command.options.iter().map(|(name, _)| *name).chain(COMMON)
@@ -17,14 +23,24 @@ pub fn takes(option: &str) -> &'static str {
         "--address" => "an address in hex, such as 71",
         "--controller" => "a controller, 0 or 1",
         "--from" | "--to" => "a number of ticks",
+        "--most" => "a count of milliseconds",
         "--order" => "a pattern, such as 000111",
         "--part" => "a part, PCA9641 or TPT29641",
         "--pins" => "the four codes of AD3, AD2, AD1 and AD0",
         "--threads" => "a number of at least 1",
-        "--totals" => "the name of a file",
+        "--traces" => "the name of a trace or of a folder of them",
+        "--without-limit" => "a controller, 0 or 1, or the word both",
         "-o" | "--output" => "the name of a file or a folder",
+        _ if names_file(option) => "the name of a file",
         _ => "a word",
     }
+}
+
+/// True if a file is named after an option that has a word after it.
+pub fn names_file(option: &str) -> bool {
+    let release = ["--board", "--house", "--start0", "--start1", "--shelf", "--shelf-script"];
+    let others = ["-o", "--output", "--totals", "--traces"];
+    release.contains(&option) || others.contains(&option)
 }
 
 /// The words that can stand after an option, where there are few.
@@ -32,6 +48,7 @@ pub fn choices(option: &str) -> &'static [&'static str] {
     match option {
         "--controller" => &["0", "1"],
         "--part" => &["PCA9641", "TPT29641"],
+        "--without-limit" => &["0", "1", "both"],
         _ => &[],
     }
 }

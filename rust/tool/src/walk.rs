@@ -1,11 +1,12 @@
 //! The files that are traces: those that are named, and those of folders that end in `.trace`. What is
-//! run and what is counted is found by this one walk.
+//! run, what is counted and what a release has is found by this one walk.
 
 use std::fs::{self, DirEntry};
 use std::io;
 use std::path::{Path, PathBuf};
 
 use crate::failure::Failure;
+use crate::files::name_of;
 use crate::words::count;
 
 /// What was found under the names.
@@ -52,7 +53,7 @@ impl Found {
         for paths in [&mut here.files, &mut here.others, &mut here.links] {
             paths.sort();
         }
-        let told = format!("{}: {}", folder.display(), here.told());
+        let told = format!("{}: {}", name_of(folder), here.told());
         match here.files.is_empty() && unread.is_empty() {
             true => self.empty.push(Failure::Refused(told)),
             false => self.said.push(told),
@@ -85,7 +86,7 @@ impl Search {
                 Ok(())
             });
             if let Err(error) = looked {
-                let why = format!("{} cannot be read: {error}", folder.display());
+                let why = format!("{} cannot be read: {error}", name_of(&folder));
                 unread.push(Failure::Wrong(why));
             }
         }

@@ -5,9 +5,8 @@ mod common;
 
 use std::fs;
 use std::path::Path;
-use std::process::Command;
 
-use common::{code, root, run, said, shell, told, Folder, BUILT, TOOL};
+use common::{code, in_terminal, root, run, said, shell, told, Folder, BUILT};
 
 /// The sample sheets, without their ending.
 fn samples() -> Vec<String> {
@@ -54,7 +53,7 @@ fn what_is_no_sheet_is_told_as_in_a_pair() {
         assert!(said(&alone).starts_with(&start), "{}", said(&alone));
         let pair = run(&["sheet", file, "sheets/house.sheet"]);
         assert_eq!(said(&alone), said(&pair).replace(", the board sheet: ", ": "));
-        let hint = "; it is text, and gunwaleish fill makes a sheet of a sheet's text\n";
+        let hint = "; it looks like plain text: gunwaleish fill makes a sheet of a sheet's text\n";
         assert_eq!(said(&alone).ends_with(hint), file == "README.md", "{}", said(&alone));
     }
 }
@@ -131,31 +130,23 @@ fn wrong_use_is_2() {
     assert!(said(&full).contains("standard output cannot be written"), "{}", said(&full));
 }
 
-/// Fifteen bytes that are no text do not go to a terminal; into a file they do, also from one. util-linux
-/// has a program that makes a terminal.
+/// Fifteen bytes that are no text do not go to a terminal, by the rule for all that is binary; into a file
+/// they do, also from one.
+#[cfg(unix)]
 #[test]
 fn a_terminal_gets_no_bytes() {
-    if Command::new("script").arg("--version").output().is_err() {
-        return println!("skipped: script is not installed (it comes with util-linux)");
-    }
     let folder = Folder::new("terminal");
-    let on_terminal = |line: &str| {
-        let ran = Command::new("script")
-            .args(["-qec", &line.replace(BUILT, TOOL), "/dev/null"])
-            .current_dir(root())
-            .output()
-            .unwrap();
-        (code(&ran), told(&ran))
-    };
-    let refused =
-        "gunwaleish: a sheet is no text, and is not written to a terminal: name a file for it \
-                   with -o; gunwaleish fill --help tells more\r\n";
-    for line in ["fill sheets/board.txt", "fill sheets/board.txt -o -", "fill"] {
-        assert_eq!(on_terminal(&format!("{BUILT} {line}")), (2, refused.to_string()));
+    let refused = "gunwaleish: what comes out is binary, and standard output is a terminal: ";
+    for line in ["fill sheets/board.txt", "fill sheets/board.txt -o -", "fill <sheets/board.txt"] {
+        let Some((code, shown)) = in_terminal(&format!("$TOOL {line}")) else {
+            return println!("skipped: script is not installed (it comes with util-linux)");
+        };
+        assert_eq!(code, 2, "{line}: {shown}");
+        assert!(shown.starts_with(refused) && shown.lines().count() == 1, "{line}: {shown}");
     }
     let out = folder.path("a.sheet");
-    let line = format!("{BUILT} fill sheets/board.txt -o {out}");
-    assert_eq!(on_terminal(&line), (0, String::new()));
+    let line = format!("$TOOL fill sheets/board.txt -o {out}");
+    assert_eq!(in_terminal(&line), Some((0, String::new())));
     let stored = fs::read(root().join("sheets/board.sheet")).unwrap();
     assert_eq!(fs::read(&out).unwrap(), stored);
 }

@@ -5,7 +5,7 @@ mod common;
 
 use std::fs;
 
-use common::{code, root, run, said, Folder};
+use common::{code, root, run, said, told, Folder};
 
 use gunwaleish_tool::files::Input;
 use gunwaleish_tool::hint::{hint, kind_of, Kind};
@@ -17,7 +17,9 @@ const DEVICE: [&str; 4] = ["--address", "71", "--part", "PCA9641"];
 const SCRIPT: &str = "looks like a script for one device: gunwaleish compose makes a trace of it";
 const FOR_SHELF: &str = "looks like a script for a shelf: gunwaleish shelf runs it";
 const SHELF: &str = "looks like a shelf file: gunwaleish shelf takes it, and then a script";
-const SHEET: &str = "looks like an order sheet: gunwaleish sheet tells two of them";
+const SHEET: &str =
+    "looks like an order sheet: gunwaleish sheet shows it, and tells what two of them order";
+const TEXT: &str = "looks like the text of an order sheet: gunwaleish fill makes the sheet of it";
 const CAPTURE: &str = "looks like a capture: gunwaleish import makes a trace of it";
 const STREAM: &str = "looks like a stream of traces: gunwaleish share --stream counts it";
 const EXPLAIN: &str = "looks like a trace: gunwaleish explain tells it in words";
@@ -40,6 +42,7 @@ fn where_a_trace_is_wanted() {
         ("traces/shelf/hang.script", FOR_SHELF),
         ("traces/shelf/chassis.shelf", SHELF),
         ("sheets/board.sheet", SHEET),
+        ("sheets/board.txt", TEXT),
         ("traces/box14.capture", CAPTURE),
         ("crates/report/stdin", STREAM),
         ("traces/m1.listing", "looks like a listing, which gunwaleish list makes of a trace"),
@@ -61,7 +64,7 @@ fn where_something_else_is_wanted() {
     let capture = |file: &'static str| [&["import", file], &DEVICE[..]].concat();
     let [start, shelf, hang] =
         ["traces/orders/start0.script", "traces/shelf/chassis.shelf", "traces/shelf/hang.script"];
-    let cases: [(&[&str], &str); 17] = [
+    let cases: [(&[&str], &str); 25] = [
         (&["compose", "traces/m1.trace"], DECOMPOSE),
         (&["compose", "sheets/board.sheet"], SHEET),
         (&["compose", "traces/box14.capture"], CAPTURE),
@@ -78,6 +81,14 @@ fn where_something_else_is_wanted() {
         (&["sheet", "traces/m1.trace", "sheets/house.sheet"], EXPLAIN),
         (&["sheet", "sheets/board.sheet", "traces/m1.script"], SCRIPT),
         (&["sheet", "sheets/board.sheet", "traces/box14.capture"], CAPTURE),
+        (&["sheet", "sheets/board.txt", "sheets/house.sheet"], TEXT),
+        (&["sheet", "sheets/board.txt"], TEXT),
+        (&["sheet", "traces/m1.trace"], EXPLAIN),
+        (&["fill", "traces/m1.trace"], EXPLAIN),
+        (&["fill", "traces/m1.script"], SCRIPT),
+        (&["fill", "traces/box14.capture"], CAPTURE),
+        (&["fill", shelf], SHELF),
+        (&["compose", "sheets/board.txt"], TEXT),
         (&capture("traces/box14.trace"), EXPLAIN),
         (&capture("traces/box14.script"), SCRIPT),
         (&capture("sheets/board.sheet"), SHEET),
@@ -151,16 +162,71 @@ fn damaged_files_of_the_right_kind_have_no_hint() {
     }
 }
 
+/// A sheet's text is known by its first line of a box, mistyped or not, and `fill` says of a mistyped one
+/// what is mistyped and no more.
+#[test]
+fn the_text_of_a_sheet() {
+    let good = fs::read_to_string(root().join("sheets/house.txt")).unwrap();
+    let folder = Folder::new("sheet-text");
+    let path = folder.path("a.txt");
+    let slips =
+        [("Downstream reserve, ms", "Downstrem reserve, ms"), ("controller 0:", "contr 0:")];
+    for (from, to) in slips {
+        let text = good.replace(from, to);
+        assert_ne!(text, good);
+        assert_eq!(kind_of(text.as_bytes()), Some(Kind::SheetText), "{text}");
+        fs::write(&path, text).unwrap();
+        let filled = run(&["fill", &path]);
+        assert_eq!(code(&filled), 1);
+        assert!(!said(&filled).contains("; it "), "{}", said(&filled));
+        refused(&["sheet", &path, "sheets/house.sheet"], TEXT);
+    }
+    assert_eq!(kind_of(good.as_bytes()), Some(Kind::SheetText));
+    let utf16: Vec<u8> =
+        [0xFEFF].into_iter().chain(good.encode_utf16()).flat_map(u16::to_le_bytes).collect();
+    fs::write(&path, utf16).unwrap();
+    assert_eq!(said(&run(&["fill", &path])).matches("UTF-16").count(), 1);
+}
+
+/// A verdict has them too: each file that stands for another kind is told as such, and a text of a sheet
+/// with the one command that makes the sheet.
+#[test]
+fn in_a_verdict() {
+    let [board, house] = ["sheets/board.sheet", "sheets/house.sheet"];
+    let starts = ["--start0", "traces/orders/start0.script", "--start1", "traces/m1.trace"];
+    let shelf = "traces/shelf/chassis.shelf";
+    let cases: [(&[&str], &str); 6] = [
+        (&["--board", "traces/m1.trace", "--house", house], EXPLAIN),
+        (&["--board", board, "--house", house, "--traces", "traces/m1.script"], SCRIPT),
+        (&[&["--board", board, "--house", house], &starts[..]].concat(), DECOMPOSE),
+        (&["--board", board, "--house", house, "--shelf", board, "--shelf-script", shelf], SHEET),
+        (&["--board", board, "--house", house, "--shelf", shelf, "--shelf-script", shelf], SHELF),
+        (&["--board", "sheets/board.txt", "--house", house], "it is text."),
+    ];
+    for (arguments, expected) in cases {
+        let output = run(&[&["release"], arguments].concat());
+        let text = told(&output);
+        assert_eq!(code(&output), 1, "{text}");
+        assert!(text.contains(expected), "{arguments:?}: {text}");
+        if expected == "it is text." {
+            assert_eq!(text.matches("gunwaleish fill makes").count(), 1, "{text}");
+        }
+    }
+}
+
 /// Pages and other texts are taken for nothing that they are not.
 #[test]
 fn other_texts_are_of_no_kind() {
-    for arguments in [&["explain", "README.md"][..], &["sheet", "README.md", "sheets/house.sheet"]]
-    {
-        refused(arguments, "looks like plain text, which no trace, capture or order sheet is");
+    let plain = "looks like plain text, which no trace, capture or order sheet is";
+    refused(&["explain", "README.md"], plain);
+    let fill = "looks like plain text: gunwaleish fill makes a sheet of a sheet's text";
+    refused(&["sheet", "README.md", "sheets/house.sheet"], fill);
+    refused(&["sheet", "README.md"], fill);
+    for command in ["compose", "fill"] {
+        assert!(!said(&run(&[command, "README.md"])).contains("; it "), "{command}");
     }
-    assert!(!said(&run(&["compose", "README.md"])).contains("; it "));
     for file in
-        ["README.md", "docs/SHARE.md", "docs/ORDERS.md", "rust/tool/src/hint.rs", "tools/lint"]
+        ["README.md", "docs/SHARE.md", "docs/SHEETS.md", "rust/tool/src/hint.rs", "tools/lint"]
     {
         let bytes = fs::read(root().join(file)).unwrap();
         assert_eq!(kind_of(&bytes), None, "{file}");

@@ -42,6 +42,15 @@ fn the_page_has_the_help_of_every_command() {
             assert!(page.contains(&macro_line), "{}: {option}", command.name);
         }
     }
+    // What stands after an option goes by the command.
+    let shelf = |command: &str, after: &str| {
+        let (_, own) = page.split_once(&format!("\n.SS {command}\n")).unwrap();
+        let own = own.split_once("\n.SS ").map_or(own, |(own, _)| own);
+        assert!(own.contains(&format!("\n.B \\-\\-shelf\n{after}\n")), "{own}");
+    };
+    shelf("release", "Followed by the name of a file.");
+    shelf("picture", "Stands alone.");
+    assert!(!text.contains("ollowed by a word."), "each option says what stands after it");
     assert!(page
         .starts_with(".TH GUNWALEISH 1 \"\" \"gunwaleish 0.1.0\" \"User Commands\"\n.SH NAME\n"));
     assert!(page.ends_with('\n'));
@@ -130,6 +139,9 @@ fn bash_completes() {
     assert_eq!(ask(&["gunwaleish", "help", "deco"]), ["decompose"]);
     assert_eq!(ask(&["gunwaleish", "import", "--part", "T"]), ["TPT29641"]);
     assert_eq!(ask(&["gunwaleish", "completion", "z"]), ["zsh"]);
+    assert_eq!(ask(&["gunwaleish", "rel"]), ["release"]);
+    assert_eq!(ask(&["gunwaleish", "release", "--without-limit", ""]), ["0", "1", "both"]);
+    assert_eq!(ask(&["gunwaleish", "release", "--board", "sh"]), Vec::<String>::new());
     assert_eq!(ask(&["gunwaleish", "explain", "tr"]), Vec::<String>::new(), "files are bash's own");
     for command in COMMANDS.iter().filter(|command| command.name != "completion") {
         let options: Vec<&str> = of(command).collect();

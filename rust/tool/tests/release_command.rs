@@ -4,7 +4,9 @@
 mod common;
 
 use std::collections::BTreeSet;
+use std::ffi::{OsStr, OsString};
 use std::fs;
+use std::os::unix::ffi::OsStrExt;
 use std::os::unix::fs::{symlink, PermissionsExt};
 use std::path::Path;
 use std::process::Command;
@@ -158,7 +160,7 @@ fn files_are_named_by_option_too() {
 #[test]
 fn wrong_use_is_2() {
     let board = format!("{SAFE}/board.sheet");
-    let cases: [(&[&str], &str); 16] = [
+    let cases: [(&[&str], &str); 17] = [
         (&[], "release needs a folder, or both sheets by option, and --board is not there"),
         (&["--board", &board], "--house is not there"),
         (&[SAFE, SAFE], "release needs one folder, and has 2"),
@@ -170,6 +172,7 @@ fn wrong_use_is_2() {
         (&["sheets", "--board", "releases"], "releases cannot be read: it is no file"),
         (&[SAFE, "--board", "/dev/zero"], "/dev/zero cannot be read: it is no file"),
         (&[SAFE, "--traces", "no-such.trace"], "no-such.trace cannot be read: "),
+        (&[SAFE, "--traces", "sheets"], "sheets: no trace; skipped: "),
         (
             &["sheets", "--start0", &board],
             "is there without the other controller's start-up script",
@@ -276,9 +279,31 @@ fn names_make_no_lines() {
     let output = run(&["release", here.to_str().unwrap()]);
     assert_eq!(code(&output), 1);
     let text = told(&output);
-    assert!(text.contains("/a?RELEASED: b.trace") && text.contains("/c?[2J?RELEASED: d"), "{text}");
+    for name in ["/a\\nRELEASED: b.trace", "/c\\u{1b}[2J\\nRELEASED: d"] {
+        assert!(text.contains(name), "{text}");
+    }
     assert!(text.lines().all(|line| !line.starts_with("RELEASED")), "{text}");
     assert!(!text.contains('\u{1b}'));
+    // Nor does one on standard error.
+    let line = run(&["release", here.join("c\u{1b}[2J\nRELEASED: d").to_str().unwrap()]);
+    assert_eq!((code(&line), said(&line).lines().count()), (2, 1), "{}", said(&line));
+    assert!(!said(&line).contains('\u{1b}'));
+}
+
+/// A name need not be text, also behind a sign =.
+#[test]
+fn a_name_that_is_no_text() {
+    let folder = Folder::new("release-bytes");
+    let name = OsStr::from_bytes(b"board\xFF.sheet");
+    fs::copy(root().join(SAFE).join("board.sheet"), folder.0.join(name)).unwrap();
+    let path = folder.0.join(name).into_os_string();
+    let joined = [OsStr::new("--board="), &path].into_iter().collect::<OsString>();
+    for words in [vec![OsStr::new("--board"), &path], vec![&joined]] {
+        let mut tool = Command::new(TOOL);
+        tool.current_dir(root()).args(["release", SAFE]).args(words);
+        let output = tool.output().unwrap();
+        assert_eq!(code(&output), 0, "{}", said(&output));
+    }
 }
 
 /// 100 MB of noise in the place of each file: a verdict, with a line for each, and in little memory.

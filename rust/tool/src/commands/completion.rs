@@ -28,7 +28,10 @@ fn run(arguments: &Arguments) -> Result<(), Failure> {
     };
     let named = Shell::ALL.into_iter().find(|shell| word.as_os_str() == shell.name());
     let Some(shell) = named else {
-        return Err(wrong(&format!("'{}' is none of bash, zsh and fish", word.display())));
+        return Err(wrong(&format!(
+            "'{}' is none of bash, zsh and fish",
+            crate::files::name_of(word)
+        )));
     };
     let output = output_of(&["gunwaleish".into()], shell.name(), arguments.output.as_deref())?;
     Made::done(shell.script()).hand_out(output.as_deref())

@@ -1,13 +1,12 @@
 //! `fill`: the text form of an order sheet to the sheet.
 
-use std::io::{self, IsTerminal};
-
 use super::Command;
 use crate::arguments::Arguments;
 use crate::each::{Each, Made};
 use crate::failure::Failure;
-use crate::files::{is_standard, Input};
+use crate::files::Input;
 use crate::form::{boxes_of, read, sheet_of, Mistake};
+use crate::hint::{hint, Kind};
 
 /// The six lines of a text have far less, even with long comments.
 pub const MOST_TEXT: usize = 1 << 16;
@@ -39,21 +38,16 @@ pub const COMMAND: Command = Command {
 };
 
 fn run(arguments: &Arguments) -> Result<(), Failure> {
-    let to_standard = arguments.output.as_deref().is_none_or(is_standard);
-    if to_standard && io::stdout().is_terminal() {
-        return Err(Failure::Wrong(String::from(
-            "a sheet is no text, and is not written to a terminal: name a file for it with -o; gunwaleish \
-             fill --help tells more",
-        )));
-    }
     Each { most: MOST_TEXT, ending: "sheet", make: fill }.run(arguments)
 }
 
 pub fn fill(input: &Input) -> Made {
     let name = &input.name;
+    let hint = || hint(input, Kind::SheetText);
     if input.bytes.len() > MOST_TEXT {
         return Made::refused(format!(
-            "{name}: it is longer than 64 KiB, and a sheet has six lines"
+            "{name}: it is longer than 64 KiB, and a sheet has six lines{}",
+            hint()
         ));
     }
     if boxes_of(&input.bytes).is_ok() {
@@ -63,7 +57,7 @@ pub fn fill(input: &Input) -> Made {
     }
     match read(&input.bytes) {
         Ok(boxes) => Made::done(sheet_of(boxes)),
-        Err(mistakes) => Made::refused(refused(name, &mistakes)),
+        Err(mistakes) => Made::refused(refused(name, &mistakes) + &hint()),
     }
 }
 

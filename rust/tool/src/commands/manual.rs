@@ -19,7 +19,7 @@ pub const COMMAND: Command = Command {
 
 fn run(arguments: &Arguments) -> Result<(), Failure> {
     if let [file, ..] = arguments.files.as_slice() {
-        let what = format!("manual reads no file, and has {}", file.display());
+        let what = format!("manual reads no file, and has {}", crate::files::name_of(file));
         return Err(Failure::Wrong(format!("{what}; gunwaleish manual --help tells more")));
     }
     // In a folder it has the name under which man looks for it.

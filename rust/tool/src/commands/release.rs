@@ -92,7 +92,7 @@ fn output(output: Option<&Path>, folder: Option<&Path>) -> Result<Option<PathBuf
     };
     match path.is_file() {
         true => {
-            let name = path.display();
+            let name = files::name_of(&path);
             Err(wrong(&format!("{name} is there already, and is not written over")))
         }
         false => Ok(Some(path)),
@@ -111,7 +111,7 @@ fn file(examined: &Examined, path: &Path) -> Result<String, Failure> {
     let since = SystemTime::now().duration_since(UNIX_EPOCH);
     let at = since.map_or(0, |since| since.as_secs());
     files::write_whole(path, page(examined, at).as_bytes())?;
-    Ok(format!("\nThe page to file: {}\n", path.display()))
+    Ok(format!("\nThe page to file: {}\n", files::name_of(path)))
 }
 
 fn wrong(what: &str) -> Failure {

@@ -244,7 +244,7 @@ fn hand_out(
             0 => files::write_whole(path, kept::write(&counted.totals).as_bytes())?,
             _ => files::complain(&format!(
                 "{} is not written, since the totals are not of all traces",
-                path.display()
+                files::name_of(path)
             )),
         }
     }

@@ -86,7 +86,7 @@ pub fn one(input: &Input) -> Made {
         Ok(boxes) => Made::done(form::write(boxes)),
         Err(refusal) => {
             let why = faults::with_places(&input.bytes, refusal);
-            Made::refused(format!("{}: {why}", input.name))
+            Made::refused(format!("{}: {why}{}", input.name, hint(input, Kind::Sheet)))
         }
     }
 }

@@ -21,7 +21,7 @@ mod reading;
 mod values;
 mod writing;
 
-pub use reading::{read, Mistake};
+pub use reading::{begins_with_box, read, Mistake};
 pub use values::written;
 pub use writing::write;
 

@@ -35,6 +35,18 @@ pub fn read(text: &[u8]) -> Result<Boxes, Vec<Mistake>> {
     reading.end()
 }
 
+/// True if the first line that says something is of a box, be it mistyped.
+pub fn begins_with_box(text: &str) -> bool {
+    let first = text.lines().map(code_of).find(|code| !code.is_empty());
+    first.is_some_and(|code| match code.split_once(':') {
+        Some((name, _)) => {
+            let name = plain(name);
+            named(&name, true).is_some() || !nearest(&name).is_empty()
+        }
+        None => named(&plain(code), false).is_some(),
+    })
+}
+
 const NAMES: &str =
     "a box is \"Downstream reserve, ms\", \"Priority\" or \"Idle timer\", each with \
     \", controller 0\" or \", controller 1\"";
@@ -52,7 +64,7 @@ struct Reading {
 
 impl Reading {
     fn take_line(&mut self, line: usize, text: &str) {
-        let code = text.split('#').next().unwrap_or_default().trim();
+        let code = code_of(text);
         if code.is_empty() {
             return;
         }
@@ -125,6 +137,11 @@ fn named(name: &str, has_colon: bool) -> Option<(BoxName, usize)> {
         let whole = !has_colon || name.len() == to.len();
         whole && name.get(..to.len()).is_some_and(|front| front.eq_ignore_ascii_case(&to))
     })
+}
+
+/// A line without its comment.
+fn code_of(line: &str) -> &str {
+    line.split('#').next().unwrap_or_default().trim()
 }
 
 /// A name in lower case, with one space where there are several.

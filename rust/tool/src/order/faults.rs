@@ -28,18 +28,7 @@ pub fn in_words(name: &str, which: Sheet, sheet: &[u8], refusal: Refusal) -> Str
 pub fn with_places(sheet: &[u8], refusal: Refusal) -> String {
     let seen: Vec<String> = seen(sheet, refusal).iter().map(Seen::to_string).collect();
     let place = if seen.is_empty() { String::new() } else { format!(" ({})", seen.join("; ")) };
-    let text = match is_text(sheet) {
-        true => "; it is text, and gunwaleish fill makes a sheet of a sheet's text",
-        false => "",
-    };
-    format!("{refusal}{place}{text}")
-}
-
-/// True if there are letters where a sheet has a count of 2, and nothing that is no text.
-fn is_text(bytes: &[u8]) -> bool {
-    let text = |byte: &u8| matches!(byte, b'\t' | b'\n' | b'\r' | b' '..=b'~');
-    let bytes = bytes.strip_prefix(b"\xEF\xBB\xBF").unwrap_or(bytes);
-    !bytes.is_empty() && bytes.iter().all(text)
+    format!("{refusal}{place}")
 }
 
 /// What is wrong at a byte, counted from 0.

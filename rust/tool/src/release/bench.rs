@@ -6,6 +6,7 @@ use super::{Bench, Bundle, Rank, Read, Reason, ShelfRead, Spot};
 use crate::commands::compose::MOST_TEXT;
 use crate::each;
 use crate::files::Input;
+use crate::hint::Kind;
 use crate::order::Order;
 use crate::script::named::{read_named, Named};
 use crate::shelf::file::{self, read_shelf};
@@ -146,9 +147,10 @@ fn reason(rank: Rank, file: &str, place: Option<String>, what: String, mend: &st
 }
 
 fn refused_trace(read: &Read, refusal: Refusal) -> Reason {
-    let input = Input { name: String::new(), bytes: read.bytes.clone() };
+    let input = Input { name: read.name.clone(), bytes: read.bytes.clone() };
     let place = format!("byte {}", each::seen_at(&read.bytes, refusal));
-    let what = each::refused(&input, refusal).trim_start_matches(": ").to_string();
+    let what = each::refused(&input, refusal);
+    let what = what.strip_prefix(&format!("{}: ", read.name)).unwrap_or(&what);
     let mend =
         "Record the run again, or take the file out of the release; nothing of it was counted.";
     reason(Rank::FileRefused, &read.name, Some(place), format!("It is no trace: {what}."), mend)
@@ -169,7 +171,8 @@ fn slots_of(read: &Read) -> Result<Vec<Slot>, Reason> {
         return Err(refused(None, "The file is longer than 16 MiB.".to_string()));
     }
     let (slots, last) = read_shelf(&read.bytes).map_err(|unread| {
-        refused(Some(unread.line), format!("It cannot be read: {}.", unread.why()))
+        let hint = read.hint(Kind::Shelf);
+        refused(Some(unread.line), format!("It cannot be read: {}{hint}.", unread.why()))
     })?;
     // An empty script shows whether the row is one.
     match run_over(slots.clone(), &[]) {
@@ -187,8 +190,8 @@ fn run_script(slots: &[Slot], read: &Read) -> Result<Shelved, Reason> {
         return Err(refused(None, "The file is longer than 16 MiB.".to_string()));
     }
     let events = read_named(&read.bytes).map_err(|unread| {
-        let place = Some(format!("line {}", unread.line));
-        refused(place, format!("It cannot be read: {}.", unread.why()))
+        let (place, hint) = (format!("line {}", unread.line), read.hint(Kind::ShelfScript));
+        refused(Some(place), format!("It cannot be read: {}{hint}.", unread.why()))
     })?;
     run_over(slots.to_vec(), &events)
         .map_err(|refusal| refused(None, format!("It is refused: {refusal}.")))

@@ -6,13 +6,13 @@ use std::io::{self, Read as _};
 use std::path::{Path, PathBuf};
 use std::time::UNIX_EPOCH;
 
-use gunwaleish::{MOST_TRACE, SHEET_LENGTH};
+use gunwaleish::MOST_TRACE;
 
 use super::{Bundle, Read, ShelfRead};
 use crate::commands::compose::MOST_TEXT;
 use crate::commands::fill;
 use crate::failure::Failure;
-use crate::files::is_standard;
+use crate::files::{is_standard, name_of};
 use crate::sha256::{hex, Sha256};
 use crate::walk::{find, Found};
 
@@ -45,9 +45,10 @@ pub fn read_bundle(folder: Option<&Path>, named: &Named) -> Result<Bundle, Failu
     let [of_board, of_house] = [&board, &house].map(|sheet| here.text_of(sheet));
     let traces = traces_of(&named.traces)?;
     let mut bundle = Bundle {
-        folder: folder.map(shown),
-        board: read(&board, SHEET_LENGTH)?,
-        house: read(&house, SHEET_LENGTH)?,
+        folder: folder.map(name_of),
+        // More than a sheet has, by which another file is known.
+        board: read(&board, MOST_TRACE)?,
+        house: read(&house, MOST_TRACE)?,
         texts: [of_board?, of_house?],
         scripts: read_starts(&named.starts)?,
         shelf: read_shelf(&named)?,
@@ -64,7 +65,7 @@ fn read_starts(starts: &[Option<PathBuf>; 2]) -> Result<Option<[Read; 2]>, Failu
         [None, None] => Ok(None),
         [Some(one), None] | [None, Some(one)] => Err(wrong(&format!(
             "{} is there without the other controller's start-up script, and their orders need both",
-            one.display()
+            name_of(one)
         ))),
     }
 }
@@ -81,10 +82,11 @@ fn read_shelf(named: &Named) -> Result<Option<ShelfRead>, Failure> {
     }
 }
 
-/// The traces among these names and in these folders.
+/// The traces among these names and in these folders. A folder that is named for its traces has some.
 fn traces_of(names: &[PathBuf]) -> Result<Vec<PathBuf>, Failure> {
-    let Found { files, unread, .. } = find(names);
-    unread.into_iter().next().map_or(Ok(files), Err)
+    let Found { files, unread, empty, .. } = find(names);
+    let none = empty.first().map(|none| wrong(none.text()));
+    unread.into_iter().next().or(none).map_or(Ok(files), Err)
 }
 
 /// What a folder has.
@@ -96,7 +98,7 @@ struct Here {
 
 impl Here {
     fn look_into(folder: &Path) -> Result<Here, Failure> {
-        let name = folder.display();
+        let name = name_of(folder);
         if is_standard(folder) {
             return Err(wrong("standard input is no folder"));
         }
@@ -157,8 +159,8 @@ impl Here {
             [one] => Ok(Some(one.to_path_buf())),
             [first, second, ..] => Err(wrong(&format!(
                 "a release has one shelf, and {} and {} are there; --shelf names the one",
-                first.display(),
-                second.display()
+                name_of(first),
+                name_of(second)
             ))),
         }
     }
@@ -186,13 +188,13 @@ impl Here {
                 "release needs a folder, or both sheets by option, and {option} is not there"
             ));
         }
-        let (folder, path) = (self.folder.display(), self.folder.join(name));
+        let (folder, path) = (name_of(&self.folder), self.folder.join(name));
         let text = path.with_extension("txt");
         if self.found.others.contains(&text) {
             return Failure::Wrong(format!(
                 "{folder} has no {name}, but its text: gunwaleish fill {} -o {} makes the sheet",
-                text.display(),
-                path.display()
+                name_of(&text),
+                name_of(&path)
             ));
         }
         wrong(&format!("{folder} has no {name}; {option} names another file"))
@@ -205,7 +207,7 @@ impl Here {
         all.sort();
         let read: BTreeSet<&PathBuf> = bundle.files().map(|file| &file.path).collect();
         all.retain(|path| !read.contains(path));
-        all.into_iter().map(|path| shown(path)).collect()
+        all.into_iter().map(|path| name_of(path)).collect()
     }
 }
 
@@ -217,19 +219,13 @@ fn wrong(what: &str) -> Failure {
     Failure::Wrong(format!("{what}; gunwaleish release --help tells more"))
 }
 
-/// A path as text. No name breaks a line of the verdict, or makes one of its own.
-fn shown(path: &Path) -> String {
-    let plain = |letter: char| if letter.is_control() { '?' } else { letter };
-    path.display().to_string().chars().map(plain).collect()
-}
-
 /// How much is read at once.
 const PIECE: usize = 1 << 16;
 
 /// Reads a file to its end for its size and its hash, and keeps so many bytes of it and one more. That
 /// byte shows that there is more.
 pub fn read(path: &Path, most: usize) -> Result<Read, Failure> {
-    let name = shown(path);
+    let name = name_of(path);
     let cannot = |why: String| Failure::Wrong(format!("{name} cannot be read: {why}"));
     let open = || -> io::Result<Option<Read>> {
         // A pipe or a device may have no end, and nobody can look at it again.
@@ -264,7 +260,7 @@ fn read_whole(mut file: File, path: &Path, most: usize) -> io::Result<Read> {
     }
     Ok(Read {
         path: path.to_path_buf(),
-        name: shown(path),
+        name: name_of(path),
         bytes,
         size,
         changed: changed.map(|time| time.as_secs()),

@@ -19,6 +19,7 @@ use std::path::PathBuf;
 
 use gunwaleish::{Master, Part, Refusal, Totals};
 
+use crate::hint::{hint_of, Kind};
 use crate::order::Order;
 use crate::startup::{Ending, Group, Scripts};
 
@@ -37,6 +38,13 @@ pub struct Read {
     pub changed: Option<u64>,
     /// The SHA-256 of all its bytes, 64 hex digits.
     pub sha256: String,
+}
+
+impl Read {
+    /// What it looks like, where it is no file of this kind, as behind every refusal.
+    pub fn hint(&self, wanted: Kind) -> String {
+        hint_of(&self.name, &self.bytes, wanted)
+    }
 }
 
 /// A shelf and the scripts for it.

@@ -4,6 +4,7 @@ use gunwaleish::{run, Master, Refusal, Section, MOST_SCRIPT};
 
 use super::{Bundle, Orders, Rank, Read, Reason};
 use crate::commands::compose::MOST_TEXT;
+use crate::hint::Kind;
 use crate::order::{BoxName, Order};
 use crate::script::{line_of, read_script, Script};
 use crate::startup::{words, Ending, Group, Left, Scripts};
@@ -48,7 +49,7 @@ fn read_one(read: &Read) -> Result<Script, Reason> {
         return Err(refused(name, None, what, "A start-up script has six events at the most."));
     }
     let script = read_script(&read.bytes).map_err(|unread| {
-        let what = format!("It cannot be read: {}.", unread.why());
+        let what = format!("It cannot be read: {}{}.", unread.why(), read.hint(Kind::Script));
         refused(name, Some(format!("line {}", unread.line)), what, MADE_ANEW)
     })?;
     match script.pins.address() {

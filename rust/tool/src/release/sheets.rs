@@ -3,6 +3,7 @@
 use gunwaleish::{Found, Master, Section, Sheet, Wait};
 
 use super::{Allowed, Asked, Bundle, Rank, Read, Reason};
+use crate::hint::{is_plain, Kind};
 use crate::order::warnings::{warnings, Warning};
 use crate::order::{faults, waits, BoxName, Order, Waiting};
 use crate::words::capital;
@@ -19,11 +20,16 @@ pub fn no_sheets(bundle: &Bundle) -> Vec<Reason> {
 fn no_sheet(read: &Read, which: Sheet) -> Option<Reason> {
     let refusal = faults::fault(&read.bytes, which)?;
     let first = faults::seen(&read.bytes, refusal).first().map(|seen| seen.byte);
+    // What mends it says what makes a sheet of text.
+    let hint = match is_plain(&read.bytes) {
+        true => "; it is text".to_string(),
+        false => read.hint(Kind::Sheet),
+    };
     Some(Reason {
         rank: Rank::NoSheet,
         file: read.name.clone(),
         place: first.map(|byte| format!("byte {byte}")),
-        what: format!("It is no {which}: {}.", faults::with_places(&read.bytes, refusal)),
+        what: format!("It is no {which}: {}{hint}.", faults::with_places(&read.bytes, refusal)),
         mend: A_SHEET.to_string(),
     })
 }

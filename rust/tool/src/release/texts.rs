@@ -4,6 +4,7 @@
 use super::{Bundle, Rank, Read, Reason};
 use crate::commands::fill::MOST_TEXT;
 use crate::form::{self, written, Boxes, Mistake};
+use crate::hint::Kind;
 use crate::order::BoxName;
 
 /// Each box in which a sheet is not what the text beside it says. Of what is no sheet `sheets` tells.
@@ -39,7 +40,8 @@ fn differences(sheet: &Read, text: &Read, says: Boxes, has: Boxes) -> Vec<Reason
 }
 
 fn mistyped(sheet: &Read, text: &Read, mistake: &Mistake) -> Reason {
-    no_text(sheet, text, mistake.line.map(|line| format!("line {line}")), &mistake.what)
+    let why = format!("{}{}", mistake.what, text.hint(Kind::SheetText));
+    no_text(sheet, text, mistake.line.map(|line| format!("line {line}")), &why)
 }
 
 fn no_text(sheet: &Read, text: &Read, place: Option<String>, why: &str) -> Reason {
