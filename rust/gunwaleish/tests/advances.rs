@@ -94,3 +94,24 @@ fn what_is_no_image_is_refused_first() {
     assert_eq!(damaged, before);
     assert_eq!(boundary::image_advance(u32::MAX, &mut { image }), 3);
 }
+
+/// The header, this crate and the pages say the same of an advance: three ticks at most, as is proved.
+#[test]
+fn the_pages_say_three() {
+    let places = [
+        ("c/gunwaleish.h", "from any state that a run reaches these are at most three."),
+        ("rust/gunwaleish/src/device.rs", "at most three, from any state that a run reaches."),
+        (
+            "docs/IMAGE.md",
+            "of an image out of a run at most three of its ticks change more than counts",
+        ),
+        ("README.md", "reports how many changed more than counts; that these are three at most"),
+        ("rust/README.md", "may not be above three for an image out of a run"),
+    ];
+    for (file, words) in places {
+        let path = format!("{}/../../{file}", env!("CARGO_MANIFEST_DIR"));
+        let text = std::fs::read_to_string(path).unwrap();
+        let text = text.split_whitespace().collect::<Vec<_>>().join(" ");
+        assert!(text.contains(words), "{file}: {words}");
+    }
+}

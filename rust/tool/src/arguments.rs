@@ -173,7 +173,7 @@ fn own_option(
         false => {
             let has = if count > 1 { format!(", and has {}", values.len()) } else { String::new() };
             let takes = options::takes(name);
-            Err(wrong_for(command, &format!("{name} needs {takes} after it{has}")))
+            Err(wrong_for(command, &format!("{name} needs {takes}{has}")))
         }
     }
 }

@@ -30,6 +30,8 @@ const SEEN: &str = "own con wait int SCL SDA";
 /// Two spaces stand between columns.
 const GAP: usize = 2;
 const WHAT_CHANGED: &str = "what changed";
+/// With less room than this, what changed stands below.
+const LEAST_CHANGED: usize = 30;
 
 impl Layout {
     pub fn of(lines: &[Line], width: usize) -> Layout {
@@ -39,11 +41,12 @@ impl Layout {
         };
         let numbers = longest(|line| &line.numbers, "event");
         let ticks = longest(|line| &line.ticks, "tick");
-        let below = width < 120;
-        let answered = longest(|line| &line.answered, "answer").min(if below { 12 } else { 20 });
-        let fixed = numbers + ticks + answered + SEEN.len() + 4 * GAP;
-        let most = if below { width - fixed } else { 44 };
-        let came = longest(|line| &line.came, "what came").min(most);
+        let (came, answered) =
+            (longest(|line| &line.came, "what came"), longest(|line| &line.answered, "answer"));
+        let fixed = numbers + ticks + SEEN.len() + 4 * GAP;
+        let below = width < fixed + came.min(44) + answered.min(20) + GAP + LEAST_CHANGED;
+        let answered = answered.min(if below { 12 } else { 20 });
+        let came = came.min(if below { width - fixed - answered } else { 44 });
         Layout { width, numbers, ticks, came, answered, below }
     }
 

@@ -7,9 +7,10 @@
 //! a run and says what changed, `stuck` why one still waits at its end, `diff` where two runs part, `order`
 //! says what is on two sheets, `form` has the text of one, `startup` how the orders of two scripts end,
 //! `shelf` what happens at each place of a shelf, `share` how the bus was shared, `release` whether a bundle
-//! is safe by all of that, `hint` what a wrong file is, `commands` has a file for each subcommand, which
-//! `manual` and `completion` are made from, and `arguments`, `walk`, `files` and `each` are the way from the
-//! command line to the files and back.
+//! is safe by all of that, and `picture` draws. `commands` has a file for each subcommand; the help, `manual`
+//! and `completion` are made from its table. `arguments`, `options`, `files`, `walk` and `each` are the way
+//! from the command line to the files and back; `columns` and `wrap` keep lines short, `table` and `json`
+//! write rows for other programs, and `hint` says what a wrong file is.
 
 pub mod arguments;
 pub mod columns;
@@ -83,10 +84,11 @@ pub const FILES: &str =
      gunwaleish COMMAND --help, or gunwaleish help COMMAND, tells more, with an example. What stands after\n\
      an option may stand after a sign = too, as in --part=PCA9641. --version gives the version.";
 
+/// What the exit code says.
 pub const EXIT_CODES: &str =
     "Exit code: 0 done; 1 a trace, script, shelf, capture or order sheet is refused, standard\n\
-     error says why and where, or a bundle is not released; 2 wrong use, or a file that cannot\n\
-     be read or written.";
+     error says why and where, or a bundle is not released, or what diff compares is not alike;\n\
+     2 wrong use, or a file that cannot be read or written.";
 
 /// What the tool says of itself.
 pub fn overview() -> String {

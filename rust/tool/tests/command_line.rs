@@ -81,14 +81,14 @@ fn a_capture_needs_its_device() {
     let cases: [(&[&str], &str); 13] = [
         (&[], "import needs the device"),
         (&["--address", "71"], "import needs the part: --part PCA9641 or --part TPT29641; a kind"),
-        (&["--address", "71", "--part"], "--part needs a part, PCA9641 or TPT29641 after it"),
+        (
+            &["--address", "71", "--part"],
+            "--part needs a part, PCA9641 or TPT29641; gunwaleish import",
+        ),
         (&["--address", "71", "--part", "0"], "'0' is no part, expected --part PCA9641 or --part"),
         (&["--part", "PCA9641"], "import needs the device"),
-        (&["--address"], "--address needs an address in hex, such as 71 after it"),
-        (
-            &["--pins", "0", "0", "0"],
-            "AD3, AD2, AD1 and AD0 after it, and has 3; gunwaleish import",
-        ),
+        (&["--address"], "--address needs an address in hex, such as 71; gunwaleish"),
+        (&["--pins", "0", "0", "0"], "AD3, AD2, AD1 and AD0, and has 3; gunwaleish import"),
         (&["--address", "7G"], "'7G' is no byte in hex"),
         (&["--address", "78"], "refusal 11: "),
         (&["--address", "E2"], "if E2h is a transfer's first byte, it is 71h"),

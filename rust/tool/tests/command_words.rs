@@ -25,15 +25,9 @@ fn values_after_a_sign() {
         assert_eq!((code(&output), &output.stdout), (0, &trace), "{words:?}");
     }
     let cases: [(&[&str], &str); 5] = [
-        (
-            &["--pins=0,0,0"],
-            "--pins needs the four codes of AD3, AD2, AD1 and AD0 after it, and has 3",
-        ),
+        (&["--pins=0,0,0"], "--pins needs the four codes of AD3, AD2, AD1 and AD0, and has 3"),
         (&["--pins=0"], "and has 1"),
-        (
-            &["--part="],
-            "--part needs a part, PCA9641 or TPT29641 after it; gunwaleish import --help",
-        ),
+        (&["--part="], "--part needs a part, PCA9641 or TPT29641; gunwaleish import --help"),
         (&["--script=yes"], "--script takes no value; gunwaleish import --help tells more"),
         (&["--adress=71"], "import has no option '--adress' (did you mean --address?)"),
     ];
@@ -141,9 +135,7 @@ fn a_number_of_threads() {
         assert!(said(&output).contains(&text), "{}", said(&output));
     }
     let output = run(&["share", "traces", "--threads"]);
-    assert!(
-        said(&output).contains("--threads needs a number of at least 1 after it; gunwaleish share")
-    );
+    assert!(said(&output).contains("--threads needs a number of at least 1; gunwaleish share"));
 }
 
 /// What a terminal would obey is escaped, in messages and in what is told.
@@ -216,52 +208,56 @@ fn the_mode_is_kept() {
     }
 }
 
-/// In a folder in which no file can be made, one that can be written to is; another one is not.
+/// A folder with the tool, a trace, and in it a folder in which no file can be made: there a file that can
+/// be written to and one that cannot.
 #[cfg(unix)]
-#[test]
-fn a_file_in_a_shut_folder() {
-    use std::os::unix::fs::{MetadataExt, PermissionsExt};
-    use std::os::unix::process::CommandExt;
+fn shut_folder() -> Folder {
+    use std::os::unix::fs::PermissionsExt;
     let folder = Folder::new("shut");
-    // Who may do everything is kept from nothing, so another one has to try.
-    let nobody = 65_534;
-    let all = fs::metadata(&folder.0).unwrap().uid() == 0;
-    let tool = folder.path("tool");
-    fs::copy(TOOL, &tool).unwrap();
+    fs::copy(TOOL, folder.path("tool")).unwrap();
     fs::copy(root().join("traces/m1.trace"), folder.path("m1.trace")).unwrap();
     fs::create_dir(folder.path("shut")).unwrap();
-    let mode = |name: &str, mode| {
-        fs::set_permissions(folder.path(name), fs::Permissions::from_mode(mode)).unwrap();
-    };
-    fs::write(folder.path("shut/open.listing"), "old and longer than what comes, ".repeat(9))
-        .unwrap();
+    let long = "old and longer than what comes, ".repeat(9);
+    fs::write(folder.path("shut/open.listing"), long).unwrap();
     fs::write(folder.path("shut/closed.listing"), "old").unwrap();
-    for (name, bits) in [
+    let modes = [
+        ("tool", 0o755),
+        ("m1.trace", 0o644),
         ("shut/open.listing", 0o666),
         ("shut/closed.listing", 0o444),
         ("shut", 0o555),
-        ("tool", 0o755),
-        ("m1.trace", 0o644),
-    ] {
-        mode(name, bits);
+    ];
+    for (name, mode) in modes {
+        fs::set_permissions(folder.path(name), fs::Permissions::from_mode(mode)).unwrap();
     }
+    folder
+}
+
+/// What can be written to is replaced there, the other one is not, and nothing is left beside them.
+#[cfg(unix)]
+#[test]
+fn a_file_in_a_shut_folder() {
+    use std::os::unix::fs::MetadataExt;
+    use std::os::unix::process::CommandExt;
+    let folder = shut_folder();
+    // Who may do everything is kept from nothing, so another one has to try.
+    let (all, nobody) = (fs::metadata(&folder.0).unwrap().uid() == 0, 65_534);
     let list = |out: &str| {
-        let mut command = Command::new(&tool);
+        let mut command = Command::new(folder.path("tool"));
         command.args(["list", "m1.trace", "-o", out]).current_dir(&folder.0);
         if all {
             command.uid(nobody).gid(nobody);
         }
         command.output().unwrap()
     };
-    let listing = fs::read(root().join("traces/m1.listing")).unwrap();
     let output = list("shut/open.listing");
     assert_eq!((code(&output), said(&output)), (0, String::new()));
+    let listing = fs::read(root().join("traces/m1.listing")).unwrap();
     assert_eq!(fs::read(folder.path("shut/open.listing")).unwrap(), listing);
     assert_eq!(code(&list("shut/closed.listing")), 2);
     assert_eq!(fs::read(folder.path("shut/closed.listing")).unwrap(), b"old");
     let new = list("shut/new.listing");
     assert_eq!(code(&new), 2);
     assert!(said(&new).contains("shut/new.listing cannot be written: "), "{}", said(&new));
-    mode("shut", 0o755);
     assert_eq!(fs::read_dir(folder.path("shut")).unwrap().count(), 2);
 }

@@ -81,6 +81,28 @@ fn the_part_is_told() {
     );
 }
 
+/// Events that only one of them has, at the beginning and in the middle.
+#[test]
+fn what_only_one_has_is_told() {
+    let folder = Folder::new("diff-more");
+    let (none, more) = (folder.path("none.script"), folder.path("more.script"));
+    fs::write(&none, "pins 0 0 0 0\npart PCA9641\n").unwrap();
+    let output = run(&["diff", &none, "traces/m1.trace"]);
+    assert_eq!(code(&output), 1);
+    let expected =
+        "before event 1 of A, events 1 to 4 of B\n    A  nothing\n    B  0 COMMAND 01h (CONTR)\n";
+    assert!(told(&output).contains(expected), "{}", told(&output));
+    assert!(told(&output)
+        .contains("\nNo events belong together, so there are no answers to compare.\n"));
+    assert!(told(&output).contains("\nAt the end:\n    A  no event\n"), "{}", told(&output));
+    fs::write(&more, text_of("traces/m1.script").replace("stop 0", "tick 20\nstop 0")).unwrap();
+    let output = run(&["diff", "traces/m1.trace", &more]);
+    let expected =
+        "after event 2 of A, events 3 to 22 of B\n    A  nothing\n    B  ticks 1 to 20\n\n\
+                    The answers are the same in all 4 events that belong together.\n";
+    assert!(told(&output).contains(expected), "{}", told(&output));
+}
+
 fn text_of(path: &str) -> String {
     fs::read_to_string(root().join(path)).unwrap()
 }

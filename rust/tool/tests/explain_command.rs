@@ -9,7 +9,8 @@ use std::fs;
 
 use common::{code, in_terminal, run, said, told, Folder};
 
-use gunwaleish_tool::commands::explain::{explain, explain_as, COLUMNS};
+use gunwaleish_tool::commands::explain::{explain, explain_as, explain_within, COLUMNS};
+use gunwaleish_tool::each::Made;
 use gunwaleish_tool::files::Input;
 use gunwaleish_tool::story::follow;
 use gunwaleish_tool::table::Form;
@@ -29,24 +30,31 @@ fn a_text_is_wrapped_at_its_spaces() {
     assert_eq!(paragraph("one two", 10), "one two\n");
 }
 
-/// No line is longer than 160 letters, and every word is there once.
+/// The words of a text, in no order, since a column that goes on below stands between those of others.
+fn words(text: &str) -> Vec<&str> {
+    let mut words: Vec<&str> = text.split_whitespace().collect();
+    words.sort();
+    words
+}
+
+/// No line is longer than it may be, and however they are broken, the words are the same.
 #[test]
 fn lines_are_160_wide_at_most() {
     let mut long = 0;
-    for seed in 0..60 {
-        let bytes = trace(seed, 200);
-        let made = explain(&Input { name: "a.trace".into(), bytes: bytes.clone() });
-        let text = String::from_utf8(made.output.unwrap()).unwrap();
-        let widest = text.lines().map(|line| line.chars().count()).max().unwrap();
-        assert!(widest <= 160, "{widest}");
-        long += usize::from(widest > 140);
-        let grants = text.matches("is granted the").count();
-        let story = follow(&bytes).unwrap();
-        let changes = story.steps.iter().flat_map(|step| &step.changes);
-        let expected =
-            changes.filter(|change| format!("{change:?}").starts_with("Granted")).count();
-        // A line may end inside the words, so there are as many at the most.
-        assert!(grants <= expected, "{grants} of {expected}");
+    for seed in 0..40 {
+        let input = Input { name: "a.trace".into(), bytes: trace(seed, 200) };
+        let text = |made: Made| String::from_utf8(made.output.unwrap()).unwrap();
+        let usual = text(explain(&input));
+        let whole = text(explain_within(&input, 10_000));
+        let widest = |text: &str| text.lines().map(|line| line.chars().count()).max().unwrap();
+        assert!(widest(&usual) <= 160, "{}", widest(&usual));
+        long += usize::from(widest(&usual) > 140 && widest(&whole) > 160);
+        for width in [80, 119, 120, 250] {
+            let other = text(explain_within(&input, width));
+            assert!(widest(&other) <= width, "{} of {width}", widest(&other));
+            assert_eq!(words(&other), words(&whole), "seed {seed}, {width}");
+        }
+        assert_eq!(words(&usual), words(&whole), "seed {seed}");
     }
     assert!(long > 10, "{long}");
 }
@@ -55,11 +63,6 @@ fn lines_are_160_wide_at_most() {
 #[cfg(unix)]
 #[test]
 fn lines_are_as_wide_as_the_terminal() {
-    let words = |text: &str| {
-        let mut words: Vec<String> = text.split_whitespace().map(String::from).collect();
-        words.sort();
-        words
-    };
     let plain = told(&run(&["explain", IDLE]));
     for width in [80, 100, 130, 200] {
         let line = format!("stty cols {width}; $TOOL explain {IDLE}");

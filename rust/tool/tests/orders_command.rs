@@ -101,7 +101,8 @@ fn exit_codes_are_for_scripts() {
 #[test]
 fn wrong_use_is_2() {
     let [a, b] = START;
-    let cases: [(&[&str], &str); 14] = [
+    let cases: [(&[&str], &str); 15] = [
+        (&[a, b, "--strict", "--order", "01"], "--strict is for all orders, and --order is there"),
         (&[a, b, "--csv", "--json"], "--csv and --json are both there"),
         (&[a, b, "--csv", "--all"], "--csv and --json have every order, without --all"),
         (&[a, b, "--json", "--order", "01"], "--order has no rows, and --csv or --json is there"),
@@ -112,7 +113,7 @@ fn wrong_use_is_2() {
         (&[a, b, b], "and has 3"),
         (&["-", "-"], "standard input cannot be both scripts"),
         (&[a, "no-such.script"], "no-such.script cannot be read"),
-        (&[a, b, "--order"], "--order needs a pattern, such as 000111 after it"),
+        (&[a, b, "--order"], "--order needs a pattern, such as 000111; gunwaleish"),
         (&[a, b, "--order", "01", "--all"], "--all and --order are both there"),
         (&[a, b, "--script"], "--script needs --order"),
         (&[a, b, "-o", b], "traces/orders/start1.script is an input, and is not written over"),

@@ -244,7 +244,7 @@ fn a_part_as_people_ask_for_it() {
         ),
         (&["--from", "-3"], 2, "--from needs a number of ticks, and has '-3'"),
         (&["--to", "x"], 2, "--to needs a number of ticks, and has 'x'"),
-        (&["--from"], 2, "--from needs a number of ticks after it"),
+        (&["--from"], 2, "--from needs a number of ticks; gunwaleish"),
         (&["--from", "1000"], 1, "nothing to show there; the run has 300 ticks"),
     ];
     for (words, expected, text) in cases {
@@ -315,6 +315,27 @@ fn the_share_has_bars_a_controller() {
     let (code, said, text) = draw(&["traces"]);
     assert_eq!(code, 0);
     assert!(said.contains("traces: ") && text.contains(", 2 refused, "), "{said}");
+    let (_, _, text) = draw(&["traces/pair.trace", "traces/box14-rt00.trace", "traces/m1.trace"]);
+    assert!(text.contains(">traces/pair.trace and 2 more: 3 traces, 0 refused, "), "{text}");
     let nothing = run(&["picture", "--share", "traces/m1.trace"]);
     assert_eq!((common::code(&nothing), nothing.stdout.len()), (1, 0));
+}
+
+/// The pictures of the pages are what the commands there write.
+#[test]
+fn the_pages_have_their_pictures() {
+    for (page, file) in [("docs/SHELF.md", "shelf-hang.svg"), ("docs/SHARE.md", "share-box14.svg")]
+    {
+        let text = fs::read_to_string(root().join(page)).unwrap();
+        let end = format!(" -o docs/pictures/{file}");
+        let line = text.lines().find_map(|line| line.strip_suffix(&end)).unwrap();
+        let drawn = common::shell(line);
+        assert_eq!(code(&drawn), 0, "{line}: {}", said(&drawn));
+        let stored = fs::read_to_string(root().join("docs/pictures").join(file));
+        assert!(
+            stored.is_ok_and(|stored| stored == told(&drawn)),
+            "{line} -o docs/pictures/{file}"
+        );
+        assert!(text.contains(&format!("](pictures/{file})")), "{page}");
+    }
 }

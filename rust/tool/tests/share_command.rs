@@ -256,6 +256,22 @@ fn totals_are_joined() {
     assert_eq!(rows::column(&rows, "of"), ["all"]);
 }
 
+/// Totals that cannot be written are told, and the report is there all the same.
+#[test]
+fn a_count_is_not_lost_for_its_totals() {
+    let lost = run(&[FILLED, "--totals", "no-such-folder/a.totals"]);
+    assert_eq!((code(&lost), told(&lost).as_str()), (2, "0 49 49 0\n1 50 50 49\n"));
+    assert!(said(&lost).starts_with("gunwaleish: no-such-folder/a.totals cannot be written: "));
+    let both = run(&["traces/refused-cut.trace", "--totals", "no-such-folder/a.totals"]);
+    let lines: Vec<String> = said(&both).lines().map(String::from).collect();
+    assert_eq!((code(&both), lines.len()), (2, 3), "{lines:?}");
+    // And the other way round.
+    let folder = Folder::new("share-kept");
+    let kept = folder.path("a.totals");
+    let lost = run(&[FILLED, "--totals", &kept, "-o", "no-such-folder/a.txt"]);
+    assert_eq!((code(&lost), fs::exists(&kept).unwrap()), (2, true));
+}
+
 /// Of files that are no totals, or totals of too many traces, nothing is joined.
 #[test]
 fn what_cannot_be_joined_is_told() {
@@ -381,7 +397,7 @@ fn wrong_use_is_2() {
         (&["--join", EMPTY, "--totals", EMPTY], "is an input, and is not written over"),
         (&[EMPTY, "--threads", "0"], "--threads needs a number of at least 1, 256 at the most"),
         (&[EMPTY, "--threads", "many"], "at the most, and has 'many'"),
-        (&[EMPTY, "--threads"], "--threads needs a number of at least 1 after it"),
+        (&[EMPTY, "--threads"], "--threads needs a number of at least 1; gunwaleish share"),
         (&[EMPTY, "-o", EMPTY], "box14-rt00.trace is an input, and is not written over"),
         (&["traces", "-o", EMPTY], "box14-rt00.trace is an input, and is not written over"),
     ];

@@ -120,7 +120,8 @@ pub fn explain(input: &Input) -> Made {
     explain_within(input, wrap::WIDTH)
 }
 
-fn explain_within(input: &Input, width: usize) -> Made {
+/// The same in lines of this width, 80 at the least.
+pub fn explain_within(input: &Input, width: usize) -> Made {
     match follow(&input.bytes) {
         Err(refusal) => Made::refused(refused(input, refusal)),
         Ok(story) => Made::done(told(&input.name, &story, width)),

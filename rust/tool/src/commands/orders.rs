@@ -114,6 +114,9 @@ fn wanted(arguments: &Arguments) -> Result<Wanted, Failure> {
     let form = Form::asked(COMMAND.name, arguments)?;
     match (pattern, has("--script"), has("--all"), form) {
         (Some(_), _, true, _) => Err(wrong("--all and --order are both there")),
+        (Some(_), ..) if has("--strict") => {
+            Err(wrong("--strict is for all orders, and --order is there"))
+        }
         (Some(_), _, _, Some(_)) => Err(wrong("--order has no rows, and --csv or --json is there")),
         (Some(pattern), false, ..) => Ok(Wanted::Trace(pattern)),
         (Some(pattern), true, ..) => Ok(Wanted::Script(pattern)),

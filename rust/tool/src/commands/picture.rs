@@ -160,11 +160,19 @@ fn run_share(arguments: &Arguments) -> Result<(), Failure> {
         let what = "there is no tick in these traces, and nothing to draw";
         return Err(Failure::Refused(what.to_string()));
     }
-    let names: Vec<String> = arguments.files.iter().map(|path| files::name_of(path)).collect();
-    let drawn = picture::share::draw(&counted.totals, &names.join(", "));
+    let drawn = picture::share::draw(&counted.totals, &named(&arguments.files));
     Made { output: Some(drawn.into()), refused: past(&counted) }.hand_out(output.as_deref())?;
     match failures.iter().map(|failure| failure.code()).max() {
         None => Ok(()),
         Some(code) => Err(Failure::OfMany { refused: code == 1 }),
+    }
+}
+
+/// The names of what was counted, or the first and how many more there are.
+fn named(paths: &[PathBuf]) -> String {
+    let names: Vec<String> = paths.iter().map(|path| files::name_of(path)).collect();
+    match names.as_slice() {
+        [first, others @ ..] if others.len() > 1 => format!("{first} and {} more", others.len()),
+        _ => names.join(" and "),
     }
 }

@@ -239,15 +239,8 @@ fn hand_out(
     hint: &dyn Fn() -> String,
     to: &Outputs,
 ) -> Result<(), Failure> {
-    if let Some(path) = &to.totals {
-        match counted.past {
-            0 => files::write_whole(path, kept::write(&counted.totals).as_bytes())?,
-            _ => files::complain(&format!(
-                "{} is not written, since the totals are not of all traces",
-                files::name_of(path)
-            )),
-        }
-    }
+    // A long count is not lost for one file that cannot be written.
+    let kept = keep(counted, to.totals.as_deref());
     if shape != Shape::Table {
         words::refused(counted).iter().for_each(|line| files::complain(line));
     }
@@ -258,5 +251,26 @@ fn hand_out(
     };
     let none_taken = || words::none_taken(counted).map(|why| why + &hint());
     let refused = words::past(counted).or_else(none_taken);
-    Made { output: Some(text.into()), refused }.hand_out(to.report.as_deref())
+    let handed = Made { output: Some(text.into()), refused }.hand_out(to.report.as_deref());
+    match (kept, handed) {
+        (Ok(()), handed) => handed,
+        (Err(failure), Ok(())) => Err(failure),
+        (Err(failure), Err(other)) => {
+            other.say();
+            Err(failure)
+        }
+    }
+}
+
+/// Writes the totals, if they are of all traces.
+fn keep(counted: &Counted, to: Option<&Path>) -> Result<(), Failure> {
+    let Some(path) = to else {
+        return Ok(());
+    };
+    if counted.past > 0 {
+        let why = "is not written, since the totals are not of all traces";
+        files::complain(&format!("{} {why}", files::name_of(path)));
+        return Ok(());
+    }
+    files::write_whole(path, kept::write(&counted.totals).as_bytes())
 }

@@ -122,8 +122,13 @@ fn in_words(run: &[Step]) -> String {
 fn answers(a: &Side, b: &Side, difference: &Difference) -> String {
     let paired = difference.pairs.len();
     let Some(&(i, j)) = difference.answers.first() else {
-        let events = count(paired, "event");
-        return format!("\nThe answers are the same in all {events} that belong together.\n");
+        return match paired {
+            0 => "\nNo events belong together, so there are no answers to compare.\n".to_string(),
+            1 => "\nThe answer is the same in the 1 event that belongs together.\n".to_string(),
+            _ => {
+                format!("\nThe answers are the same in all {paired} events that belong together.\n")
+            }
+        };
     };
     let (first, second) = (&a.story.steps[i], &b.story.steps[j]);
     let place = where_it_is(&Place { a: i..i + 1, b: j..j + 1 });
