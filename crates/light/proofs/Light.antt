@@ -1,69 +1,93 @@
--- The light events, one by one: each gives a side a new pointer, flag and port.
+-- The events whose own effect ends the step, one by one: each changes its sides in nothing that the turn asks of them. Then the light ones among them.
 -- Assumes nothing.
 use mathlib.Core.Path.{_≡_, refl, sym, ap, ap₂, _∙_}
-use mathlib.Core.Bool.{Bool, true, false, not, _&&_, false≢true, and-true}
+use mathlib.Core.Bool.{Bool, true, false, not, _&&_, _||_, false≢true, or-false}
 use Prim.Native.Nat.{ℕ, _%_}
-use Rattle.arbiter.specs.Words.{if_then_else_, bit, side}
-use Rattle.arbiter.specs.Parts.{withPort, withPointer, withMail, withSide}
-use Rattle.arbiter.specs.State.{atRest}
+use lib.Bits.{or-zero-r}
+use Rattle.arbiter.specs.Words.{if_then_else_, bit, partner, sameMaster, side, device}
+use Rattle.arbiter.specs.Parts.{withPort, withPointer, withAuto, withMail, withContr, withRt, withTurn, withDrives}
+use Rattle.arbiter.specs.State.{ownsTurn, owns}
+use Rattle.arbiter.specs.Registers.{mailEmptiedInt, raised, controlOf, disconnected, withdraws, ownWritten, mailLow, mailHigh, mailWritten, released, drivesWritten, turnWritten}
+use Rattle.arbiter.specs.Rules.{rolls}
 use Rattle.arbiter.specs.Events.{goodCommand}
-use Rattle.arbiter.specs.Effects.{registerAt, afterRead, commanded, empties, senderSide, wasRead, effect}
-use Rattle.arbiter.specs.Order.{isReset, isTick, clockOf, levels, connect, grant, claim, cut, losses}
+use Rattle.arbiter.specs.Effects.{registerAt, afterRead, afterWrite, commanded, writerSide, partnerSide, written, empties, readerSide, senderSide, wasRead, intInFallen, lined, effect}
+use Rattle.arbiter.specs.Order.{levels, losses, cut, claim, grant, connect}
 use Rattle.arbiter.specs.Steps.{parts, ownerByte, linesByte}
 use Rattle.arbiter.specs.declared.Master.{Master}
 use Rattle.arbiter.specs.declared.Master.the-variants.{Zero, One}
+use Rattle.arbiter.specs.declared.Turn.{Turn}
+use Rattle.arbiter.specs.declared.Turn.the-variants.{Nobody, Claims, Owns}
 use Rattle.arbiter.specs.declared.Register.{Register}
-use Rattle.arbiter.specs.declared.Port.{Port}
+use Rattle.arbiter.specs.declared.Register.the-variants.{Id, Contr, Status, Rt, IntStatus, IntMask, MailLow, MailHigh}
 use Rattle.arbiter.specs.declared.Port.the-variants.{Rest, Open, Writing}
 use Rattle.arbiter.specs.declared.Side.{Side}
+use Rattle.arbiter.specs.declared.Bus.{Bus}
 use Rattle.arbiter.specs.declared.Device.{Device}
 use Rattle.arbiter.specs.declared.Event.{Event}
 use Rattle.arbiter.specs.declared.Event.the-variants.{Command, Write, Read, Stop, Pair, Lines, Tick, Pulse, Reset, GeneralCall}
 use Rattle.arbiter.specs.declared.Clock.the-variants.{NoClock}
 use Rattle.arbiter.proofs.Choice.{not-true}
-use Rattle.registers.proofs.Laws.{unraised}
 use Rattle.step.specs.Carried.{partsThreeToSeven}
 use Rattle.step.specs.Light.{claimsTurn, isLight}
 use Rattle.light.specs.Light.{Settled, LightAlone}
-use Rattle.light.proofs.Faces.{face, faced, Waits, face-settles, face-owner, face-lines}
+use Rattle.light.specs.Ended.{leavesTurn, writeIsLight, linedBus, endsItself, keepsLines, itsEnd, EndsItself}
+use Rattle.light.proofs.Fits.{Alike, Fits, fits-on, fits-self, fits-settles, same-owner, same-lines, lined-settles}
 
 -- what is to be shown of one event
 abbrev Alone : Event → Device → Type 0
-Alone e d = (parts e d ≡ effect e d) × (ownerByte (effect e d) ≡ ownerByte d) × (linesByte (effect e d) ≡ linesByte d)
+Alone e d =
+    (parts e d ≡ itsEnd e d) × (ownerByte (itsEnd e d) ≡ ownerByte d) × (keepsLines e d ≡ true → linesByte (itsEnd e d) ≡ linesByte d)
 
--- an event without a clock whose effect is a new face
-module _ (m : Master) (p : Register) (a : Bool) (q : Port) (d : Device) (h : Settled d) where
-  alone : (x : Device) → x ≡ faced m p a q d → Waits m (d .arb .turn) q
-      → (partsThreeToSeven false NoClock (levels false (d .bus) x) ≡ x) × (ownerByte x ≡ ownerByte d) × (linesByte x ≡ linesByte d)
-  alone x e w = (
-    ap (λ (y : Device). partsThreeToSeven false NoClock (levels false (d .bus) y)) e ∙ face-settles m p a q d h w ∙ sym e,
-    ap ownerByte e ∙ face-owner m p a q d,
-    ap linesByte e ∙ face-lines m p a q d,
+-- ---- COMMAND
+
+module _ (m : Master) (c : ℕ) (d : Device) where
+  abbrev opened : Bool → Side
+  opened good = if good then withPort Writing (withAuto (bit 7 c) (withPointer (registerAt (c % 8)) (side m d))) else withPort Open (side m d)
+
+  opened-fits : (t : Turn) (good : Bool) → Fits m t (side m d) (opened good)
+  opened-fits Nobody true = λ e. e
+  opened-fits Nobody false = λ e. e
+  opened-fits (Claims k g) true = λ e. (λ q. q, λ q. absurd (false≢true q))
+  opened-fits (Claims k g) false = λ e. (λ q. q, λ q. absurd (false≢true q))
+  opened-fits (Owns k g) true = λ e. (refl, refl)
+  opened-fits (Owns k g) false = λ e. (refl, refl)
+
+  opened-ints : (good : Bool) → opened good .ints ≡ (side m d) .ints
+  opened-ints true = refl
+  opened-ints false = refl
+
+  opened-mask : (good : Bool) → opened good .mask ≡ (side m d) .mask
+  opened-mask true = refl
+  opened-mask false = refl
+
+  command-alone : Settled d → Alone (Command m c) d
+  unfolding parts partsThreeToSeven effect commanded itsEnd
+  command-alone h = (
+    fits-settles m d (opened (goodCommand c)) (side (partner m) d) h (opened-fits (d .arb .turn) (goodCommand c)) (refl, refl, refl),
+    same-owner m d (opened (goodCommand c)) (side (partner m) d),
+    λ k. same-lines d (opened (goodCommand c)) (side (partner m) d) m (opened-ints (goodCommand c)) (opened-mask (goodCommand c)) refl refl,
   )
 
--- ---- STOP and COMMAND
+-- ---- STOP
 
-stop-waits : (m : Master) (d : Device) → not (claimsTurn m (d .arb .turn)) ≡ true → Waits m (d .arb .turn) Rest
-stop-waits m d l c = absurd (false≢true (sym (not-true _ l) ∙ c))
+module _ (m : Master) (d : Device) where
+  abbrev rested : Side
+  rested = withPort Rest (side m d)
 
-stop-light : (m : Master) (d : Device) → Settled d → isLight (Stop m) d ≡ true → Alone (Stop m) d
-unfolding parts partsThreeToSeven effect isLight
-stop-light m d h l = alone m ((side m d) .pointer) ((side m d) .auto) Rest d h (effect (Stop m) d) refl (stop-waits m d l)
+  rested-fits : (t : Turn) → not (claimsTurn m t) ≡ true → Fits m t (side m d) rested
+  rested-fits Nobody l = λ e. e
+  rested-fits (Claims k g) l = λ e. absurd (false≢true (sym (not-true _ l) ∙ e))
+  rested-fits (Owns k g) l = λ e. (refl, refl)
 
-module _ (m : Master) (c : ℕ) (d : Device) (h : Settled d) where
-  abbrev commandedBy : Bool → Device
-  commandedBy good =
-      withSide m (if good then face (registerAt (c % 8)) (bit 7 c) Writing (side m d) else face ((side m d) .pointer) ((side m d) .auto) Open (side m d)) d
+  stop-alone : Settled d → not (claimsTurn m (d .arb .turn)) ≡ true → Alone (Stop m) d
+  unfolding parts partsThreeToSeven effect itsEnd
+  stop-alone h l = (
+    fits-settles m d rested (side (partner m) d) h (rested-fits (d .arb .turn) l) (refl, refl, refl),
+    same-owner m d rested (side (partner m) d),
+    λ k. same-lines d rested (side (partner m) d) m refl refl refl refl,
+  )
 
-  by-command : (good : Bool) → (partsThreeToSeven false NoClock (levels false (d .bus) (commandedBy good)) ≡ commandedBy good) × (ownerByte (commandedBy good) ≡ ownerByte d) × (linesByte (commandedBy good) ≡ linesByte d)
-  by-command true = alone m (registerAt (c % 8)) (bit 7 c) Writing d h (commandedBy true) refl (λ e. refl)
-  by-command false = alone m ((side m d) .pointer) ((side m d) .auto) Open d h (commandedBy false) refl (λ e. refl)
-
-  command-light : Alone (Command m c) d
-  unfolding parts partsThreeToSeven effect commanded
-  command-light = by-command (goodCommand c)
-
--- ---- READ that empties no box
+-- ---- READ
 
 abbrev readAs : Bool → Side → Side → Side
 readAs auto s r = withPort Open (if auto then withPointer (afterRead (s .pointer)) r else r)
@@ -71,45 +95,185 @@ readAs auto s r = withPort Open (if auto then withPointer (afterRead (s .pointer
 abbrev unread : Bool → Side → Side
 unread f s = withMail (record { low = s .mail .low; high = s .mail .high; full = f }) s
 
-reader-face : (auto : Bool) (s : Side) (x : Bool) → x ≡ false
-    → readAs auto s (unread (s .mail .full && not x) s) ≡ face (if auto then afterRead (s .pointer) else s .pointer) (s .auto) Open s
-reader-face true s x e =
-    ap (λ (f : Bool). face (afterRead (s .pointer)) (s .auto) Open (unread f s)) (ap (λ (y : Bool). s .mail .full && not y) e ∙ and-true (s .mail .full))
-reader-face false s x e =
-    ap (λ (f : Bool). face (s .pointer) (s .auto) Open (unread f s)) (ap (λ (y : Bool). s .mail .full && not y) e ∙ and-true (s .mail .full))
+read-fits : (m : Master) (t : Turn) (auto f : Bool) (s : Side) → Fits m t s (readAs auto s (unread f s))
+read-fits m Nobody true f s = λ e. e
+read-fits m Nobody false f s = λ e. e
+read-fits m (Claims k g) true f s = λ e. (λ q. q, λ q. absurd (false≢true q))
+read-fits m (Claims k g) false f s = λ e. (λ q. q, λ q. absurd (false≢true q))
+read-fits m (Owns k g) true f s = λ e. (refl, refl)
+read-fits m (Owns k g) false f s = λ e. (refl, refl)
 
-sender-same : (s : Side) (x : Bool) → x ≡ false → senderSide x s ≡ s
-sender-same s x e = ap (λ (y : Bool). senderSide y s) e ∙ unraised s
+read-ints : (auto f : Bool) (s : Side) → readAs auto s (unread f s) .ints ≡ s .ints
+read-ints true f s = refl
+read-ints false f s = refl
 
-abbrev pointerRead : Side → Register
-pointerRead s = if s .auto then afterRead (s .pointer) else s .pointer
+read-mask : (auto f : Bool) (s : Side) → readAs auto s (unread f s) .mask ≡ s .mask
+read-mask true f s = refl
+read-mask false f s = refl
 
-read-faced : (m : Master) (d : Device) → empties (side m d) ≡ false → wasRead m d ≡ faced m (pointerRead (side m d)) ((side m d) .auto) Open d
-unfolding wasRead
-read-faced Zero d e =
-    ap₂ (λ (x y : Side). record { side0 = x; side1 = y; bus = d .bus; arb = d .arb; kind = d .kind }) (reader-face (d .side0 .auto) (d .side0) (empties (d .side0)) e) (sender-same (d .side1) (empties (d .side0)) e)
-read-faced One d e =
-    ap₂ (λ (x y : Side). record { side0 = y; side1 = x; bus = d .bus; arb = d .arb; kind = d .kind }) (reader-face (d .side1 .auto) (d .side1) (empties (d .side1)) e) (sender-same (d .side0) (empties (d .side1)) e)
+module _ (m : Master) (d : Device) where
+  abbrev reader : Side
+  reader = readerSide (side m d)
 
-read-light : (m : Master) (d : Device) → Settled d → isLight (Read m) d ≡ true → Alone (Read m) d
-unfolding parts partsThreeToSeven effect isLight
-read-light m d h l =
-    alone m (pointerRead (side m d)) ((side m d) .auto) Open d h (wasRead m d) (read-faced m d (not-true _ l)) (λ e. refl)
+  abbrev sender : Side
+  sender = senderSide (empties (side m d)) (side (partner m) d)
+
+  unraised : (x : Bool) → x ≡ false → raised mailEmptiedInt x ((side (partner m) d) .ints) ≡ (side (partner m) d) .ints
+  unraised x e = ap (λ (y : Bool). raised mailEmptiedInt y ((side (partner m) d) .ints)) e ∙ or-zero-r ((side (partner m) d) .ints)
+
+  read-alone : Settled d → Alone (Read m) d
+  unfolding parts partsThreeToSeven effect wasRead itsEnd keepsLines
+  read-alone h = (
+    fits-settles m d reader sender h (read-fits m (d .arb .turn) ((side m d) .auto) _ (side m d)) (refl, refl, refl),
+    same-owner m d reader sender,
+    λ k. same-lines d reader sender m (read-ints ((side m d) .auto) _ (side m d)) (read-mask ((side m d) .auto) _ (side m d)) (unraised (empties (side m d)) (not-true _ k)) refl,
+  )
+
+-- ---- WRITE
+
+-- a byte to CONTR that leaves the turn is not the owner's
+not-owner : (m : Master) (request : Bool) (t : Turn) → leavesTurn m request t ≡ true → ownsTurn m t ≡ false
+not-owner m request Nobody l = refl
+not-owner m request (Claims k g) l = refl
+not-owner m request (Owns k g) l = not-true _ l
+
+-- a byte to RT or CONTR, whose writer owns as the turn has it
+rt-fits : (m : Master) (t : Turn) (v : ℕ) (s : Side) → Fits m t s (if ownsTurn m t then s else withRt v s)
+rt-fits m Nobody v s = λ e. e
+rt-fits m (Claims k g) v s = λ e. (λ q. q, λ q. q)
+rt-fits m (Owns k g) v s = λ e. (ap (λ (b : Bool). (if b then s else withRt v s) .rt) e, ap (λ (b : Bool). (if b then s else withRt v s) .contr) e)
+
+contr-fits : (m : Master) (t : Turn) (v : ℕ) (s : Side) → leavesTurn m (bit 0 v) t ≡ true
+    → Fits m t s (if withdraws (ownsTurn m t) v then disconnected (withContr (controlOf v) s) else withContr (controlOf v) s)
+contr-fits m Nobody v s l = λ e. not-true _ l
+contr-fits m (Claims k g) v s l =
+    λ e. (λ q. sym (or-false (bit 0 v)) ∙ ap (λ (b : Bool). bit 0 v || not b) (sym e) ∙ l, λ q. q)
+contr-fits m (Owns k g) v s l = λ e. absurd (false≢true (sym (not-true _ l) ∙ e))
+
+own-fits : (p : Register) (m : Master) (v : ℕ) (d : Device) → writeIsLight p m v d ≡ true → Fits m (d .arb .turn) (side m d) (ownWritten (owns m d) p v (side m d))
+unfolding ownWritten
+own-fits Id m v d l = fits-self m (d .arb .turn) (side m d)
+own-fits Contr m v d l = contr-fits m (d .arb .turn) v (side m d) l
+own-fits Status m v d l = fits-on m (d .arb .turn) (side m d) (side m d) _ (fits-self m (d .arb .turn) (side m d)) (refl, refl, refl)
+own-fits Rt m v d l = rt-fits m (d .arb .turn) v (side m d)
+own-fits IntStatus m v d l = fits-on m (d .arb .turn) (side m d) (side m d) _ (fits-self m (d .arb .turn) (side m d)) (refl, refl, refl)
+own-fits IntMask m v d l = fits-on m (d .arb .turn) (side m d) (side m d) _ (fits-self m (d .arb .turn) (side m d)) (refl, refl, refl)
+own-fits MailLow m v d l = fits-self m (d .arb .turn) (side m d)
+own-fits MailHigh m v d l = fits-self m (d .arb .turn) (side m d)
+
+risen-alike : (auto : Bool) (p : Register) (s : Side) → Alike s (if auto then withPointer p s else s)
+risen-alike true p s = (refl, refl, refl)
+risen-alike false p s = (refl, refl, refl)
+
+-- the partner's box and its interrupt alone
+mail-alike : (p : Register) (v : ℕ) (s : Side) → Alike s (mailWritten p v s)
+unfolding mailWritten
+mail-alike Id v s = (refl, refl, refl)
+mail-alike Contr v s = (refl, refl, refl)
+mail-alike Status v s = (refl, refl, refl)
+mail-alike Rt v s = (refl, refl, refl)
+mail-alike IntStatus v s = (refl, refl, refl)
+mail-alike IntMask v s = (refl, refl, refl)
+mail-alike MailLow v s = go (s .mail .full)
+  where
+    go : (full : Bool) → Alike s (if full then s else mailLow v s)
+    go true = (refl, refl, refl)
+    go false = (refl, refl, refl)
+mail-alike MailHigh v s = go (s .mail .full)
+  where
+    go : (full : Bool) → Alike s (if full then s else mailHigh v s)
+    go true = (refl, refl, refl)
+    go false = (refl, refl, refl)
+
+drives-stay : (p : Register) (m : Master) (v : ℕ) (d : Device) → writeIsLight p m v d ≡ true → drivesWritten (owns m d) ((side m d) .contr .busconnect) p v (d .bus) ≡ d .bus
+unfolding drivesWritten
+drives-stay Id m v d l = refl
+drives-stay Contr m v d l = ap (λ (g : Bool). if g && (bit 2 v || not (bit 0 v)) then released (d .bus) else d .bus) (not-owner m (bit 0 v) (d .arb .turn) l)
+drives-stay Status m v d l =
+    ap (λ (g : Bool). if g then withDrives (bit 6 v) (bit 7 v) (d .bus) else d .bus) (not-true (owns m d && not ((side m d) .contr .busconnect)) l)
+drives-stay Rt m v d l = refl
+drives-stay IntStatus m v d l = refl
+drives-stay IntMask m v d l = refl
+drives-stay MailLow m v d l = refl
+drives-stay MailHigh m v d l = refl
+
+turn-stays : (p : Register) (m : Master) (v : ℕ) (d : Device) → writeIsLight p m v d ≡ true → turnWritten (owns m d) p v (d .arb .turn) ≡ d .arb .turn
+unfolding turnWritten
+turn-stays Id m v d l = refl
+turn-stays Contr m v d l = ap (λ (g : Bool). if g && not (bit 0 v) then Nobody else d .arb .turn) (not-owner m (bit 0 v) (d .arb .turn) l)
+turn-stays Status m v d l = refl
+turn-stays Rt m v d l = refl
+turn-stays IntStatus m v d l = refl
+turn-stays IntMask m v d l = refl
+turn-stays MailLow m v d l = refl
+turn-stays MailHigh m v d l = refl
+
+module _ (m : Master) (v : ℕ) (d : Device) (l : writeIsLight ((side m d) .pointer) m v d ≡ true) where
+  abbrev writer : Side
+  writer = writerSide m v d
+
+  abbrev addressee : Side
+  addressee = partnerSide m v d (side (partner m) d)
+
+  -- only the two sides are other ones
+  pub written-sides : written m v d ≡ device m writer addressee (d .bus) (d .arb) d
+  unfolding written
+  written-sides =
+      ap₂ (λ (b : Bus) (t : Turn). device m writer addressee b (withTurn t (d .arb)) d) (drives-stay ((side m d) .pointer) m v d l) (turn-stays ((side m d) .pointer) m v d l)
+
+  writer-fits : Fits m (d .arb .turn) (side m d) writer
+  writer-fits =
+      let own = ownWritten (owns m d) ((side m d) .pointer) v (side m d) in
+      fits-on m (d .arb .turn) (side m d) own writer (own-fits ((side m d) .pointer) m v d l) (risen-alike (own .auto) (afterWrite (rolls d) (own .pointer)) own)
+
+  write-alone : Settled d → Alone (Write m v) d
+  unfolding parts partsThreeToSeven effect itsEnd keepsLines
+  write-alone h = (
+    ap (λ (x : Device). partsThreeToSeven false NoClock (levels false (d .bus) x)) written-sides
+        ∙ fits-settles m d writer addressee h writer-fits (mail-alike ((side m d) .pointer) v (side (partner m) d))
+        ∙ sym written-sides,
+    ap ownerByte written-sides ∙ same-owner m d writer addressee,
+    λ k. absurd (false≢true k),
+  )
+
+-- ---- LINES
+
+module _ (scl sda intin : Bool) (d : Device) where
+  lines-alone : Settled d → endsItself (Lines scl sda intin) d ≡ true → Alone (Lines scl sda intin) d
+  unfolding parts partsThreeToSeven effect lined levels itsEnd keepsLines endsItself ownerByte
+  lines-alone h l =
+      let fell : Bool = d .bus .intin && not intin in
+      (lined-settles d (intInFallen fell (d .side0)) (intInFallen fell (d .side1)) (linedBus scl sda intin (d .bus)) h (refl, refl, refl) (refl, refl, refl) refl l, refl, λ k. absurd (false≢true k))
 
 -- ---- all of them
 
-none : (e : Event) (d : Device) → isLight e d ≡ false → isLight e d ≡ true → Alone e d
+none : (e : Event) (d : Device) → endsItself e d ≡ false → endsItself e d ≡ true → Alone e d
 none e d f t = absurd (false≢true (sym f ∙ t))
 
+pub ends-itself : EndsItself
+unfolding endsItself
+ends-itself (Command m c) d h l = command-alone m c d h
+ends-itself (Write m v) d h l = write-alone m v d l h
+ends-itself (Read m) d h l = read-alone m d h
+ends-itself (Stop m) d h l = stop-alone m d h l
+ends-itself (Lines scl sda intin) d h l = lines-alone scl sda intin d h l
+ends-itself (Pair v0 v1) d h l = none (Pair v0 v1) d refl l
+ends-itself Tick d h l = none Tick d refl l
+ends-itself (Pulse sda) d h l = none (Pulse sda) d refl l
+ends-itself Reset d h l = none Reset d refl l
+ends-itself (GeneralCall m b) d h l = none (GeneralCall m b) d refl l
+
+-- ---- the light ones
+
 pub light-alone : LightAlone
-unfolding isLight
-light-alone (Command m c) d h l = command-light m c d h
-light-alone (Read m) d h l = read-light m d h l
-light-alone (Stop m) d h l = stop-light m d h l
-light-alone (Write m v) d h l = none (Write m v) d refl l
-light-alone (Pair v0 v1) d h l = none (Pair v0 v1) d refl l
-light-alone (Lines scl sda intin) d h l = none (Lines scl sda intin) d refl l
-light-alone Tick d h l = none Tick d refl l
-light-alone (Pulse sda) d h l = none (Pulse sda) d refl l
-light-alone Reset d h l = none Reset d refl l
-light-alone (GeneralCall m b) d h l = none (GeneralCall m b) d refl l
+unfolding isLight endsItself keepsLines itsEnd
+light-alone (Command m c) d h l = let x = ends-itself (Command m c) d h refl in (x .0, x .1, x .2 refl)
+light-alone (Read m) d h l = let x = ends-itself (Read m) d h refl in (x .0, x .1, x .2 l)
+light-alone (Stop m) d h l = let x = ends-itself (Stop m) d h l in (x .0, x .1, x .2 refl)
+light-alone (Write m v) d h l = absurd (false≢true l)
+light-alone (Pair v0 v1) d h l = absurd (false≢true l)
+light-alone (Lines scl sda intin) d h l = absurd (false≢true l)
+light-alone Tick d h l = absurd (false≢true l)
+light-alone (Pulse sda) d h l = absurd (false≢true l)
+light-alone Reset d h l = absurd (false≢true l)
+light-alone (GeneralCall m b) d h l = absurd (false≢true l)

@@ -19,7 +19,8 @@ use Rattle.step.specs.Light.{isLight}
 use Rattle.step.specs.Short.{kept, ended, shortEvent, shortDecoded, shortStep}
 use Rattle.light.specs.Light.{Settled}
 use Rattle.light.specs.Short.{ShortIsStep, AnswerShows}
-use Rattle.light.proofs.Light.{light-alone}
+use Rattle.light.specs.Ended.{endsItself, keepsLines, itsEnd, EndedIsStep}
+use Rattle.light.proofs.Light.{light-alone, ends-itself}
 
 -- ---- the last two bytes
 
@@ -68,6 +69,22 @@ module _ (owner lines : ℕ) (d : Device) (o : owner ≡ ownerByte d) (l : lines
 pub short-is-step : ShortIsStep
 unfolding shortStep step
 short-is-step settled owner lines d r h o l = short-decoded owner lines d o l settled (decode r) h
+
+-- ---- the step of an event that ends it itself
+
+-- the lines byte, asked or kept
+either-byte : (keeps : Bool) (old new : ℕ) → (keeps ≡ true → new ≡ old) → new ≡ (if keeps then old else new)
+either-byte true old new h = h refl
+either-byte false old new h = refl
+
+pub ended-is-step : EndedIsStep
+unfolding stepEvent taken
+ended-is-step e d h seq l =
+    let alone = ends-itself e d h l in
+    let number = outcomeNumber (outcome e d) in
+    ap (λ (b : Bool). if b then taken e d else refused (outcomeNumber OutOfSequence) d) seq
+    ∙ ap (λ (x : Device). record { device = x; answer = answer number (byteRead e d) x }) (alone .0)
+    ∙ (λ i. record { device = itsEnd e d; answer = kept number (byteRead e d) (alone .1 i) (either-byte (keepsLines e d) (linesByte d) (linesByte (itsEnd e d)) (alone .2) i) })
 
 -- ---- an answer shows the device after its step
 

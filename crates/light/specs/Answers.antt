@@ -2,6 +2,7 @@
 -- with one term, so that a lost proof fails the check.
 -- Assumes nothing.
 use Rattle.light.specs.Light.{SettledAtPowerUp, StaysSettled, LightAlone}
+use Rattle.light.specs.Ended.{EndsItself, EndedIsStep}
 use Rattle.light.specs.Short.{ShortIsStep, AnswerShows}
 
 pub record Answers : Type 0 where
@@ -10,5 +11,7 @@ pub record Answers : Type 0 where
   pub staysSettled : StaysSettled
   -- What may a step leave out in a settled device?
   pub lightAlone : LightAlone
+  pub endsItself : EndsItself
+  pub endedIsStep : EndedIsStep
   pub shortIsStep : ShortIsStep
   pub answerShows : AnswerShows

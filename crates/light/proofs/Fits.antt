@@ -1,0 +1,227 @@
+-- A settled device whose sides change in nothing that the turn asks of them is settled too.
+-- Assumes nothing.
+use mathlib.Core.Path.{_≡_, refl, sym, ap, ap₂, _∙_}
+use mathlib.Core.Bool.{Bool, true, false, not, _&&_, _||_, false≢true, or-false}
+use Prim.Native.Nat.{ℕ, _+_}
+use lib.Dec.{eqb}
+use Rattle.arbiter.specs.Rules.{idleLimit}
+use Rattle.arbiter.specs.Words.{if_then_else_, worth, partner, sameMaster, side, device}
+use Rattle.arbiter.specs.Parts.{withBus}
+use Rattle.arbiter.specs.State.{atRest, sclHigh, sdaHigh, isIdle, busHung}
+use Rattle.arbiter.specs.Registers.{isAsserted}
+use Rattle.arbiter.specs.Order.{busyAfter, sclChanged, settledBus, levels}
+use Rattle.arbiter.specs.Steps.{ownerByte, linesByte}
+use Rattle.arbiter.specs.declared.Master.{Master}
+use Rattle.arbiter.specs.declared.Master.the-variants.{Zero, One}
+use Rattle.arbiter.specs.declared.Turn.{Turn}
+use Rattle.arbiter.specs.declared.Turn.the-variants.{Nobody, Claims, Owns}
+use Rattle.arbiter.specs.declared.Control.{Control}
+use Rattle.arbiter.specs.declared.Side.{Side}
+use Rattle.arbiter.specs.declared.Bus.{Bus}
+use Rattle.arbiter.specs.declared.Device.{Device}
+use Rattle.arbiter.specs.declared.Clock.the-variants.{NoClock}
+use Rattle.arbiter.proofs.Settled.{scl-stays}
+use Rattle.arbitration.specs.Quiet.{noLoss, noCut, noClaim, noGrant}
+use Rattle.connection.specs.Quiet.{linked, switchStays}
+use Rattle.step.specs.Carried.{partsThreeToSeven, quietFrom, isQuiet}
+use Rattle.step.proofs.Quiet.{quiet-law}
+use Rattle.light.specs.Light.{Still, Settled}
+
+-- ---- a side that is alike, or that fits what the turn asks of its master
+
+abbrev pub Alike : Side → Side → Type 0
+Alike s x = (x .rt ≡ s .rt) × (x .contr ≡ s .contr) × (atRest (x .port) ≡ atRest (s .port))
+
+-- nobody's turn: no request comes; m claims: it asks on, and its port does not come to rest; m owns: RT and CONTR stay
+abbrev pub Fits : Master → Turn → Side → Side → Type 0
+Fits m Nobody s x = s .contr .lockreq ≡ false → x .contr .lockreq ≡ false
+Fits m (Claims k g) s x =
+    sameMaster m k ≡ true → (s .contr .lockreq ≡ true → x .contr .lockreq ≡ true) × (atRest (x .port) ≡ true → atRest (s .port) ≡ true)
+Fits m (Owns k g) s x = sameMaster m k ≡ true → (x .rt ≡ s .rt) × (x .contr ≡ s .contr)
+
+requests : (s x : Side) → x .contr ≡ s .contr → x .contr .lockreq ≡ s .contr .lockreq
+requests s x e = ap (λ (c : Control). c .lockreq) e
+
+-- a side that fits, changed into one alike, fits
+pub fits-on : (m : Master) (t : Turn) (s x y : Side) → Fits m t s x → Alike x y → Fits m t s y
+fits-on m Nobody s x y f a = λ h. requests x y (a .1) ∙ f h
+fits-on m (Claims k g) s x y f a = λ e. (λ h. requests x y (a .1) ∙ f e .0 h, λ h. f e .1 (sym (a .2) ∙ h))
+fits-on m (Owns k g) s x y f a = λ e. (a .0 ∙ f e .0, a .1 ∙ f e .1)
+
+pub fits-self : (m : Master) (t : Turn) (s : Side) → Fits m t s s
+fits-self m Nobody s = λ h. h
+fits-self m (Claims k g) s = λ e. (λ h. h, λ h. h)
+fits-self m (Owns k g) s = λ e. (refl, refl)
+
+-- ---- parts 3 to 7
+
+five : (a b c d e : Bool) → a && b && c && d && e ≡ true → (a ≡ true) × (b ≡ true) × (c ≡ true) × (d ≡ true) × (e ≡ true)
+five true true true true e h = (refl, refl, refl, refl, h)
+five true true true false e h = absurd (false≢true h)
+five true true false d e h = absurd (false≢true h)
+five true false c d e h = absurd (false≢true h)
+five false b c d e h = absurd (false≢true h)
+
+all-five : (a b c d e : Bool) → a ≡ true → b ≡ true → c ≡ true → d ≡ true → e ≡ true → a && b && c && d && e ≡ true
+all-five a b c d e p q r s t =
+    ap (λ (x : Bool). x && b && c && d && e) p
+    ∙ ap (λ (x : Bool). x && c && d && e) q
+    ∙ ap (λ (x : Bool). x && d && e) r
+    ∙ ap (λ (x : Bool). x && e) s
+    ∙ t
+
+-- the five tests of a turn, each by itself and all of them
+tests : (t : Turn) (d : Device) → quietFrom t false d ≡ true
+    → (switchStays t d ≡ true) × (noGrant t d ≡ true) × (noClaim t d ≡ true) × (noCut false t d ≡ true) × (noLoss t d ≡ true)
+tests t d h = five (switchStays t d) (noGrant t d) (noClaim t d) (noCut false t d) (noLoss t d) h
+
+whole : (t : Turn) (d : Device) → switchStays t d ≡ true → noGrant t d ≡ true → noClaim t d ≡ true → noCut false t d ≡ true → noLoss t d ≡ true
+    → quietFrom t false d ≡ true
+whole t d p q r u v = all-five (switchStays t d) (noGrant t d) (noClaim t d) (noCut false t d) (noLoss t d) p q r u v
+
+none-asks : (r0 r1 x0 x1 : Bool) → (r0 ≡ false → x0 ≡ false) → (r1 ≡ false → x1 ≡ false) → not r0 && not r1 ≡ true → not x0 && not x1 ≡ true
+none-asks false false x0 x1 f g h = ap₂ (λ (a b : Bool). not a && not b) (f refl) (g refl)
+none-asks false true x0 x1 f g h = absurd (false≢true h)
+none-asks true r1 x0 x1 f g h = absurd (false≢true h)
+
+waits : (rest x free : Bool) → (x ≡ true → rest ≡ true) → not (rest && free) ≡ true → not (x && free) ≡ true
+waits rest true free f h = ap (λ (r : Bool). not (r && free)) (sym (f refl)) ∙ h
+waits rest false free f h = refl
+
+keeps : (limit reserve : ℕ) (b : Bus) (s x : Side) → x .rt ≡ s .rt → x .contr ≡ s .contr
+    → not (if eqb (s .rt) 0 then s .contr .idletimer && eqb (b .idle) limit else eqb reserve 0 && isIdle b) ≡ true
+    → not (if eqb (x .rt) 0 then x .contr .idletimer && eqb (b .idle) limit else eqb reserve 0 && isIdle b) ≡ true
+keeps limit reserve b s x r c h =
+    ap₂ (λ (n : ℕ) (k : Control). not (if eqb n 0 then k .idletimer && eqb (b .idle) limit else eqb reserve 0 && isIdle b)) r c ∙ h
+
+linked-on : (d : Device) (k : Master) (s y : Side) → y .contr ≡ s .contr → linked k (s .contr .busconnect) (d .arb .switch) ≡ true
+    → linked k (y .contr .busconnect) (d .arb .switch) ≡ true
+linked-on d k s y c h = ap (λ (a : Control). linked k (a .busconnect) (d .arb .switch)) c ∙ h
+
+module _ (d : Device) (x p : Side) where
+  abbrev after : Master → Device
+  after m = device m x p (d .bus) (d .arb) d
+
+  quiet-fits : (m : Master) (t : Turn) → Fits m t (side m d) x → Alike (side (partner m) d) p → quietFrom t false d ≡ true → quietFrom t false (after m) ≡ true
+  quiet-fits Zero Nobody f a h =
+      let q = tests Nobody d h in
+      whole Nobody (after Zero) (q .0) refl (none-asks (d .side0 .contr .lockreq) (d .side1 .contr .lockreq) (x .contr .lockreq) (p .contr .lockreq) f (λ e. requests (d .side1) p (a .1) ∙ e) (q .2)) refl refl
+  quiet-fits One Nobody f a h =
+      let q = tests Nobody d h in
+      whole Nobody (after One) (q .0) refl (none-asks (d .side0 .contr .lockreq) (d .side1 .contr .lockreq) (p .contr .lockreq) (x .contr .lockreq) (λ e. requests (d .side0) p (a .1) ∙ e) f (q .2)) refl refl
+  quiet-fits Zero (Claims Zero g) f a h =
+      let q = tests (Claims Zero g) d h in
+      whole (Claims Zero g) (after Zero) (q .0) (waits (atRest (d .side0 .port)) (atRest (x .port)) (eqb (d .bus .hold) 0) (f refl .1) (q .1)) (f refl .0 (q .2)) refl refl
+  quiet-fits One (Claims One g) f a h =
+      let q = tests (Claims One g) d h in
+      whole (Claims One g) (after One) (q .0) (waits (atRest (d .side1 .port)) (atRest (x .port)) (eqb (d .bus .hold) 0) (f refl .1) (q .1)) (f refl .0 (q .2)) refl refl
+  quiet-fits Zero (Claims One g) f a h =
+      let q = tests (Claims One g) d h in
+      whole (Claims One g) (after Zero) (q .0) (waits (atRest (d .side1 .port)) (atRest (p .port)) (eqb (d .bus .hold) 0) (λ e. sym (a .2) ∙ e) (q .1)) (requests (d .side1) p (a .1) ∙ q .2) refl refl
+  quiet-fits One (Claims Zero g) f a h =
+      let q = tests (Claims Zero g) d h in
+      whole (Claims Zero g) (after One) (q .0) (waits (atRest (d .side0 .port)) (atRest (p .port)) (eqb (d .bus .hold) 0) (λ e. sym (a .2) ∙ e) (q .1)) (requests (d .side0) p (a .1) ∙ q .2) refl refl
+  quiet-fits Zero (Owns Zero g) f a h =
+      let q = tests (Owns Zero g) d h in
+      whole (Owns Zero g) (after Zero) (linked-on d Zero (d .side0) x (f refl .1) (q .0)) refl refl refl (keeps (idleLimit d) (d .arb .reserve) (d .bus) (d .side0) x (f refl .0) (f refl .1) (q .4))
+  quiet-fits One (Owns One g) f a h =
+      let q = tests (Owns One g) d h in
+      whole (Owns One g) (after One) (linked-on d One (d .side1) x (f refl .1) (q .0)) refl refl refl (keeps (idleLimit d) (d .arb .reserve) (d .bus) (d .side1) x (f refl .0) (f refl .1) (q .4))
+  quiet-fits Zero (Owns One g) f a h =
+      let q = tests (Owns One g) d h in
+      whole (Owns One g) (after Zero) (linked-on d One (d .side1) p (a .1) (q .0)) refl refl refl (keeps (idleLimit d) (d .arb .reserve) (d .bus) (d .side1) p (a .0) (a .1) (q .4))
+  quiet-fits One (Owns Zero g) f a h =
+      let q = tests (Owns Zero g) d h in
+      whole (Owns Zero g) (after One) (linked-on d Zero (d .side0) p (a .1) (q .0)) refl refl refl (keeps (idleLimit d) (d .arb .reserve) (d .bus) (d .side0) p (a .0) (a .1) (q .4))
+
+-- ---- part 2
+
+busy-same : (busy scl sda : Bool) → (busy || scl && scl && sda && not sda) && not (scl && scl && not sda && sda) ≡ busy
+busy-same true false sda = refl
+busy-same false false sda = refl
+busy-same true true true = refl
+busy-same true true false = refl
+busy-same false true true = refl
+busy-same false true false = refl
+
+zeroed : (t : Bool) (n : ℕ) → (t ≡ true → n ≡ 0) → (if t then 0 else n) ≡ n
+zeroed true n h = sym (h refl)
+zeroed false n h = refl
+
+zeroed-else : (t : Bool) (n : ℕ) → (t ≡ false → n ≡ 0) → (if t then n else 0) ≡ n
+zeroed-else true n h = refl
+zeroed-else false n h = sym (h refl)
+
+bus-again : (b : Bus) → Still b → settledBus (busyAfter false b b) (sclChanged b b) b ≡ b
+bus-again b still =
+    ap₂ (λ (x y : Bool). settledBus x y b) (busy-same (b .busy) (sclHigh b) (sdaHigh b)) (scl-stays b)
+    ∙ λ i. record {
+      outscl = b .outscl;
+      outsda = b .outsda;
+      intin = b .intin;
+      drivescl = b .drivescl;
+      drivesda = b .drivesda;
+      busy = b .busy;
+      hold = b .hold;
+      idle = zeroed-else (isIdle b) (b .idle) (still .2) i;
+      lowscl = zeroed (sclHigh b) (b .lowscl) (still .0) i;
+      lowsda = zeroed (sdaHigh b || false) (b .lowsda) (λ h. still .1 (sym (or-false (sdaHigh b)) ∙ h)) i;
+    }
+
+-- ---- both, and the answer
+
+-- m's side x and its partner's side p in a settled device d
+module _ (m : Master) (d : Device) (x p : Side) where
+  same-levels : Still (d .bus) → levels false (d .bus) (after d x p m) ≡ after d x p m
+  unfolding levels
+  same-levels still = ap (λ (b : Bus). withBus b (after d x p m)) (bus-again (d .bus) still)
+
+  pub fits-settles : Settled d → Fits m (d .arb .turn) (side m d) x → Alike (side (partner m) d) p
+      → partsThreeToSeven false NoClock (levels false (d .bus) (after d x p m)) ≡ after d x p m
+  unfolding isQuiet
+  fits-settles (still, quiet) f a =
+      ap (λ (y : Device). partsThreeToSeven false NoClock y) (same-levels still)
+      ∙ sym (quiet-law false NoClock (after d x p m) (quiet-fits d x p m (d .arb .turn) f a quiet))
+
+  pub same-owner : ownerByte (after d x p m) ≡ ownerByte d
+  unfolding ownerByte
+  same-owner = refl
+
+-- interrupts and masks that stay leave the lines byte
+module _ (d : Device) (x p : Side) where
+  abbrev shown : ℕ → ℕ → ℕ → ℕ → ℕ
+  shown i0 k0 i1 k1 =
+      worth 1 (isAsserted (busHung (d .bus)) i0 k0) + worth 2 (isAsserted (busHung (d .bus)) i1 k1) + worth 4 (sclHigh (d .bus)) + worth 8 (sdaHigh (d .bus))
+
+  pub same-lines : (m : Master) → x .ints ≡ (side m d) .ints → x .mask ≡ (side m d) .mask → p .ints ≡ (side (partner m) d) .ints → p .mask ≡ (side (partner m) d) .mask
+      → linesByte (after d x p m) ≡ linesByte d
+  unfolding linesByte
+  same-lines Zero a b c e = λ i. shown (a i) (b i) (c i) (e i)
+  same-lines One a b c e = λ i. shown (c i) (e i) (a i) (b i)
+
+-- ---- LINES that end no grant
+
+module _ (d : Device) (x p : Side) (b : Bus) where
+  abbrev moved : Device
+  moved = record { side0 = x; side1 = p; bus = b; arb = d .arb; kind = d .kind }
+
+  quiet-lined : (t : Turn) → Alike (d .side0) x → Alike (d .side1) p → b .hold ≡ d .bus .hold → noLoss t (withBus b d) ≡ true → quietFrom t false d ≡ true → quietFrom t false moved ≡ true
+  quiet-lined Nobody a c k l h =
+      let q = tests Nobody d h in
+      whole Nobody moved (q .0) refl (none-asks (d .side0 .contr .lockreq) (d .side1 .contr .lockreq) (x .contr .lockreq) (p .contr .lockreq) (λ e. requests (d .side0) x (a .1) ∙ e) (λ e. requests (d .side1) p (c .1) ∙ e) (q .2)) refl refl
+  quiet-lined (Claims Zero g) a c k l h =
+      let q = tests (Claims Zero g) d h in
+      whole (Claims Zero g) moved (q .0) (ap₂ (λ (r : Bool) (n : ℕ). not (r && eqb n 0)) (a .2) k ∙ q .1) (requests (d .side0) x (a .1) ∙ q .2) refl refl
+  quiet-lined (Claims One g) a c k l h =
+      let q = tests (Claims One g) d h in
+      whole (Claims One g) moved (q .0) (ap₂ (λ (r : Bool) (n : ℕ). not (r && eqb n 0)) (c .2) k ∙ q .1) (requests (d .side1) p (c .1) ∙ q .2) refl refl
+  quiet-lined (Owns Zero g) a c k l h =
+      let q = tests (Owns Zero g) d h in
+      whole (Owns Zero g) moved (linked-on d Zero (d .side0) x (a .1) (q .0)) refl refl refl (keeps (idleLimit d) (d .arb .reserve) b (d .side0) x (a .0) (a .1) l)
+  quiet-lined (Owns One g) a c k l h =
+      let q = tests (Owns One g) d h in
+      whole (Owns One g) moved (linked-on d One (d .side1) p (c .1) (q .0)) refl refl refl (keeps (idleLimit d) (d .arb .reserve) b (d .side1) p (c .0) (c .1) l)
+
+  pub lined-settles : Settled d → Alike (d .side0) x → Alike (d .side1) p → b .hold ≡ d .bus .hold → noLoss (d .arb .turn) (withBus b d) ≡ true → partsThreeToSeven false NoClock moved ≡ moved
+  unfolding isQuiet
+  lined-settles (still, quiet) a c k l = sym (quiet-law false NoClock moved (quiet-lined (d .arb .turn) a c k l quiet))
