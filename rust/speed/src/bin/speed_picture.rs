@@ -5,10 +5,10 @@ use std::io::Read;
 
 const WAYS: [(&str, &str); 3] =
     [("library", "#1f6f3f"), ("tuned", "#8a8a8a"), ("plain", "#c9c9c9")];
-const LEFT: f64 = 150.0;
+const LEFT: f64 = 170.0;
 const BAR: f64 = 16.0;
-/// Of one nanosecond.
-const WIDTH: f64 = 13.0;
+/// Of the longest bar. Right of it there is room for its words.
+const LONGEST: f64 = 370.0;
 
 fn main() {
     let mut text = String::new();
@@ -40,6 +40,7 @@ fn mix_in(line: &str) -> Option<(&str, [f64; 3])> {
 
 fn drawn(mixes: &[(&str, [f64; 3])]) -> String {
     let height = 30.0 + mixes.len() as f64 * (3.0 * BAR + 24.0);
+    let most = mixes.iter().flat_map(|(_, times)| times).fold(f64::MIN_POSITIVE, |a, b| a.max(*b));
     let mut picture = format!(
         "<svg xmlns=\"http://www.w3.org/2000/svg\" width=\"640\" height=\"{height}\" font-family=\"sans-serif\" font-size=\"12\">\n\
          <rect width=\"640\" height=\"{height}\" fill=\"white\"/>\n\
@@ -50,12 +51,12 @@ fn drawn(mixes: &[(&str, [f64; 3])]) -> String {
         picture += &format!("<text x=\"8\" y=\"{}\">{name}</text>\n", top + 2.0 * BAR);
         for (place, ((way, colour), time)) in WAYS.iter().zip(times).enumerate() {
             let at = top + place as f64 * BAR + 6.0;
+            let width = time / most * LONGEST;
             picture += &format!(
-                "<rect x=\"{LEFT}\" y=\"{at}\" width=\"{:.1}\" height=\"{}\" fill=\"{colour}\"/>\n\
+                "<rect x=\"{LEFT}\" y=\"{at}\" width=\"{width:.1}\" height=\"{}\" fill=\"{colour}\"/>\n\
                  <text x=\"{:.1}\" y=\"{}\">{way} {time:.2}</text>\n",
-                time * WIDTH,
                 BAR - 3.0,
-                LEFT + time * WIDTH + 6.0,
+                LEFT + width + 6.0,
                 at + BAR - 5.0
             );
         }
