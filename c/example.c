@@ -74,9 +74,9 @@ static void show_image(const uint8_t *event, size_t events, uint8_t kind) {
 }
 
 static void show_trace(size_t length) {
-    size_t listed = gunwaleish_listing(trace, length, text, sizeof text);
+    uint64_t listed = gunwaleish_listing(trace, length, text, sizeof text);
     if (listed <= sizeof text) {
-        fwrite(text, 1, listed, stdout);
+        fwrite(text, 1, (size_t)listed, stdout);
     }
     uint64_t report = gunwaleish_run_trace(trace, length, answers, sizeof answers);
     if (gunwaleish_number(report) != GUNWALEISH_DONE) {

@@ -5,7 +5,7 @@
  * What a caller owes, since C cannot say it: a pointer is never null, also with length 0; the bytes it points to are there for that
  * length; and the range that a call writes overlaps none that it reads, an image, a row and totals apart, which are one range for both. Any bytes
  * are taken as a trace, as events, as samples, as a sheet, as an image, as a row, as slots or as a script, and any numbers as totals. A pointer to
- * numbers counts in numbers, and is aligned as C has it.
+ * numbers counts in numbers, and is aligned as C has it. A length has 64 bits on every target, also where a pointer has 32.
  */
 #ifndef GUNWALEISH_H
 #define GUNWALEISH_H
@@ -181,32 +181,32 @@ enum gunwaleish_grounds {
 /* Runs a trace from power-up and writes four answer bytes an event. The result is packed: number + 256 * address + 65536 * events +
  * 4294967296 * the kind of part. Bytes past the answers stay. A refused trace leaves all of them, and reports address 0, 0 events and
  * kind 0. */
-uint64_t gunwaleish_run_trace(const uint8_t *trace, size_t trace_len, uint8_t *answers, size_t answers_len);
+uint64_t gunwaleish_run_trace(const uint8_t *trace, uint64_t trace_len, uint8_t *answers, uint64_t answers_len);
 
 /* Writes the trace of four pins, a kind of part and events, four bytes each, as they are given, also those that a device will refuse. The
  * result is packed: number + 256 * the trace's length. Refusals, in this order: 8 for the pins, 5 event bytes not in fours, 6 above 4,096
  * events, 3 for a kind that is neither 0 nor 1, 9 if the buffer is shorter than the trace, which has 9 bytes and the events'. A refusal
  * writes nothing, and the length is 0. Bytes past the trace stay. */
 uint64_t gunwaleish_write_trace(uint8_t ad3, uint8_t ad2, uint8_t ad1, uint8_t ad0, uint8_t kind, const uint8_t *events,
-                                size_t events_len, uint8_t *trace, size_t trace_len);
+                                uint64_t events_len, uint8_t *trace, uint64_t trace_len);
 
 /* Writes an old trace, which ends after its events, with the kind of part added: 01 00, a PCA9641, as there was no other. The result is
  * packed: number + 256 * the new trace's length. What is no old trace is refused by document 01's number, a new trace with 7; last comes 9
  * if the buffer has not two bytes more than the old trace. A refusal writes nothing, and the length is 0. Bytes past the trace stay. */
-uint64_t gunwaleish_convert_trace(const uint8_t *old, size_t old_len, uint8_t *trace, size_t trace_len);
+uint64_t gunwaleish_convert_trace(const uint8_t *old, uint64_t old_len, uint8_t *trace, uint64_t trace_len);
 
 /* Writes the events that a logic analyser's capture has for the device of this address, four bytes each. A sample is one byte: bits 0 to 3
  * are SCL0, SDA0, SCL1 and SDA1, and the others are ignored. The result is packed: number + 256 * the count of events. Refusals, in this
  * order: 13 above 32,768 samples, 11 for the address, 12 a START or STOP inside a byte or the capture ending inside one, 9 if the buffer is
  * shorter than the events. A refusal writes nothing, and the count is 0. Bytes past the events stay. */
-uint64_t gunwaleish_import_capture(const uint8_t *samples, size_t samples_len, uint8_t address, uint8_t *events, size_t events_len);
+uint64_t gunwaleish_import_capture(const uint8_t *samples, uint64_t samples_len, uint8_t address, uint8_t *events, uint64_t events_len);
 
 /* Looks up the box of a section and a controller (0 or 1): the board sheet's if it is ticked there, also with 0, else the house sheet's. The
  * result is packed: number + 256 * the sheet it comes from (1 board, 2 house) + 65536 * the byte of that sheet at which the box starts. That
  * byte is its tick, and the next one its value. Refusals, in this order, all of the board sheet before those of the house sheet: 5 under 15
  * bytes, 10 for a count, 3 for a box, 7 for bytes after the end; then 15 for the section or the controller, 14 if the box is ticked on neither
  * sheet. All above the number is 0 then: an empty box is no value. The two sheets are only read, and may be the same. */
-uint64_t gunwaleish_sheet_box(const uint8_t *board, size_t board_len, const uint8_t *house, size_t house_len, uint8_t section,
+uint64_t gunwaleish_sheet_box(const uint8_t *board, uint64_t board_len, const uint8_t *house, uint64_t house_len, uint8_t section,
                               uint8_t controller);
 
 /* Writes the twelve events that a complete pair of sheets orders, four bytes each: for controller 0, then 1, COMMAND 03h, WRITE of its
@@ -214,8 +214,8 @@ uint64_t gunwaleish_sheet_box(const uint8_t *board, size_t board_len, const uint
  * that owns the bus the WRITE of its reserve is acknowledged and not stored. The result is packed: number + 256 * the count of events.
  * Refusals: those of the sheets, as above; 14 if one of the six boxes is ticked on neither; 9 if the buffer has under 48 bytes. A refusal
  * writes nothing, and the count is 0. Bytes past the events stay. */
-uint64_t gunwaleish_sheet_events(const uint8_t *board, size_t board_len, const uint8_t *house, size_t house_len, uint8_t *events,
-                                 size_t events_len);
+uint64_t gunwaleish_sheet_events(const uint8_t *board, uint64_t board_len, const uint8_t *house, uint64_t house_len, uint8_t *events,
+                                 uint64_t events_len);
 
 /* How long a controller (0 or 1) can wait by a complete pair of sheets, on a part of this kind. The result is packed: number + 256 * the grade +
  * 65536 * the ticks, a millisecond each. What counts is what is ordered for the other controller, the holder: with a reserve of 1 to 255 the grade is
@@ -224,7 +224,7 @@ uint64_t gunwaleish_sheet_events(const uint8_t *board, size_t board_len, const u
  * one's request stands all that time, no reset comes and the holder's RT is not written anew; docs/SHEETS.md has it in full. Refusals: those of
  * the sheets, as above; then 15 for the controller, 3 for the kind of part, 14 if one of the six boxes is ticked on neither. Grade and ticks are 0
  * then. */
-uint64_t gunwaleish_sheet_wait(const uint8_t *board, size_t board_len, const uint8_t *house, size_t house_len, uint8_t controller,
+uint64_t gunwaleish_sheet_wait(const uint8_t *board, uint64_t board_len, const uint8_t *house, uint64_t house_len, uint8_t controller,
                                uint8_t kind);
 
 /* A device that stands between its events is an image of 38 bytes in a buffer of the caller's. Nothing else is kept anywhere. Make it with
@@ -233,20 +233,20 @@ uint64_t gunwaleish_sheet_wait(const uint8_t *board, size_t board_len, const uin
 
 /* Makes the image of a device of this kind after power-up, whatever stood in the buffer. Gives the number: 0, 9, or 3 for a kind that is neither
  * 0 nor 1. */
-uint32_t gunwaleish_image_fresh(uint8_t kind, uint8_t *image, size_t image_len);
+uint32_t gunwaleish_image_fresh(uint8_t kind, uint8_t *image, uint64_t image_len);
 
 /* Steps the device by one event, given by its four bytes. Gives the four answer bytes, the first lowest; gunwaleish_answer takes them apart. The
  * buffer has the new image. 9 and 16 answer the number, 00, 00, 00. An event refused with 2, 3 or 4 leaves the image and shows the device. */
-uint32_t gunwaleish_image_step(uint8_t kind, uint8_t x, uint8_t y, uint8_t z, uint8_t *image, size_t image_len);
+uint32_t gunwaleish_image_step(uint8_t kind, uint8_t x, uint8_t y, uint8_t z, uint8_t *image, uint64_t image_len);
 
 /* Takes so many ticks at once: the image is as after as many TICK events. Packed: number + 256 * how many of the ticks changed anything but counts,
  * which are reserve, hold, idle and both low counts; from any state that a run reaches these are at most three. Number 0, 9, 16, or 3 past 65,535
  * ticks, with 0 above it and the image as it was. No ticks change nothing. */
-uint32_t gunwaleish_image_advance(uint32_t ticks, uint8_t *image, size_t image_len);
+uint32_t gunwaleish_image_advance(uint32_t ticks, uint8_t *image, uint64_t image_len);
 
 /* What the master reads of its register, without an event: no mailbox is emptied, and no pointer moves. Packed: number + 256 * the byte; number 0,
  * 9, 16, or 3 for a master above 1 or a register above 7. */
-uint32_t gunwaleish_image_read(uint8_t master, uint8_t register_number, const uint8_t *image, size_t image_len);
+uint32_t gunwaleish_image_read(uint8_t master, uint8_t register_number, const uint8_t *image, uint64_t image_len);
 
 /* A shelf is a row of 1 to 16 records in a buffer of the caller's, each its address and the image of its device, 39 bytes, with no two
  * addresses the same. Places count from 0. Make it with gunwaleish_shelf_fresh. A refusal leaves the buffer as it was. Refusals, in this order: 9
@@ -256,16 +256,16 @@ uint32_t gunwaleish_image_read(uint8_t master, uint8_t register_number, const ui
 /* Makes a row of fresh devices, whatever stood in the buffer. Each place is a slot of two bytes, its address and its kind of part. Gives the
  * number. Refusals, in this order: 9 if the slots are not in twos or the row has not 39 bytes for each, 5, 6, 17, 3 for a kind that is neither 0
  * nor 1. An address is a name: any byte is one. */
-uint32_t gunwaleish_shelf_fresh(const uint8_t *slots, size_t slots_len, uint8_t *row, size_t row_len);
+uint32_t gunwaleish_shelf_fresh(const uint8_t *slots, uint64_t slots_len, uint8_t *row, uint64_t row_len);
 
 /* Steps the devices that an event reaches. For COMMAND, WRITE, READ, STOP and PAIR the name is an address; for LINES and PULSE it is a place; TICK,
  * RESET and GENERAL CALL reach all, and for these and for an unknown kind the name is not looked at. Gives the four answer bytes of the device
  * that is reached, and of place 0 where all are, the first byte lowest; gunwaleish_answer takes them apart. */
-uint32_t gunwaleish_shelf_step(uint8_t name, uint8_t kind, uint8_t x, uint8_t y, uint8_t z, uint8_t *row, size_t row_len);
+uint32_t gunwaleish_shelf_step(uint8_t name, uint8_t kind, uint8_t x, uint8_t y, uint8_t z, uint8_t *row, uint64_t row_len);
 
 /* The device at a place as it stands, without an event: the four answer bytes, with outcome 0 and no byte read. Its registers are read with
  * gunwaleish_image_read out of the image at row + 39 * place + 1. */
-uint32_t gunwaleish_shelf_show(uint8_t place, const uint8_t *row, size_t row_len);
+uint32_t gunwaleish_shelf_show(uint8_t place, const uint8_t *row, uint64_t row_len);
 
 /* Tries two start-up scripts, four bytes an event, in all the orders that keep each script's own order, each on a PCA9641 fresh from power-up,
  * and writes for each the third answer byte after its last event, of which gunwaleish_owner, gunwaleish_switch and gunwaleish_ground give the
@@ -274,8 +274,8 @@ uint32_t gunwaleish_shelf_show(uint8_t place, const uint8_t *row, size_t row_len
  * the smaller of the limit and the number of orders, which is at most 924. Refusals, in this order: 5 event bytes of a script not in fours, 6
  * a script above six events, 9 if the buffer is shorter than what is to be listed. A refusal writes nothing, and lists 0. Bytes past what is
  * listed stay. The two scripts are only read, and may be the same. */
-uint64_t gunwaleish_list_orders(const uint8_t *script0, size_t script0_len, const uint8_t *script1, size_t script1_len, size_t limit,
-                                uint8_t *listed, size_t listed_len);
+uint64_t gunwaleish_list_orders(const uint8_t *script0, uint64_t script0_len, const uint8_t *script1, uint64_t script1_len, uint64_t limit,
+                                uint8_t *listed, uint64_t listed_len);
 
 /* The bus share over many traces is 17 totals in a buffer of the caller's, all 0 at first. Any numbers are taken: a sum of made-up ones stops at the
  * top of 64 bits, which no sum over traces reaches. A buffer with another count of numbers is refused with 9 and stays as it was. */
@@ -283,11 +283,11 @@ uint64_t gunwaleish_list_orders(const uint8_t *script0, size_t script0_len, cons
 /* Adds a trace, which runs from power-up: the ticks that each controller owned the bus, was connected and waited. Gives 0, or the number of a
  * trace that is refused: it adds one to the traces and one to those refused with its number, and nothing else. With 65,535 traces in the totals it
  * is 6, whatever the trace, and the totals are kept. */
-uint32_t gunwaleish_share_add(const uint8_t *trace, size_t trace_len, uint64_t *totals, size_t totals_len);
+uint32_t gunwaleish_share_add(const uint8_t *trace, uint64_t trace_len, uint64_t *totals, uint64_t totals_len);
 
 /* Joins the totals of other traces to these, so that traces can be counted in several places, in several threads too: the totals are then those of
  * all the traces counted in one, in whatever order. Gives 0, or 6 if that is more than 65,535 traces, and the totals are kept. */
-uint32_t gunwaleish_share_join(const uint64_t *other, size_t other_len, uint64_t *totals, size_t totals_len);
+uint32_t gunwaleish_share_join(const uint64_t *other, uint64_t other_len, uint64_t *totals, uint64_t totals_len);
 
 /* The address of a strapping; pin codes are 0 VSS, 1 VDD, 2 pull-down, 3 pull-up. Packed: number + 256 * address; number 0 or 8. */
 uint32_t gunwaleish_address_of(uint8_t ad3, uint8_t ad2, uint8_t ad1, uint8_t ad0);
@@ -296,7 +296,7 @@ uint32_t gunwaleish_address_of(uint8_t ad3, uint8_t ad2, uint8_t ad1, uint8_t ad
 uint64_t gunwaleish_pins_of(uint8_t address);
 
 /* The length of a trace's listing. The text, with no null byte at its end, is written only if it fits; bytes after it stay. */
-size_t gunwaleish_listing(const uint8_t *trace, size_t trace_len, uint8_t *text, size_t text_len);
+uint64_t gunwaleish_listing(const uint8_t *trace, uint64_t trace_len, uint8_t *text, uint64_t text_len);
 
 /* The parts of a packed result. Each is defined for every argument. */
 static inline unsigned gunwaleish_number(uint64_t packed) {
@@ -351,7 +351,8 @@ static inline unsigned gunwaleish_wait_ticks(uint64_t packed) {
     return (unsigned)(packed >> 16 & 0xffff);
 }
 
-/* One byte of the answer that gunwaleish_image_step, gunwaleish_shelf_step or gunwaleish_shelf_show gave, by its place, a GUNWALEISH_ANSWER_ of the above. There are four. */
+/* One byte of the answer that gunwaleish_image_step, gunwaleish_shelf_step or gunwaleish_shelf_show gave, by its place, a GUNWALEISH_ANSWER_
+ * of the above. There are four. */
 static inline uint8_t gunwaleish_answer(uint32_t packed, unsigned place) {
     return (uint8_t)(place > 3 ? 0 : packed >> (8 * place) & 0xff);
 }
