@@ -42,6 +42,7 @@ pub mod stuck;
 pub mod summary;
 pub mod svg;
 pub mod table;
+pub mod version;
 pub mod walk;
 pub mod words;
 pub mod wrap;
@@ -64,7 +65,7 @@ pub fn main(arguments: Vec<OsString>) -> ExitCode {
 fn run(arguments: Vec<OsString>) -> Result<(), Failure> {
     match read_arguments(arguments)? {
         Asked::Help => files::print(&overview()),
-        Asked::Version => files::print(concat!("gunwaleish ", env!("CARGO_PKG_VERSION"), "\n")),
+        Asked::Version => files::print(&version::text()),
         Asked::HelpFor(command) => files::print(&help(command)),
         Asked::Run(command, arguments) => (command.run)(&arguments),
     }
@@ -82,7 +83,8 @@ pub const FILES: &str =
      such a folder.\n\
      Controller 0 and controller 1 are document 01's masters 0 and 1.\n\n\
      gunwaleish COMMAND --help, or gunwaleish help COMMAND, tells more, with an example. What stands after\n\
-     an option may stand after a sign = too, as in --part=PCA9641. --version gives the version.";
+     an option may stand after a sign = too, as in --part=PCA9641. --version gives the version and the\n\
+     library's commit.";
 
 /// What the exit code says.
 pub const EXIT_CODES: &str =

@@ -2,13 +2,13 @@
 
 use crate::commands::{Command, COMMANDS};
 use crate::options::{takes, COMMON};
+use crate::version::TOOL;
 use crate::{ABOUT, EXIT_CODES, FILES};
 
 /// The whole page, in the macros of man(7).
 pub fn page() -> String {
-    let version = env!("CARGO_PKG_VERSION");
     let mut text = format!(
-        ".TH GUNWALEISH 1 \"\" \"gunwaleish {version}\" \"User Commands\"\n\
+        ".TH GUNWALEISH 1 \"\" \"{TOOL}\" \"User Commands\"\n\
          .SH NAME\ngunwaleish \\- {}\n\
          .SH SYNOPSIS\n.nf\ngunwaleish COMMAND [FILE...] [\\-o OUT]\ngunwaleish help COMMAND\n.fi\n\
          .SH DESCRIPTION\n{}.SH COMMANDS\n",

@@ -16,7 +16,6 @@ fn done_is_0() {
     assert_eq!(code(&listed), 0);
     assert_eq!(listed.stdout, fs::read(root().join("traces/m1.listing")).unwrap());
     assert_eq!(said(&listed), "");
-    assert_eq!(run(&["--version"]).stdout, b"gunwaleish 0.1.0\n");
 }
 
 #[test]

@@ -11,6 +11,7 @@ use gunwaleish_tool::commands::COMMANDS;
 use gunwaleish_tool::completion::Shell;
 use gunwaleish_tool::manual::page;
 use gunwaleish_tool::options::{choices, of};
+use gunwaleish_tool::version;
 
 /// The page as it is read, without macros and escapes, its words one space apart.
 fn read(page: &str) -> String {
@@ -51,8 +52,8 @@ fn the_page_has_the_help_of_every_command() {
     shelf("release", "Followed by the name of a file.");
     shelf("picture", "Stands alone.");
     assert!(!text.contains("ollowed by a word."), "each option says what stands after it");
-    assert!(page
-        .starts_with(".TH GUNWALEISH 1 \"\" \"gunwaleish 0.1.0\" \"User Commands\"\n.SH NAME\n"));
+    let head = format!(".TH GUNWALEISH 1 \"\" \"{}\" \"User Commands\"\n.SH NAME\n", version::TOOL);
+    assert!(page.starts_with(&head));
     assert!(page.ends_with('\n'));
 }
 

@@ -11,6 +11,7 @@ use gunwaleish_tool::commands::picture::{picture, picture_of, Window};
 use gunwaleish_tool::files::Input;
 use gunwaleish_tool::picture::{draw_in_page, style_in_page};
 use gunwaleish_tool::story::follow;
+use gunwaleish_tool::version::TOOL;
 use model::traces::trace;
 
 /// The height of a page, in the units of a picture.
@@ -112,7 +113,7 @@ fn the_legend_is_complete() {
 #[test]
 fn what_it_is_made_of_stands_beneath() {
     let bytes = sample("box14-rt50");
-    let foot = format!(">b.trace, {} bytes; gunwaleish 0.1.0</text>", bytes.len());
+    let foot = format!(">b.trace, {} bytes; {TOOL}</text>", bytes.len());
     let text = drawn(bytes);
     assert!(text.contains(&foot), "{text}");
     let last = text.lines().rev().find(|line| line.starts_with("<text")).unwrap();
@@ -269,7 +270,7 @@ fn a_shelf_has_a_row_a_device() {
     assert!(!rows.is_empty() && rows.iter().all(|y| *y == rows[0]), "one row is hung: {rows:?}");
     let size = |path: &str| fs::metadata(root().join(path)).unwrap().len();
     let foot = format!(
-        ">chassis.shelf, {} bytes; hang.script, {} bytes; gunwaleish 0.1.0</text>",
+        ">chassis.shelf, {} bytes; hang.script, {} bytes; {TOOL}</text>",
         size(shelf),
         size(script)
     );

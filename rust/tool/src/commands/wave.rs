@@ -8,6 +8,7 @@ use super::{Command, TRACES};
 use crate::each::{each_trace, refused, Made};
 use crate::files::Input;
 use crate::story::{follow, Step, Story};
+use crate::version::TOOL;
 use crate::words;
 
 pub const COMMAND: Command = Command {
@@ -134,9 +135,8 @@ pub fn times(story: &Story) -> (Vec<u64>, u64) {
 fn vcd(story: &Story) -> String {
     let groups = groups();
     let mut text = format!(
-        "$version gunwaleish {} $end\n$comment {} at address {:02X}h, {}; a tick is 1 ms $end\n\
+        "$version {TOOL} $end\n$comment {} at address {:02X}h, {}; a tick is 1 ms $end\n\
          $timescale 100 ns $end\n$scope module arbiter $end\n",
-        env!("CARGO_PKG_VERSION"),
         story.part,
         story.address,
         words::count(story.steps.len(), "event")

@@ -2,6 +2,7 @@
 //! width of a page of HTML.
 
 use crate::svg::Drawing;
+use crate::version::TOOL;
 use crate::wrap::wrapped;
 
 /// A rule a line.
@@ -152,8 +153,7 @@ impl Paper {
     pub fn foot(&mut self, files: &[(&str, usize)]) {
         let file = |&(name, size): &(&str, usize)| format!("{name}, {size} bytes");
         let files: Vec<String> = files.iter().map(file).collect();
-        let version = env!("CARGO_PKG_VERSION");
-        self.lines("small", &format!("{}; gunwaleish {version}", files.join("; ")));
+        self.lines("small", &format!("{}; {TOOL}", files.join("; ")));
         self.y += 8.0;
     }
 

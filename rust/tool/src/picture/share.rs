@@ -5,6 +5,7 @@ use gunwaleish::{Master, Totals};
 use super::paper::{Look, Paper};
 use super::places::LEFT;
 use crate::share::words::{per_cent, REFUSALS};
+use crate::version::TOOL;
 use crate::words::{count, ticks};
 
 const LOOKS: [(Look, &str); 4] = [
@@ -47,8 +48,7 @@ pub fn draw(totals: &Totals, of: &str) -> String {
     let counted = "A tick counts by the state after it (docs/SHARE.md). A controller does not wait while it \
                    owns the bus, so a bar has a part for each; in the rest of it the controller does neither.";
     paper.lines("small", counted);
-    let version = env!("CARGO_PKG_VERSION");
-    paper.lines("small", &format!("{of}; gunwaleish {version}"));
+    paper.lines("small", &format!("{of}; {TOOL}"));
     paper.y += 8.0;
     paper.finish()
 }
