@@ -1,11 +1,16 @@
-//! What `--version` says: the tool's version, and what stands beside the library.
+//! What `--version` says: the version that the file VERSION gives, and what stands beside the library.
 
 mod common;
 
-use common::{code, run, said, told};
+use common::{code, run, said, text, told};
 
 use gunwaleish::library_identity;
 use gunwaleish_tool::version::TOOL;
+
+#[test]
+fn the_version_is_that_of_the_file() {
+    assert_eq!(format!("{TOOL}\n"), format!("gunwaleish {}", text("VERSION")));
+}
 
 #[test]
 fn the_version_is_told_with_the_library() {
