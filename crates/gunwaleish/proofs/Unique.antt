@@ -2,6 +2,7 @@
 -- Assumes nothing.
 use denote.Ref.{now}
 use Rattle.arbiter.proofs.Once.{OneResult, OneLeft, once}
+use Rattle.gunwaleish.proofs.gunwaleish_version.Reads as gunwaleish-version
 use Rattle.gunwaleish.proofs.gunwaleish_run_trace.Reads as gunwaleish-run-trace
 use Rattle.gunwaleish.proofs.gunwaleish_write_trace.Reads as gunwaleish-write-trace
 use Rattle.gunwaleish.proofs.gunwaleish_convert_trace.Reads as gunwaleish-convert-trace
@@ -22,6 +23,9 @@ use Rattle.gunwaleish.proofs.gunwaleish_share_add.Reads as gunwaleish-s
 use Rattle.gunwaleish.proofs.gunwaleish_share_join.Reads as gunwaleish-share-join
 use Rattle.gunwaleish.proofs.gunwaleish_address_of.Reads as gunwaleish-address-of
 use Rattle.gunwaleish.proofs.gunwaleish_pins_of.Reads as gunwaleish-pins-of
+
+pub gunwaleish-version-once : OneResult gunwaleish-version.Post
+gunwaleish-version-once κ a x y s t p q = once p q
 
 pub gunwaleish-run-trace-once : OneLeft (λ κ s. now (s .1 .0)) gunwaleish-run-trace.Post
 gunwaleish-run-trace-once κ a x y s t p q = (once (p .0) (q .0), once (p .1) (q .1))

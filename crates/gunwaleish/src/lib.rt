@@ -25,6 +25,23 @@ ghost use Rattle.packed_orders.specs.Packed.{packedListed};
 ghost use Rattle.packed_sheets.specs.Packed.{packedBox, packedOrder, packedWait};
 ghost use Rattle.packed_straps.specs.Packed.{packedAddress, packedPins};
 ghost use Rattle.packed_traces.specs.Packed.{packedReport, packedWritten};
+ghost use Rattle.gunwaleish.specs.Version.{version};
+
+// ---- the version
+
+const MAJOR: u32 = 1;
+
+const MINOR: u32 = 0;
+
+const PATCH: u32 = 0;
+
+// The version of this library, in one number.
+#[no_mangle]
+pub extern "C" fn gunwaleish_version() -> u32
+    ensures { λ r. ⌜ r ≡ version ⌝ }
+{
+    65536 * MAJOR + 256 * MINOR + PATCH
+}
 
 // ---- traces
 
@@ -121,10 +138,10 @@ pub extern "C" fn gunwaleish_image_fresh(kind: u8, image: &mut [u8]) -> u32
 
 // One event on an image, by its four bytes.
 #[no_mangle]
-pub extern "C" fn gunwaleish_image_step(kind: u8, x: u8, y: u8, z: u8, image: &mut [u8]) -> u32
-    ensures { λ r. ⌜ (r ≡ packedAnswer (imageAnswer (now (image .entry)) (record { kind = kind; x = x; y = y; z = z }))) × (now (image .exit) ≡ imageAfter (now (image .entry)) (record { kind = kind; x = x; y = y; z = z })) ⌝ }
+pub extern "C" fn gunwaleish_image_step(event: u8, x: u8, y: u8, z: u8, image: &mut [u8]) -> u32
+    ensures { λ r. ⌜ (r ≡ packedAnswer (imageAnswer (now (image .entry)) (record { kind = event; x = x; y = y; z = z }))) × (now (image .exit) ≡ imageAfter (now (image .entry)) (record { kind = event; x = x; y = y; z = z })) ⌝ }
 {
-    packed_images::step_packed(kind, x, y, z, image)
+    packed_images::step_packed(event, x, y, z, image)
 }
 
 // So many ticks on an image, at once.
@@ -149,15 +166,15 @@ pub extern "C" fn gunwaleish_image_read(master: u8, register: u8, image: &[u8]) 
 #[no_mangle]
 pub extern "C" fn gunwaleish_shelf_step(
     name: u8,
-    kind: u8,
+    event: u8,
     x: u8,
     y: u8,
     z: u8,
     row: &mut [u8],
 ) -> u32
-    ensures { λ r. ⌜ (r ≡ packedAnswer (rowAnswer (now (row .entry)) name (record { kind = kind; x = x; y = y; z = z }))) × (now (row .exit) ≡ rowBuffer (now (row .entry)) name (record { kind = kind; x = x; y = y; z = z })) ⌝ }
+    ensures { λ r. ⌜ (r ≡ packedAnswer (rowAnswer (now (row .entry)) name (record { kind = event; x = x; y = y; z = z }))) × (now (row .exit) ≡ rowBuffer (now (row .entry)) name (record { kind = event; x = x; y = y; z = z })) ⌝ }
 {
-    packed_shelves::step_packed(name, kind, x, y, z, row)
+    packed_shelves::step_packed(name, event, x, y, z, row)
 }
 
 // The device at a place as it stands, without an event.
