@@ -1,6 +1,11 @@
-/* The proved model of a PCA9641 bus arbiter, and of its second source TPT29641, for C and C++.
+/* The proved model of a PCA9641 bus arbiter, and of its second source TPT29641, for C (C99 on) and C++ (C++11 on).
  *
- * Link with libgunwaleish.a, which `tools/library` writes to build/lib/.
+ * A program can be written from this file alone. It has, in this order: the version; the kinds of part; the events, and one builder for each;
+ * the registers and their bits; the answers; the numbers of outcomes and refusals; sizes; the calls; and what takes a call's result apart.
+ * It needs nothing but <stddef.h> and <stdint.h>, which a compiler without a system has too.
+ *
+ * Link with libgunwaleish.a, which `tools/library` writes to build/lib/. The library allocates nothing, keeps nothing between two calls and may be
+ * called from several threads and from an interrupt, each with buffers of its own.
  *
  * What a caller owes, since C cannot say it: a pointer is never null, also with length 0; the bytes it points to are there for that
  * length; and the range that a call writes overlaps none that it reads, an image, a row and totals apart, which are one range for both. Any bytes
@@ -17,19 +22,252 @@
 extern "C" {
 #endif
 
-/* The numbers of documents 01 and 02. 0 to 4 are outcomes of one event, the others refuse a whole call; so does 3, for a kind of part other
- * than 0 and 1 and for an order sheet. Where a number says one thing of a trace and another of an order sheet, of a start-up script, of a
- * shelf's row or of totals, it has a name for each. A call that is not refused has 0. */
-enum gunwaleish_numbers {
-    GUNWALEISH_DONE = 0,                   /* done, accepted */
-    GUNWALEISH_NOT_ACKNOWLEDGED = 1,       /* the byte was not acknowledged */
-    GUNWALEISH_UNKNOWN_KIND = 2,           /* the event's first byte is no kind */
-    GUNWALEISH_FIELD_OUT_OF_RANGE = 3,     /* of an event: a field out of range, or an unused one not 0 */
-    GUNWALEISH_NO_SUCH_PART = 3,           /* of a whole call: the kind of part is neither 0 nor 1 */
+/* ---- the version ---- */
+
+/* The version of this header. */
+#define GUNWALEISH_VERSION_MAJOR 1
+#define GUNWALEISH_VERSION_MINOR 0
+#define GUNWALEISH_VERSION_PATCH 0
+#define GUNWALEISH_VERSION (65536 * GUNWALEISH_VERSION_MAJOR + 256 * GUNWALEISH_VERSION_MINOR + GUNWALEISH_VERSION_PATCH)
+
+/* The version of the library that is linked, packed as GUNWALEISH_VERSION is. It belongs to this header if the two are equal. */
+uint32_t gunwaleish_version(void);
+
+/* ---- kinds of part ---- */
+
+/* The library takes a kind of part and an event's number as one byte each. Here each of the two is an enum of its own, so that a compiler tells if
+ * one is given for the other: a C++ compiler refuses it, gcc warns with -Wextra (-Wenum-conversion), clang always. The enum has one byte too. */
+#if defined(__cplusplus) || (defined(__STDC_VERSION__) && __STDC_VERSION__ >= 202311L)
+#define GUNWALEISH_BYTE_ENUM(tag) enum tag : uint8_t
+#elif defined(__GNUC__)
+#define GUNWALEISH_BYTE_ENUM(tag) enum __attribute__((__packed__)) tag
+#else
+#define GUNWALEISH_BYTE_ENUM(tag) enum tag
+#endif
+
+/* The kinds of part, which a `kind` below always is. A TPT29641 differs in two things: its idle timer ends a grant at 151 idle ticks, not at 101,
+ * and its write pointer rolls from 7 to 0, where that of a PCA9641 stays at 7. There is no default: a trace names its part. */
+GUNWALEISH_BYTE_ENUM(gunwaleish_kind_of_part) {
+    GUNWALEISH_PCA9641 = 0,
+    GUNWALEISH_TPT29641 = 1
+};
+
+/* ---- events ---- */
+
+/* What happens at one instant is an event, four bytes: its number and three fields x, y and z. Fields that an event does not use are 0. m is a
+ * master, 0 or 1, which is the controller at that upstream port; a level is 0 low or 1 high.
+ *
+ *   number          x     y    z       what happens
+ *   0 COMMAND       m     c    0       opens m's port for writing and sets its pointer: c is GUNWALEISH_AUTO_INCREMENT or 0, plus a register. Not
+ *                                      acknowledged if bits 6 to 3 of c are not 0: both stay as they were, the port is open but not for writing
+ *   1 WRITE         m     v    0       writes v at the pointer, which then rises with auto-increment. The port must be open for writing. Register 0
+ *                                      does not acknowledge
+ *   2 READ          m     0    0       reads the byte at the pointer, which then rises with auto-increment, and from 7 goes to 0. The port is then
+ *                                      open, but not for writing
+ *   3 STOP          m     0    0       ends the transfer: the port goes to rest, and no claim of m is granted before. The port must be open
+ *   4 PAIR          v0    v1   0       both masters' WRITE at one instant. Both ports must be open for writing
+ *   5 LINES         SCL   SDA  INT_IN  the outside levels of the downstream bus, what a connected master does included; a fall of INT_IN is an
+ *                                      interrupt for both
+ *   6 TICK          0     0    0       one millisecond passes
+ *   7 PULSE         SDA   0    0       the level of SDA at one clock of an initialisation, which must be running: 1 ends it and closes the switch,
+ *                                      the ninth 0 is its failure
+ *   8 RESET         0     0    0       the reset pin
+ *   9 GENERAL CALL  m     b    0       b to all devices: 06h is the soft reset, every other byte is not acknowledged and does nothing
+ *
+ * So a master asks for the bus with COMMAND 01h, WRITE of GUNWALEISH_CONTR_LOCK_REQ, STOP. The next section has the registers. */
+GUNWALEISH_BYTE_ENUM(gunwaleish_event_number) {
+    GUNWALEISH_EVENT_COMMAND = 0,
+    GUNWALEISH_EVENT_WRITE = 1,
+    GUNWALEISH_EVENT_READ = 2,
+    GUNWALEISH_EVENT_STOP = 3,
+    GUNWALEISH_EVENT_PAIR = 4,
+    GUNWALEISH_EVENT_LINES = 5,
+    GUNWALEISH_EVENT_TICK = 6,
+    GUNWALEISH_EVENT_PULSE = 7,
+    GUNWALEISH_EVENT_RESET = 8,
+    GUNWALEISH_EVENT_GENERAL_CALL = 9
+};
+
+/* In a COMMAND: the pointer rises after each byte. */
+#define GUNWALEISH_AUTO_INCREMENT 0x80
+
+/* In a GENERAL CALL: the soft reset. */
+#define GUNWALEISH_SOFT_RESET 0x06
+
+/* An event. Its four bytes stand in it as they stand in a trace, one after the other, so that a row of events is event bytes too. */
+struct gunwaleish_event {
+    enum gunwaleish_event_number number;
+    uint8_t x;
+    uint8_t y;
+    uint8_t z;
+};
+
+/* If a compiler stops here, its enums are longer than a byte: have it make them as short as they can be (often -fshort-enums). */
+typedef char gunwaleish_enums_have_one_byte[sizeof(enum gunwaleish_kind_of_part) == 1 && sizeof(struct gunwaleish_event) == 4 ? 1 : -1];
+
+/* An event of any four bytes, also such as a device refuses. */
+static inline struct gunwaleish_event gunwaleish_event_of(uint8_t number, uint8_t x, uint8_t y, uint8_t z) {
+    struct gunwaleish_event event;
+    event.number = (enum gunwaleish_event_number)number;
+    event.x = x;
+    event.y = y;
+    event.z = z;
+    return event;
+}
+
+/* The ten events. */
+static inline struct gunwaleish_event gunwaleish_event_command(uint8_t master, uint8_t code) {
+    return gunwaleish_event_of(GUNWALEISH_EVENT_COMMAND, master, code, 0);
+}
+
+static inline struct gunwaleish_event gunwaleish_event_write(uint8_t master, uint8_t value) {
+    return gunwaleish_event_of(GUNWALEISH_EVENT_WRITE, master, value, 0);
+}
+
+static inline struct gunwaleish_event gunwaleish_event_read(uint8_t master) {
+    return gunwaleish_event_of(GUNWALEISH_EVENT_READ, master, 0, 0);
+}
+
+static inline struct gunwaleish_event gunwaleish_event_stop(uint8_t master) {
+    return gunwaleish_event_of(GUNWALEISH_EVENT_STOP, master, 0, 0);
+}
+
+static inline struct gunwaleish_event gunwaleish_event_pair(uint8_t value0, uint8_t value1) {
+    return gunwaleish_event_of(GUNWALEISH_EVENT_PAIR, value0, value1, 0);
+}
+
+static inline struct gunwaleish_event gunwaleish_event_lines(uint8_t scl, uint8_t sda, uint8_t int_in) {
+    return gunwaleish_event_of(GUNWALEISH_EVENT_LINES, scl, sda, int_in);
+}
+
+static inline struct gunwaleish_event gunwaleish_event_tick(void) {
+    return gunwaleish_event_of(GUNWALEISH_EVENT_TICK, 0, 0, 0);
+}
+
+static inline struct gunwaleish_event gunwaleish_event_pulse(uint8_t sda) {
+    return gunwaleish_event_of(GUNWALEISH_EVENT_PULSE, sda, 0, 0);
+}
+
+static inline struct gunwaleish_event gunwaleish_event_reset(void) {
+    return gunwaleish_event_of(GUNWALEISH_EVENT_RESET, 0, 0, 0);
+}
+
+static inline struct gunwaleish_event gunwaleish_event_general_call(uint8_t master, uint8_t code) {
+    return gunwaleish_event_of(GUNWALEISH_EVENT_GENERAL_CALL, master, code, 0);
+}
+
+/* ---- registers ---- */
+
+/* Each master has eight of its own. A reset leaves 7Fh in INT_MSK and 0 in all others, the bits that are computed apart. */
+enum gunwaleish_registers {
+    GUNWALEISH_REGISTER_ID = 0,            /* 38h, read only */
+    GUNWALEISH_REGISTER_CONTR = 1,         /* control: a GUNWALEISH_CONTR_ a bit */
+    GUNWALEISH_REGISTER_STATUS = 2,        /* a GUNWALEISH_STATUS_ a bit */
+    GUNWALEISH_REGISTER_RT = 3,            /* the reserve in ms; 00h is without limit. Not stored while its master is granted, though acknowledged */
+    GUNWALEISH_REGISTER_INT_STATUS = 4,    /* interrupts: a GUNWALEISH_INT_ a bit; bits 5 to 0 stay until they are written 1 */
+    GUNWALEISH_REGISTER_INT_MSK = 5,       /* the same bits: an interrupt whose bit is 0 here asserts the master's output */
+    GUNWALEISH_REGISTER_MAIL_LOW = 6,      /* read: one's own mailbox. Written: the partner's, dropped while that one is full */
+    GUNWALEISH_REGISTER_MAIL_HIGH = 7      /* the same; a write fills the partner's box, and a read empties one's own */
+};
+
+#define GUNWALEISH_ID 0x38
+
+/* The bits of CONTR. */
+enum gunwaleish_contr_bits {
+    GUNWALEISH_CONTR_LOCK_REQ = 0x01,      /* asks for the bus; cleared while granted it ends the grant in that byte, and so does a loss clear it */
+    GUNWALEISH_CONTR_LOCK_GRANT = 0x02,    /* read only: the bus is this master's */
+    GUNWALEISH_CONTR_BUS_CONNECT = 0x04,   /* closes the switch while granted; cleared whenever a grant ends */
+    GUNWALEISH_CONTR_BUS_INIT = 0x08,      /* initialises the bus before the switch closes */
+    GUNWALEISH_CONTR_SMBUS_SWRST = 0x10,   /* a soft reset that this master sends holds SCL low for 35 ticks */
+    GUNWALEISH_CONTR_IDLE_TIMER_DIS = 0x20, /* 1, whatever the name says, has the idle timer end a grant with reserve 00h */
+    GUNWALEISH_CONTR_SMBUS_DIS = 0x40,     /* 35 ticks of SCL low clear BUS_CONNECT; the grant stays */
+    GUNWALEISH_CONTR_PRIORITY = 0x80       /* wins where both ask at once and the other's is 0 */
+};
+
+/* The bits of STATUS. Written, bit 5 sets the test interrupt, and bits 7 and 6 set the drives of SDA and SCL, 0 pulling low, if the writer is granted
+ * with BUS_CONNECT 0. */
+enum gunwaleish_status_bits {
+    GUNWALEISH_STATUS_OTHER_LOCK = 0x01,   /* the partner is granted */
+    GUNWALEISH_STATUS_BUS_INIT_FAIL = 0x02, /* the last initialisation failed; one flag for both masters */
+    GUNWALEISH_STATUS_BUS_HUNG = 0x04,     /* SCL low for 500 ticks, or SDA low for 501 without a change of SCL; one flag for both */
+    GUNWALEISH_STATUS_MBOX_EMPTY = 0x08,   /* the partner's mailbox is empty */
+    GUNWALEISH_STATUS_MBOX_FULL = 0x10,    /* one's own mailbox is full */
+    GUNWALEISH_STATUS_TEST_INT = 0x20,     /* reads 0 */
+    GUNWALEISH_STATUS_SCL = 0x40,          /* the level of SCL */
+    GUNWALEISH_STATUS_SDA = 0x80           /* the level of SDA */
+};
+
+/* The bits of INT_STATUS, and of INT_MSK. */
+enum gunwaleish_int_bits {
+    GUNWALEISH_INT_INT_IN = 0x01,          /* INT_IN fell */
+    GUNWALEISH_INT_LOST = 0x02,            /* the grant was lost: its reserve ran out on an idle bus, or the idle timer ended it */
+    GUNWALEISH_INT_GRANTED = 0x04,         /* the bus was granted */
+    GUNWALEISH_INT_TEST = 0x08,            /* one's own test */
+    GUNWALEISH_INT_MAIL_EMPTIED = 0x10,    /* the partner emptied its mailbox */
+    GUNWALEISH_INT_MAIL_FULL = 0x20,       /* one's own mailbox was filled */
+    GUNWALEISH_INT_HUNG = 0x40             /* is BUS_HUNG, and no write clears it */
+};
+
+/* ---- answers ---- */
+
+/* An event is answered by four bytes. All but the first two show the device after the step, also after an event that was refused. */
+enum gunwaleish_answer_bytes {
+    GUNWALEISH_ANSWER_OUTCOME = 0,         /* a number of gunwaleish_outcomes, or of a refusal of the call */
+    GUNWALEISH_ANSWER_BYTE_READ = 1,       /* the byte that a READ handed out, else 00h */
+    GUNWALEISH_ANSWER_BUS = 2,             /* owner, switch, initialisation and ground; a GUNWALEISH_BUS_ a part */
+    GUNWALEISH_ANSWER_PINS = 3             /* a GUNWALEISH_PINS_ a bit */
+};
+
+/* The parts of the third answer byte. The switch is two bits up, the ground five; bit 7 is 0. */
+#define GUNWALEISH_BUS_OWNER 0x03          /* who is granted, a number of gunwaleish_owners */
+#define GUNWALEISH_BUS_SWITCH 0x0c         /* whose switch is closed, a number of gunwaleish_owners; only the owner's ever is */
+#define GUNWALEISH_BUS_SWITCH_SHIFT 2
+#define GUNWALEISH_BUS_INITIALISING 0x10   /* an initialisation is running */
+#define GUNWALEISH_BUS_GROUND 0x60         /* a number of gunwaleish_grounds */
+#define GUNWALEISH_BUS_GROUND_SHIFT 5
+
+/* Whose the bus or the switch is: not the master's number, but one more. */
+enum gunwaleish_owners {
+    GUNWALEISH_OWNER_NONE = 0,
+    GUNWALEISH_OWNER_0 = 1,
+    GUNWALEISH_OWNER_1 = 2
+};
+
+/* On what ground the present claim was won. It is fixed when the claim is made, shown from then on, and kept while the grant lasts. */
+enum gunwaleish_grounds {
+    GUNWALEISH_NO_CLAIM = 0,               /* nobody claims or owns the bus */
+    GUNWALEISH_SOLE_REQUESTER = 1,         /* the partner did not ask */
+    GUNWALEISH_PRIORITY = 2,               /* both asked, and the priorities differed */
+    GUNWALEISH_LAST_GRANTED = 3            /* both asked with equal priorities: the partner was granted last, or nobody before */
+};
+
+/* The bits of the fourth answer byte. */
+enum gunwaleish_pins_bits {
+    GUNWALEISH_PINS_INT0_ASSERTED = 0x01,
+    GUNWALEISH_PINS_INT1_ASSERTED = 0x02,
+    GUNWALEISH_PINS_SCL_HIGH = 0x04,
+    GUNWALEISH_PINS_SDA_HIGH = 0x08
+};
+
+/* ---- outcomes and refusals ---- */
+
+/* What became of one event: the first byte of its answer. The last three refuse it, and nothing has changed. */
+enum gunwaleish_outcomes {
+    GUNWALEISH_DONE = 0,                   /* done; of a call: not refused */
+    GUNWALEISH_NOT_ACKNOWLEDGED = 1,       /* a byte was not acknowledged */
+    GUNWALEISH_UNKNOWN_EVENT = 2,          /* the first byte is no event's number */
+    GUNWALEISH_FIELD_OUT_OF_RANGE = 3,     /* a field is out of range, or one that is not used is not 0 */
+    GUNWALEISH_OUT_OF_SEQUENCE = 4         /* the event cannot come now: WRITE, PAIR or STOP without the port open for it, PULSE outside an initialisation */
+};
+
+/* Why a whole call was refused: the low byte of its result, which gunwaleish_number gives, and 0 for a call that was not. A number says one thing of a
+ * trace and may say another of an order sheet, an image, a start-up script, a shelf's row or totals: it has a name for each. Each call below says which
+ * of them it gives and in which order. A refused call writes nothing; only gunwaleish_share_add counts the trace that it refuses. */
+enum gunwaleish_refusals {
+    GUNWALEISH_NO_SUCH_PART = 3,           /* the kind of part is neither 0 nor 1 */
     GUNWALEISH_NO_SUCH_REGISTER = 3,       /* of a register read out of an image: a master above 1 or a register above 7 */
     GUNWALEISH_BAD_BOX = 3,                /* of an order sheet: a tick or value out of range, or a value in a box that is not ticked */
     GUNWALEISH_TOO_MANY_TICKS = 3,         /* of an advance: more than 65,535 ticks */
-    GUNWALEISH_OUT_OF_SEQUENCE = 4,        /* the event cannot come now */
     GUNWALEISH_TRACE_CUT = 5,              /* bytes are missing at the end, or event bytes do not come in fours */
     GUNWALEISH_SHEET_CUT = 5,              /* of an order sheet: under 15 bytes */
     GUNWALEISH_EMPTY_ROW = 5,              /* of a shelf: its row has no record */
@@ -56,12 +294,7 @@ enum gunwaleish_numbers {
     GUNWALEISH_NOT_IN_ROW = 18             /* the address or place that is named is not in the row */
 };
 
-/* The kinds of part. A TPT29641 differs in two things: its idle timer ends a grant at 151 idle ticks, not at 101, and its write pointer
- * rolls from 7 to 0, where that of a PCA9641 stays at 7. There is no default: a trace names its part. */
-enum gunwaleish_parts {
-    GUNWALEISH_PCA9641 = 0,
-    GUNWALEISH_TPT29641 = 1
-};
+/* ---- sizes, and the words of order sheets and totals ---- */
 
 /* The sections of an order sheet. */
 enum gunwaleish_sections {
@@ -146,60 +379,43 @@ enum gunwaleish_totals {
     GUNWALEISH_TOTAL_REFUSED_10 = 16
 };
 
-/* The four bytes of an answer, by their places. */
-#define GUNWALEISH_ANSWER_OUTCOME 0
-#define GUNWALEISH_ANSWER_BYTE_READ 1
-#define GUNWALEISH_ANSWER_BUS 2
-#define GUNWALEISH_ANSWER_PINS 3
-
-/* The bits of the third answer byte. Owner and switch are 0 for none, 1 for master 0 and 2 for master 1; the switch is two bits up. The
- * ground of the present claim, a number of gunwaleish_grounds, is five bits up. Bit 7 is 0. */
-#define GUNWALEISH_BUS_OWNER 0x03
-#define GUNWALEISH_BUS_SWITCH 0x0c
-#define GUNWALEISH_BUS_SWITCH_SHIFT 2
-#define GUNWALEISH_BUS_INITIALISING 0x10
-#define GUNWALEISH_BUS_GROUND 0x60
-#define GUNWALEISH_BUS_GROUND_SHIFT 5
-
-/* On what ground the present claim was won. It is fixed when the claim is made, shown from then on, and kept while the grant lasts. */
-enum gunwaleish_grounds {
-    GUNWALEISH_NO_CLAIM = 0,               /* nobody claims or owns the bus */
-    GUNWALEISH_SOLE_REQUESTER = 1,         /* the partner did not ask */
-    GUNWALEISH_PRIORITY = 2,               /* both asked, and the priorities differed */
-    GUNWALEISH_LAST_GRANTED = 3            /* both asked with equal priorities: the partner was granted last, or nobody before */
-};
-
-/* The bits of the fourth answer byte. */
-#define GUNWALEISH_PINS_INT0_ASSERTED 0x01
-#define GUNWALEISH_PINS_INT1_ASSERTED 0x02
-#define GUNWALEISH_PINS_SCL_HIGH 0x04
-#define GUNWALEISH_PINS_SDA_HIGH 0x08
-
 /* What gunwaleish_pin gives for a pin that is not there. */
 #define GUNWALEISH_NO_PIN 0xff
 
+/* ---- a trace ---- */
+
 /* Runs a trace from power-up and writes four answer bytes an event. The result is packed: number + 256 * address + 65536 * events +
- * 4294967296 * the kind of part. Bytes past the answers stay. A refused trace leaves all of them, and reports address 0, 0 events and
- * kind 0. */
+ * 4294967296 * the kind of part. Bytes past the answers stay. Refusals, in the order of the trace's bytes: 10 for the first count, 8 for the
+ * pins, 6 above 4,096 events, 10 for the count of the kind, 3 for a kind that is neither 0 nor 1, and 5 wherever the bytes end too early; then 7
+ * for bytes after the end, and 9 if the buffer is shorter than the answers. They leave the buffer, and report address 0, 0 events and kind 0. */
 uint64_t gunwaleish_run_trace(const uint8_t *trace, uint64_t trace_len, uint8_t *answers, uint64_t answers_len);
 
 /* Writes the trace of four pins, a kind of part and events, four bytes each, as they are given, also those that a device will refuse. The
  * result is packed: number + 256 * the trace's length. Refusals, in this order: 8 for the pins, 5 event bytes not in fours, 6 above 4,096
  * events, 3 for a kind that is neither 0 nor 1, 9 if the buffer is shorter than the trace, which has 9 bytes and the events'. A refusal
  * writes nothing, and the length is 0. Bytes past the trace stay. */
-uint64_t gunwaleish_write_trace(uint8_t ad3, uint8_t ad2, uint8_t ad1, uint8_t ad0, uint8_t kind, const uint8_t *events,
+uint64_t gunwaleish_write_trace(uint8_t ad3, uint8_t ad2, uint8_t ad1, uint8_t ad0, enum gunwaleish_kind_of_part kind, const uint8_t *events,
                                 uint64_t events_len, uint8_t *trace, uint64_t trace_len);
 
 /* Writes an old trace, which ends after its events, with the kind of part added: 01 00, a PCA9641, as there was no other. The result is
- * packed: number + 256 * the new trace's length. What is no old trace is refused by document 01's number, a new trace with 7; last comes 9
- * if the buffer has not two bytes more than the old trace. A refusal writes nothing, and the length is 0. Bytes past the trace stay. */
+ * packed: number + 256 * the new trace's length. Refusals, in the order of the bytes: 10 for the first count, 8 for the pins, 6 above 4,096 events,
+ * and 5 wherever the bytes end too early; then 7 for bytes after the events, as a new trace has them, and 9 if the buffer has not two bytes more
+ * than the old trace. A refusal writes nothing, and the length is 0. Bytes past the trace stay. */
 uint64_t gunwaleish_convert_trace(const uint8_t *old, uint64_t old_len, uint8_t *trace, uint64_t trace_len);
+
+/* The length of a trace's listing, which is text: address and count of events, then one answer a line, in capital hex; or R and the number of a
+ * trace that is refused. It is written, with no null byte at its end, only if it fits; bytes after it stay. No trace is refused here. */
+uint64_t gunwaleish_listing(const uint8_t *trace, uint64_t trace_len, uint8_t *text, uint64_t text_len);
+
+/* ---- a capture ---- */
 
 /* Writes the events that a logic analyser's capture has for the device of this address, four bytes each. A sample is one byte: bits 0 to 3
  * are SCL0, SDA0, SCL1 and SDA1, and the others are ignored. The result is packed: number + 256 * the count of events. Refusals, in this
  * order: 13 above 32,768 samples, 11 for the address, 12 a START or STOP inside a byte or the capture ending inside one, 9 if the buffer is
  * shorter than the events. A refusal writes nothing, and the count is 0. Bytes past the events stay. */
 uint64_t gunwaleish_import_capture(const uint8_t *samples, uint64_t samples_len, uint8_t address, uint8_t *events, uint64_t events_len);
+
+/* ---- two order sheets ---- */
 
 /* Looks up the box of a section and a controller (0 or 1): the board sheet's if it is ticked there, also with 0, else the house sheet's. The
  * result is packed: number + 256 * the sheet it comes from (1 board, 2 house) + 65536 * the byte of that sheet at which the box starts. That
@@ -225,7 +441,9 @@ uint64_t gunwaleish_sheet_events(const uint8_t *board, uint64_t board_len, const
  * the sheets, as above; then 15 for the controller, 3 for the kind of part, 14 if one of the six boxes is ticked on neither. Grade and ticks are 0
  * then. */
 uint64_t gunwaleish_sheet_wait(const uint8_t *board, uint64_t board_len, const uint8_t *house, uint64_t house_len, uint8_t controller,
-                               uint8_t kind);
+                               enum gunwaleish_kind_of_part kind);
+
+/* ---- a standing device ---- */
 
 /* A device that stands between its events is an image of 38 bytes in a buffer of the caller's. Nothing else is kept anywhere. Make it with
  * gunwaleish_image_fresh; the calls keep every field in its range, so 16 tells that something else wrote there. A refusal leaves the buffer as
@@ -233,11 +451,16 @@ uint64_t gunwaleish_sheet_wait(const uint8_t *board, uint64_t board_len, const u
 
 /* Makes the image of a device of this kind after power-up, whatever stood in the buffer. Gives the number: 0, 9, or 3 for a kind that is neither
  * 0 nor 1. */
-uint32_t gunwaleish_image_fresh(uint8_t kind, uint8_t *image, uint64_t image_len);
+uint32_t gunwaleish_image_fresh(enum gunwaleish_kind_of_part kind, uint8_t *image, uint64_t image_len);
 
 /* Steps the device by one event, given by its four bytes. Gives the four answer bytes, the first lowest; gunwaleish_answer takes them apart. The
  * buffer has the new image. 9 and 16 answer the number, 00, 00, 00. An event refused with 2, 3 or 4 leaves the image and shows the device. */
-uint32_t gunwaleish_image_step(uint8_t kind, uint8_t x, uint8_t y, uint8_t z, uint8_t *image, uint64_t image_len);
+uint32_t gunwaleish_image_step(enum gunwaleish_event_number event, uint8_t x, uint8_t y, uint8_t z, uint8_t *image, uint64_t image_len);
+
+/* The same, with an event that a builder made. */
+static inline uint32_t gunwaleish_image_event(struct gunwaleish_event event, uint8_t *image, uint64_t image_len) {
+    return gunwaleish_image_step(event.number, event.x, event.y, event.z, image, image_len);
+}
 
 /* Takes so many ticks at once: the image is as after as many TICK events. Packed: number + 256 * how many of the ticks changed anything but counts,
  * which are reserve, hold, idle and both low counts; from any state that a run reaches these are at most three. Number 0, 9, 16, or 3 past 65,535
@@ -247,6 +470,8 @@ uint32_t gunwaleish_image_advance(uint32_t ticks, uint8_t *image, uint64_t image
 /* What the master reads of its register, without an event: no mailbox is emptied, and no pointer moves. Packed: number + 256 * the byte; number 0,
  * 9, 16, or 3 for a master above 1 or a register above 7. */
 uint32_t gunwaleish_image_read(uint8_t master, uint8_t register_number, const uint8_t *image, uint64_t image_len);
+
+/* ---- a shelf of standing devices ---- */
 
 /* A shelf is a row of 1 to 16 records in a buffer of the caller's, each its address and the image of its device, 39 bytes, with no two
  * addresses the same. Places count from 0. Make it with gunwaleish_shelf_fresh. A refusal leaves the buffer as it was. Refusals, in this order: 9
@@ -259,13 +484,20 @@ uint32_t gunwaleish_image_read(uint8_t master, uint8_t register_number, const ui
 uint32_t gunwaleish_shelf_fresh(const uint8_t *slots, uint64_t slots_len, uint8_t *row, uint64_t row_len);
 
 /* Steps the devices that an event reaches. For COMMAND, WRITE, READ, STOP and PAIR the name is an address; for LINES and PULSE it is a place; TICK,
- * RESET and GENERAL CALL reach all, and for these and for an unknown kind the name is not looked at. Gives the four answer bytes of the device
+ * RESET and GENERAL CALL reach all, and for these and for a number that is no event's the name is not looked at. Gives the four answer bytes of the device
  * that is reached, and of place 0 where all are, the first byte lowest; gunwaleish_answer takes them apart. */
-uint32_t gunwaleish_shelf_step(uint8_t name, uint8_t kind, uint8_t x, uint8_t y, uint8_t z, uint8_t *row, uint64_t row_len);
+uint32_t gunwaleish_shelf_step(uint8_t name, enum gunwaleish_event_number event, uint8_t x, uint8_t y, uint8_t z, uint8_t *row, uint64_t row_len);
+
+/* The same, with an event that a builder made. */
+static inline uint32_t gunwaleish_shelf_event(uint8_t name, struct gunwaleish_event event, uint8_t *row, uint64_t row_len) {
+    return gunwaleish_shelf_step(name, event.number, event.x, event.y, event.z, row, row_len);
+}
 
 /* The device at a place as it stands, without an event: the four answer bytes, with outcome 0 and no byte read. Its registers are read with
  * gunwaleish_image_read out of the image at row + 39 * place + 1. */
 uint32_t gunwaleish_shelf_show(uint8_t place, const uint8_t *row, uint64_t row_len);
+
+/* ---- the orders of two start-up scripts ---- */
 
 /* Tries two start-up scripts, four bytes an event, in all the orders that keep each script's own order, each on a PCA9641 fresh from power-up,
  * and writes for each the third answer byte after its last event, of which gunwaleish_owner, gunwaleish_switch and gunwaleish_ground give the
@@ -276,6 +508,8 @@ uint32_t gunwaleish_shelf_show(uint8_t place, const uint8_t *row, uint64_t row_l
  * listed stay. The two scripts are only read, and may be the same. */
 uint64_t gunwaleish_list_orders(const uint8_t *script0, uint64_t script0_len, const uint8_t *script1, uint64_t script1_len, uint64_t limit,
                                 uint8_t *listed, uint64_t listed_len);
+
+/* ---- the bus share over many traces ---- */
 
 /* The bus share over many traces is 17 totals in a buffer of the caller's, all 0 at first. Any numbers are taken: a sum of made-up ones stops at the
  * top of 64 bits, which no sum over traces reaches. A buffer with another count of numbers is refused with 9 and stays as it was. */
@@ -289,16 +523,17 @@ uint32_t gunwaleish_share_add(const uint8_t *trace, uint64_t trace_len, uint64_t
  * all the traces counted in one, in whatever order. Gives 0, or 6 if that is more than 65,535 traces, and the totals are kept. */
 uint32_t gunwaleish_share_join(const uint64_t *other, uint64_t other_len, uint64_t *totals, uint64_t totals_len);
 
+/* ---- straps ---- */
+
 /* The address of a strapping; pin codes are 0 VSS, 1 VDD, 2 pull-down, 3 pull-up. Packed: number + 256 * address; number 0 or 8. */
 uint32_t gunwaleish_address_of(uint8_t ad3, uint8_t ad2, uint8_t ad1, uint8_t ad0);
 
 /* The strapping of an address. Packed: number + 256 * AD3 + 256^2 * AD2 + 256^3 * AD1 + 256^4 * AD0; number 0 or 11. */
 uint64_t gunwaleish_pins_of(uint8_t address);
 
-/* The length of a trace's listing. The text, with no null byte at its end, is written only if it fits; bytes after it stay. */
-uint64_t gunwaleish_listing(const uint8_t *trace, uint64_t trace_len, uint8_t *text, uint64_t text_len);
+/* ---- the parts of a result ---- */
 
-/* The parts of a packed result. Each is defined for every argument. */
+/* Each of these is defined for every argument. The first gives the number of any result, 0 if the call was not refused. */
 static inline unsigned gunwaleish_number(uint64_t packed) {
     return (unsigned)(packed & 0xff);
 }
@@ -314,8 +549,8 @@ static inline size_t gunwaleish_events(uint64_t packed) {
 }
 
 /* The kind of part, out of what gunwaleish_run_trace gave. */
-static inline uint8_t gunwaleish_kind(uint64_t packed) {
-    return (uint8_t)(packed >> 32 & 0xff);
+static inline enum gunwaleish_kind_of_part gunwaleish_kind(uint64_t packed) {
+    return (enum gunwaleish_kind_of_part)(packed >> 32 & 0xff);
 }
 
 /* Out of what gunwaleish_write_trace or gunwaleish_convert_trace gave. */
