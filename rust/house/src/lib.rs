@@ -1,7 +1,7 @@
 //! Holds `docs/PROMISES.md` to the code and `docs/IMAGE.md` to its definition. [`faults`] and [`image_faults`] tell in sentences where they
 //! differ; a repository in order has none. [`unsealed`] tells of proofs that open the rules of a kind of part. [`statement_faults`] tells of
 //! statements that no record holds, or that `docs/STATEMENTS.md` does not list. [`sentence_faults`] tells of names in `docs/SENTENCES.md` that
-//! are not there.
+//! are not there. [`version_faults`] tells of places with another version than the file VERSION has.
 
 mod calls;
 mod edits;
@@ -13,12 +13,14 @@ mod sentences;
 mod stated;
 mod statements;
 mod tree;
+mod version;
 
 pub use image::{image_faults, LAYOUT, PAGE};
 pub use sealed::unsealed;
 pub use sentences::{sentence_faults, SENTENCES};
 pub use statements::{statement_faults, STATEMENTS};
 pub use tree::Tree;
+pub use version::{version_faults, DEFINITION, HEADER, VERSION};
 
 use calls::{calls_of, Call};
 use edits::{edits_in, fault_of, GATE, TRIED};

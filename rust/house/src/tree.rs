@@ -5,7 +5,11 @@ use std::fs;
 use std::path::Path;
 
 /// The ends of the files that are read. A program's stored output need not be text.
-const READ: [&str; 7] = [".rt", ".antt", ".edit", ".md", ".rs", "/stdout", ".stdout"];
+const READ: [&str; 9] =
+    [".rt", ".antt", ".edit", ".md", ".rs", "/stdout", ".stdout", "/Cargo.toml", ".h"];
+
+/// The files beside the folders that are read.
+const BESIDE: [&str; 1] = ["VERSION"];
 
 /// Texts by their path from the repository's root.
 #[derive(Clone, Default)]
@@ -18,8 +22,11 @@ impl Tree {
     pub fn of_this_repository() -> Tree {
         let root = Path::new(env!("CARGO_MANIFEST_DIR")).join("../..");
         let mut tree = Tree::default();
-        for folder in ["crates", "docs", "rust"] {
+        for folder in ["c", "crates", "docs", "rust"] {
             tree.add(&root, folder);
+        }
+        for name in BESIDE {
+            tree.add_file(&root, name);
         }
         tree
     }
@@ -65,10 +72,13 @@ impl Tree {
             if entry.path().is_dir() {
                 self.add(root, &name);
             } else if READ.iter().any(|end| name.ends_with(end)) {
-                let bytes =
-                    fs::read(entry.path()).unwrap_or_else(|e| panic!("cannot read {name}: {e}"));
-                self.files.insert(name, String::from_utf8_lossy(&bytes).into_owned());
+                self.add_file(root, &name);
             }
         }
+    }
+
+    fn add_file(&mut self, root: &Path, name: &str) {
+        let bytes = fs::read(root.join(name)).unwrap_or_else(|e| panic!("cannot read {name}: {e}"));
+        self.files.insert(name.to_string(), String::from_utf8_lossy(&bytes).into_owned());
     }
 }
