@@ -1,6 +1,6 @@
 //! An answer's four bytes by their names. Document 01, "Answers and the trace", and document 02, #107.
 
-use std::fmt;
+use core::fmt;
 
 use crate::Master;
 

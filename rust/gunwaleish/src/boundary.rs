@@ -9,6 +9,7 @@
 //! slices alone, to keep nothing of them, and to end.
 
 extern "C" {
+    fn gunwaleish_version() -> u32;
     fn gunwaleish_run_trace(
         trace: *const u8,
         trace_len: u64,
@@ -67,12 +68,13 @@ extern "C" {
         kind: u8,
     ) -> u64;
     fn gunwaleish_image_fresh(kind: u8, image: *mut u8, image_len: u64) -> u32;
-    fn gunwaleish_image_step(kind: u8, x: u8, y: u8, z: u8, image: *mut u8, image_len: u64) -> u32;
+    fn gunwaleish_image_step(event: u8, x: u8, y: u8, z: u8, image: *mut u8, image_len: u64)
+        -> u32;
     fn gunwaleish_image_advance(ticks: u32, image: *mut u8, image_len: u64) -> u32;
     fn gunwaleish_image_read(master: u8, register: u8, image: *const u8, image_len: u64) -> u32;
     fn gunwaleish_shelf_step(
         name: u8,
-        kind: u8,
+        event: u8,
         x: u8,
         y: u8,
         z: u8,
@@ -102,6 +104,12 @@ extern "C" {
         listed: *mut u8,
         listed_len: u64,
     ) -> u64;
+}
+
+/// The version: 65536 times its major, 256 times its minor, and its patch.
+pub fn version() -> u32 {
+    // SAFETY: nothing passes but the result, a number.
+    unsafe { gunwaleish_version() }
 }
 
 /// The number, then the address, the count of events and the kind of part, packed as 1, 256, 65536
@@ -212,9 +220,9 @@ pub fn image_fresh(kind: u8, image: &mut [u8]) -> u32 {
 
 /// The four answer bytes, the first lowest. The buffer has the image after the step.
 pub fn image_step(event: [u8; 4], image: &mut [u8]) -> u32 {
-    let [kind, x, y, z] = event;
+    let [event, x, y, z] = event;
     // SAFETY: see the head of this file.
-    unsafe { gunwaleish_image_step(kind, x, y, z, image.as_mut_ptr(), image.len() as u64) }
+    unsafe { gunwaleish_image_step(event, x, y, z, image.as_mut_ptr(), image.len() as u64) }
 }
 
 /// The number, then how many of the ticks changed anything but counts, packed as 1 and 256. The
@@ -232,9 +240,9 @@ pub fn image_read(master: u8, register: u8, image: &[u8]) -> u32 {
 
 /// The four answer bytes, the first lowest. The buffer has the row after the event.
 pub fn shelf_step(name: u8, event: [u8; 4], row: &mut [u8]) -> u32 {
-    let [kind, x, y, z] = event;
+    let [event, x, y, z] = event;
     // SAFETY: see the head of this file.
-    unsafe { gunwaleish_shelf_step(name, kind, x, y, z, row.as_mut_ptr(), row.len() as u64) }
+    unsafe { gunwaleish_shelf_step(name, event, x, y, z, row.as_mut_ptr(), row.len() as u64) }
 }
 
 /// The four answer bytes of the device at a place, the first lowest.

@@ -3,8 +3,12 @@
 //! A capture has one byte a sample: bit 0 is SCL and bit 1 SDA of master 0's bus, bits 2 and 3 are
 //! those of master 1's. `docs/CAPTURES.md` tells what is read out of it, and how to make one.
 
-use crate::run::fours;
-use crate::{boundary, Event, Refusal};
+#[cfg(feature = "alloc")]
+use alloc::{vec, vec::Vec};
+
+use crate::{boundary, Refusal};
+#[cfg(feature = "alloc")]
+use crate::{run::fours, Event};
 
 /// The most samples that a capture may have.
 pub const MOST_SAMPLES: usize = 32_768;
@@ -28,6 +32,7 @@ pub fn import_capture_into(
 }
 
 /// The events that a capture has for the device of this address.
+#[cfg(feature = "alloc")]
 pub fn import_capture(samples: &[u8], address: u8) -> Result<Vec<Event>, Refusal> {
     let mut events = vec![0; 4 * (samples.len() / 9).min(MOST_CAPTURED)];
     let count = import_capture_into(samples, address, &mut events)?;

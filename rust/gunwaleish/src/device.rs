@@ -2,7 +2,7 @@
 //!
 //! The image has 38 bytes, and `docs/IMAGE.md` tells what each of them is and what it may be.
 
-use std::fmt;
+use core::fmt;
 
 use crate::{boundary, Answer, Master, Part, Refusal};
 

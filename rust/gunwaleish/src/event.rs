@@ -1,6 +1,6 @@
 //! An event and its four bytes. Document 01, "Events".
 
-use std::fmt;
+use core::fmt;
 
 /// One of the two masters, which are the shelf's two controllers.
 #[derive(Clone, Copy, Debug, PartialEq, Eq, Hash, PartialOrd, Ord)]

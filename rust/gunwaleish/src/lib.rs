@@ -9,6 +9,7 @@
 //! with the ground of the claim, outputs and lines.
 //!
 //! ```
+//! # #[cfg(feature = "alloc")] {
 //! use gunwaleish::{run, write_trace, Event, Ground, Master, Part, Pins};
 //!
 //! // Strapped to 70h, master 0 asks for the bus and is granted it at its STOP.
@@ -24,6 +25,7 @@
 //! assert_eq!((run.part, run.events.as_slice()), (Part::Pca9641, &events[..]));
 //! assert_eq!((run.answers[1].owner, run.answers[1].ground), (None, Some(Ground::Sole)));
 //! assert_eq!(run.answers[2].owner, Some(Master::Zero));
+//! # }
 //! # Ok::<(), gunwaleish::Refusal>(())
 //! ```
 //!
@@ -45,10 +47,23 @@
 //!
 //! `library_identity` tells which library is linked, for a paper that has to name it.
 //!
-//! The calls whose names end in `_into`, and `run_trace`, work on bytes in lent buffers and
-//! allocate nothing.
+//! # Without the standard library
+//!
+//! The calls whose names end in `_into`, and `run_trace`, work on bytes in lent buffers. They allocate nothing,
+//! and no more do `Device`, `Shelf`, `Totals`, order sheets and straps. With `default-features = false`
+//! there is nothing else: the crate needs neither the standard library nor an allocator. The feature
+//! `alloc` adds the calls that give a `Vec` or a `String`; the feature `std`, which is on by default,
+//! is `alloc` where the standard library brings the allocator. `examples/embedded.rs` is a firmware's use
+//! of it.
+//!
+//! The library has to be one for the processor that the crate is built for. GUNWALEISH_LIB_DIR names its
+//! folder.
 
+#![no_std]
 #![warn(missing_docs)]
+
+#[cfg(feature = "alloc")]
+extern crate alloc;
 
 mod answer;
 pub mod boundary;
@@ -64,26 +79,39 @@ mod run;
 mod share;
 mod sheet;
 mod shelf;
+mod version;
 mod wait;
 mod writing;
 
 pub use answer::{Answer, Bus, Ground, Outcome};
-pub use capture::{import_capture, import_capture_into, MOST_CAPTURED, MOST_SAMPLES};
+#[cfg(feature = "alloc")]
+pub use capture::import_capture;
+pub use capture::{import_capture_into, MOST_CAPTURED, MOST_SAMPLES};
 pub use device::{Device, Register, IMAGE_LENGTH, MOST_TICKS};
 pub use event::{Event, Master};
 pub use identity::{library_identity, Identity};
-pub use orders::{list_orders, list_orders_into, MOST_ORDERS, MOST_SCRIPT};
+#[cfg(feature = "alloc")]
+pub use orders::list_orders;
+pub use orders::{list_orders_into, MOST_ORDERS, MOST_SCRIPT};
 pub use part::Part;
 pub use pins::Pins;
 pub use refusal::Refusal;
-pub use run::{run, run_trace, Report, Run};
+#[cfg(feature = "alloc")]
+pub use run::{run, Run};
+pub use run::{run_trace, Report};
 pub use share::{Totals, MOST_TRACES, TOTAL_COUNT};
 pub use sheet::{
     sheet_box, sheet_events, sheet_events_into, Found, Section, Sheet, SHEET_EVENTS, SHEET_LENGTH,
 };
 pub use shelf::{Shelf, MOST_RECORDS, RECORD_LENGTH};
+pub use version::{library_version, Version, VERSION};
 pub use wait::{sheet_wait, Wait};
-pub use writing::{convert_trace, convert_trace_into, write_trace, write_trace_into};
+#[cfg(feature = "alloc")]
+pub use writing::{convert_trace, write_trace};
+pub use writing::{convert_trace_into, write_trace_into};
+
+#[cfg(feature = "alloc")]
+use alloc::{string::String, vec};
 
 /// The most events a trace may have.
 pub const MOST_EVENTS: usize = 4096;
@@ -120,6 +148,7 @@ pub fn listing_into(trace: &[u8], text: &mut [u8]) -> usize {
 
 /// A trace's listing: address and count, then one answer a line, in capital hex; or `R` and the
 /// number of a refused trace.
+#[cfg(feature = "alloc")]
 pub fn listing(trace: &[u8]) -> String {
     // 8 bytes for the first line and 9 for each event are enough, and a refusal is shorter.
     let mut text = vec![0; 8 + 9 * (trace.len() / 4).min(MOST_EVENTS)];

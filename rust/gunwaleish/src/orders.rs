@@ -5,7 +5,12 @@
 //! for an event of script 0 and a 1 for one of script 1 they come as numbers do: 001, 010, 100.
 //! `docs/ORDERS.md` tells more.
 
-use crate::{boundary, Bus, Refusal};
+#[cfg(feature = "alloc")]
+use alloc::{vec, vec::Vec};
+
+#[cfg(feature = "alloc")]
+use crate::Bus;
+use crate::{boundary, Refusal};
 
 /// The most events of a script.
 pub const MOST_SCRIPT: usize = 6;
@@ -52,6 +57,7 @@ pub fn list_orders_into(
 /// assert_eq!(list_orders(&long, &[], 1), Err(Refusal::LongScript));
 /// # Ok::<(), gunwaleish::Refusal>(())
 /// ```
+#[cfg(feature = "alloc")]
 pub fn list_orders<E>(script0: &[E], script1: &[E], limit: usize) -> Result<Vec<Bus>, Refusal>
 where
     E: Copy + Into<[u8; 4]>,

@@ -1,6 +1,6 @@
 //! The two kinds of part. Document 02, #105.
 
-use std::fmt;
+use core::fmt;
 
 /// The kind of part that is fitted.
 ///

@@ -1,6 +1,6 @@
 //! The four address pins. Document 01, "Straps".
 
-use std::fmt;
+use core::fmt;
 
 use crate::{address_of, pins_of, Refusal};
 

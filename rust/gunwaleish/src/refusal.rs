@@ -1,6 +1,6 @@
 //! Why a call was refused, by the numbers of documents 01 and 02.
 
-use std::fmt;
+use core::fmt;
 
 /// A refusal of a whole call. The library keeps to the documents' numbers, and so does `number`.
 /// Where a number says one thing of a trace and another of an order sheet, an image, a start-up
@@ -199,4 +199,4 @@ impl fmt::Display for Refusal {
     }
 }
 
-impl std::error::Error for Refusal {}
+impl core::error::Error for Refusal {}

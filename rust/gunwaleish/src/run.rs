@@ -1,6 +1,11 @@
 //! A trace, run from power-up.
 
-use crate::{boundary, Answer, Event, Part, Pins, Refusal, HEAD, MOST_EVENTS};
+#[cfg(feature = "alloc")]
+use alloc::{vec, vec::Vec};
+
+use crate::{boundary, Part, Refusal};
+#[cfg(feature = "alloc")]
+use crate::{Answer, Event, Pins, HEAD, MOST_EVENTS};
 
 /// What an accepted trace reports. Its answers are in the buffer.
 #[derive(Clone, Copy, Debug, PartialEq, Eq)]
@@ -29,6 +34,7 @@ pub fn run_trace(trace: &[u8], answers: &mut [u8]) -> Result<Report, Refusal> {
 
 /// An accepted trace with its names: what was read, and what was answered. There are as many
 /// answers as events.
+#[cfg(feature = "alloc")]
 #[derive(Clone, Debug, PartialEq, Eq)]
 #[non_exhaustive]
 pub struct Run {
@@ -45,6 +51,7 @@ pub struct Run {
 }
 
 /// Runs a trace from power-up and gives its events and answers by their names.
+#[cfg(feature = "alloc")]
 pub fn run(trace: &[u8]) -> Result<Run, Refusal> {
     let mut answers = vec![0; 4 * (trace.len() / 4).min(MOST_EVENTS)];
     let report = run_trace(trace, &mut answers)?;

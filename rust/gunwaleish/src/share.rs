@@ -15,6 +15,7 @@ pub const TOTAL_COUNT: usize = 17;
 /// counted in several threads and the totals joined: they are those of all traces counted in one.
 ///
 /// ```
+/// # #[cfg(feature = "alloc")] {
 /// use gunwaleish::{write_trace, Event, Master, Part, Pins, Refusal, Totals};
 ///
 /// // Master 0 asks for the bus; of the two ticks after the grant it owns both.
@@ -40,6 +41,7 @@ pub const TOTAL_COUNT: usize = 17;
 /// other.add(&trace)?;
 /// totals.join(&other)?;
 /// assert_eq!((totals.traces(), totals.owned(Master::Zero)), (3, 4));
+/// # }
 /// # Ok::<(), gunwaleish::Refusal>(())
 /// ```
 #[derive(Clone, Copy, Debug, Default, PartialEq, Eq, Hash)]

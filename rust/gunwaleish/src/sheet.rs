@@ -5,7 +5,7 @@
 //! a box for each controller. A box is two bytes, its tick (0 or 1) and its value. `docs/SHEETS.md`
 //! tells more.
 
-use std::fmt;
+use core::fmt;
 
 use crate::run::fours;
 use crate::{boundary, Event, Master, Refusal};
@@ -145,6 +145,7 @@ pub fn sheet_events_into(board: &[u8], house: &[u8], events: &mut [u8]) -> Resul
 /// acknowledged and not stored.
 ///
 /// ```
+/// # #[cfg(feature = "alloc")] {
 /// use gunwaleish::{sheet_events, write_trace, Event, Master, Part, Pins, Refusal};
 ///
 /// let board = [2, 1, 50, 1, 20, 2, 0, 0, 0, 0, 2, 0, 0, 0, 0];
@@ -157,6 +158,7 @@ pub fn sheet_events_into(board: &[u8], house: &[u8], events: &mut [u8]) -> Resul
 /// // The board sheet with the reserves left empty: no event.
 /// let empty = [2, 0, 0, 0, 0, 2, 0, 0, 0, 0, 2, 0, 0, 0, 0];
 /// assert_eq!(sheet_events(&empty, &house), Err(Refusal::EmptyBox));
+/// # }
 /// # Ok::<(), gunwaleish::Refusal>(())
 /// ```
 pub fn sheet_events(board: &[u8], house: &[u8]) -> Result<[Event; SHEET_EVENTS], Refusal> {

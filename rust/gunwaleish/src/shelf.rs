@@ -1,5 +1,7 @@
 //! A shelf with several arbiters: a row of standing devices, each with its address. Document 02, #110.
 
+use core::fmt;
+
 use crate::{boundary, Answer, Device, Part, Refusal, IMAGE_LENGTH};
 
 /// The bytes of a record: its address, and the image of its device.
@@ -7,6 +9,9 @@ pub const RECORD_LENGTH: usize = 1 + IMAGE_LENGTH;
 
 /// The most records of a shelf.
 pub const MOST_RECORDS: usize = 16;
+
+/// The bytes of the longest row.
+const MOST_ROW: usize = MOST_RECORDS * RECORD_LENGTH;
 
 /// Up to 16 devices on the same two upstream buses, each with its address. A shelf is the bytes of its
 /// row and nothing else, so it can be kept and taken up again.
@@ -38,20 +43,28 @@ pub const MOST_RECORDS: usize = 16;
 /// assert_eq!(shelf.step(0x72, Event::Stop { master }), Err(Refusal::NotInRow));
 /// # Ok::<(), gunwaleish::Refusal>(())
 /// ```
-#[derive(Clone, Debug, PartialEq, Eq, Hash)]
+#[derive(Clone, PartialEq, Eq, Hash)]
 pub struct Shelf {
-    row: Vec<u8>,
+    /// The row, and 0 after it: nothing is allocated.
+    room: [u8; MOST_ROW],
+    length: usize,
 }
 
 impl Shelf {
     /// A shelf after power-up, with an address and a kind of part for each place. Refusals, in this
     /// order: 5 for none, 6 for more than 16, 17 for two equal addresses. Any byte is an address.
     pub fn new(slots: &[(u8, Part)]) -> Result<Shelf, Refusal> {
-        let bytes: Vec<u8> =
-            slots.iter().flat_map(|&(address, part)| [address, part.number()]).collect();
-        let mut row = vec![0; RECORD_LENGTH * slots.len()];
-        let number = boundary::shelf_fresh(&bytes, &mut row) as u8;
-        Refusal::of_row(number).map_or(Ok(Shelf { row }), Err)
+        // One more than the most, so that the library tells of too many.
+        const ROOM: usize = MOST_RECORDS + 1;
+        let mut bytes = [0; 2 * ROOM];
+        let mut row = [0; RECORD_LENGTH * ROOM];
+        for (slot, &(address, part)) in bytes.chunks_exact_mut(2).zip(slots) {
+            slot.copy_from_slice(&[address, part.number()]);
+        }
+        let count = slots.len().min(ROOM);
+        let row = &mut row[..RECORD_LENGTH * count];
+        let number = boundary::shelf_fresh(&bytes[..2 * count], row) as u8;
+        Refusal::of_row(number).map_or_else(|| Shelf::of(row), Err)
     }
 
     /// The shelf of a row that was kept. Refusals, in this order: 9 if there are not 39 bytes for each
@@ -59,7 +72,14 @@ impl Shelf {
     pub fn from_row(bytes: &[u8]) -> Result<Shelf, Refusal> {
         // Every row that is not refused has a place 0, so the library judges the row alone.
         let number = boundary::shelf_show(0, bytes) as u8;
-        Refusal::of_row(number).map_or_else(|| Ok(Shelf { row: bytes.to_vec() }), Err)
+        Refusal::of_row(number).map_or_else(|| Shelf::of(bytes), Err)
+    }
+
+    /// The shelf of a row that the library takes, which has 16 records at most.
+    fn of(row: &[u8]) -> Result<Shelf, Refusal> {
+        let mut room = [0; MOST_ROW];
+        room.get_mut(..row.len()).ok_or(Refusal::LongRow)?.copy_from_slice(row);
+        Ok(Shelf { room, length: row.len() })
     }
 
     /// Takes one event, an `Event` or four bytes, with the name that it goes to, and gives its answer:
@@ -67,32 +87,38 @@ impl Shelf {
     /// the name. An event that the device refuses, with 2, 3 or 4, changes nothing, and its answer shows
     /// the device.
     pub fn step(&mut self, name: u8, event: impl Into<[u8; 4]>) -> Result<Answer, Refusal> {
-        answered(boundary::shelf_step(name, event.into(), &mut self.row))
+        answered(boundary::shelf_step(name, event.into(), &mut self.room[..self.length]))
     }
 
     /// The device at a place as it stands, without an event: outcome 0 and no byte read.
     pub fn show(&self, place: u8) -> Result<Answer, Refusal> {
-        answered(boundary::shelf_show(place, &self.row))
+        answered(boundary::shelf_show(place, self.row()))
     }
 
     /// How many places it has.
     pub fn places(&self) -> usize {
-        self.row.len() / RECORD_LENGTH
+        self.length / RECORD_LENGTH
     }
 
     /// The address at a place.
     pub fn address(&self, place: usize) -> Option<u8> {
-        Some(self.row.chunks_exact(RECORD_LENGTH).nth(place)?[0])
+        Some(self.row().chunks_exact(RECORD_LENGTH).nth(place)?[0])
     }
 
     /// The device at a place, by itself.
     pub fn device(&self, place: usize) -> Option<Device> {
-        Device::from_image(&self.row.chunks_exact(RECORD_LENGTH).nth(place)?[1..]).ok()
+        Device::from_image(&self.row().chunks_exact(RECORD_LENGTH).nth(place)?[1..]).ok()
     }
 
     /// Its row: 39 bytes for each place, the address and the image.
     pub fn row(&self) -> &[u8] {
-        &self.row
+        &self.room[..self.length]
+    }
+}
+
+impl fmt::Debug for Shelf {
+    fn fmt(&self, f: &mut fmt::Formatter) -> fmt::Result {
+        f.debug_struct("Shelf").field("row", &self.row()).finish()
     }
 }
 

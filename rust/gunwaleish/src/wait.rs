@@ -1,6 +1,6 @@
 //! How long a controller can wait by a pair of order sheets.
 
-use std::fmt;
+use core::fmt;
 
 use crate::{boundary, Master, Part, Refusal};
 

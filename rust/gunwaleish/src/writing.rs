@@ -1,6 +1,11 @@
 //! Traces written: from pins, part and events, or from an old trace.
 
-use crate::{boundary, Part, Pins, Refusal, HEAD, TAIL};
+#[cfg(feature = "alloc")]
+use alloc::{vec, vec::Vec};
+
+use crate::{boundary, Part, Pins, Refusal};
+#[cfg(feature = "alloc")]
+use crate::{HEAD, TAIL};
 
 /// Writes a trace into a lent buffer and gives the trace's length.
 ///
@@ -18,6 +23,7 @@ pub fn write_trace_into(
 }
 
 /// The trace of these pins, this part and these events. The events are `Event`s, or four bytes each.
+#[cfg(feature = "alloc")]
 pub fn write_trace<E>(pins: impl Into<Pins>, part: Part, events: &[E]) -> Result<Vec<u8>, Refusal>
 where
     E: Copy + Into<[u8; 4]>,
@@ -49,6 +55,7 @@ pub fn convert_trace_into(old: &[u8], trace: &mut [u8]) -> Result<usize, Refusal
 /// assert_eq!(gunwaleish::run(&trace)?.part, gunwaleish::Part::Pca9641);
 /// # Ok::<(), gunwaleish::Refusal>(())
 /// ```
+#[cfg(feature = "alloc")]
 pub fn convert_trace(old: &[u8]) -> Result<Vec<u8>, Refusal> {
     let mut trace = vec![0; old.len() + TAIL];
     let length = convert_trace_into(old, &mut trace)?;

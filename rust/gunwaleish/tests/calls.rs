@@ -1,5 +1,7 @@
 //! Each call once with what document 01 says of it. The many cases are in `rust/compare`.
 
+#![cfg(feature = "alloc")]
+
 use gunwaleish::{
     address_of, convert_trace, convert_trace_into, import_capture, import_capture_into, listing,
     listing_into, pins_of, run, run_trace, write_trace, write_trace_into, Answer, Event, Ground,

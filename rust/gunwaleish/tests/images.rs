@@ -1,5 +1,7 @@
 //! The standing device and its image (document 02, #108). The many cases are in `rust/compare`.
 
+#![cfg(feature = "alloc")]
+
 use gunwaleish::{
     boundary, run, write_trace, Device, Event, Ground, Master, Outcome, Part, Pins, Refusal,
     Register, IMAGE_LENGTH,

@@ -1,6 +1,8 @@
 //! All orders of two start-up scripts (document 02, #109): what is listed, in which sequence, up to
 //! which limit, and each refusal. The many cases are in `rust/compare`.
 
+#![cfg(feature = "alloc")]
+
 use gunwaleish::{
     boundary, list_orders, list_orders_into, run, write_trace, Bus, Event, Ground, Master, Part,
     Pins, Refusal, MOST_ORDERS, MOST_SCRIPT,

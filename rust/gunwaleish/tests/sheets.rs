@@ -1,6 +1,8 @@
 //! The order sheet (document 02, #106): boxes looked up, the twelve events, and each refusal. The
 //! many cases are in `rust/compare`.
 
+#![cfg(feature = "alloc")]
+
 use gunwaleish::{
     boundary, run, sheet_box, sheet_events, sheet_events_into, write_trace, Event, Found, Master,
     Part, Refusal, Section, Sheet, SHEET_EVENTS, SHEET_LENGTH,

@@ -1,5 +1,7 @@
 //! The bus share over many traces (document 02, #112).
 
+#![cfg(feature = "alloc")]
+
 use std::thread;
 
 use gunwaleish::{

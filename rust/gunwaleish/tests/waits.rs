@@ -1,6 +1,8 @@
 //! How long a controller can wait by two order sheets: each grade at its edges, for both controllers
 //! and both parts, and each refusal. The many cases are in `rust/compare`.
 
+#![cfg(feature = "alloc")]
+
 use gunwaleish::{
     boundary, run, sheet_events, sheet_wait, write_trace, Event, Master, Part, Refusal, Wait,
     SHEET_LENGTH,
