@@ -94,7 +94,8 @@ GUNWALEISH_BYTE_ENUM(gunwaleish_event_number) {
 /* In a GENERAL CALL: the soft reset. */
 #define GUNWALEISH_SOFT_RESET 0x06
 
-/* An event. Its four bytes stand in it as they stand in a trace, one after the other, so that a row of events is event bytes too. */
+/* An event. Its four bytes stand in it as they stand in a trace, one after the other. So an array of events is event bytes too, for the calls that take
+ * these: gunwaleish_write_trace(.., (const uint8_t *)events, sizeof events, ..). */
 struct gunwaleish_event {
     enum gunwaleish_event_number number;
     uint8_t x;

@@ -64,9 +64,28 @@ static void builders(void) {
     built("any four bytes", gunwaleish_event_of(200, 201, 202, 203), 200, 201, 202, 203);
 }
 
+/* An array of events is event bytes: written into a trace, and run. */
+static void arrays(void) {
+    const struct gunwaleish_event events[] = {
+        gunwaleish_event_command(1, GUNWALEISH_REGISTER_CONTR),
+        gunwaleish_event_write(1, GUNWALEISH_CONTR_LOCK_REQ),
+        gunwaleish_event_stop(1),
+    };
+    uint8_t trace[GUNWALEISH_TRACE_HEAD + sizeof events + GUNWALEISH_TRACE_TAIL];
+    uint8_t answers[sizeof events];
+    uint64_t made = gunwaleish_write_trace(0, 0, 0, 0, GUNWALEISH_TPT29641, (const uint8_t *)events, sizeof events, trace, sizeof trace);
+    uint64_t report = gunwaleish_run_trace(trace, gunwaleish_length(made), answers, sizeof answers);
+    expect("an array written", made, 256 * sizeof trace);
+    expect("its address", gunwaleish_address(report), 0x70);
+    expect("its events", gunwaleish_events(report), 3);
+    expect("its kind", gunwaleish_kind(report), GUNWALEISH_TPT29641);
+    expect("its owner", gunwaleish_owner(answers[sizeof answers - 4 + GUNWALEISH_ANSWER_BUS]), GUNWALEISH_OWNER_1);
+}
+
 static void outcomes(void) {
     fresh();
     expect("a TICK", gunwaleish_number(put(gunwaleish_event_tick())), GUNWALEISH_DONE);
+    expect("the first answer byte", gunwaleish_answer(put(gunwaleish_event_command(1, 0x08)), GUNWALEISH_ANSWER_OUTCOME), GUNWALEISH_NOT_ACKNOWLEDGED);
     expect("COMMAND 08h", gunwaleish_number(put(gunwaleish_event_command(0, 0x08))), GUNWALEISH_NOT_ACKNOWLEDGED);
     expect("event 10", gunwaleish_number(put(gunwaleish_event_of(10, 0, 0, 0))), GUNWALEISH_UNKNOWN_EVENT);
     expect("master 2", gunwaleish_number(put(gunwaleish_event_read(2))), GUNWALEISH_FIELD_OUT_OF_RANGE);
@@ -106,6 +125,8 @@ static void grants(void) {
     uint32_t stop = write_register(0, GUNWALEISH_REGISTER_CONTR, GUNWALEISH_CONTR_LOCK_REQ | GUNWALEISH_CONTR_BUS_CONNECT);
     expect("owner", gunwaleish_owner((uint8_t)bus(stop)), GUNWALEISH_OWNER_0);
     expect("switch", gunwaleish_switch((uint8_t)bus(stop)), GUNWALEISH_OWNER_0);
+    expect("the switch's bits", bus(stop) & GUNWALEISH_BUS_SWITCH, GUNWALEISH_OWNER_0 << GUNWALEISH_BUS_SWITCH_SHIFT);
+    expect("the ground's bits", bus(stop) & GUNWALEISH_BUS_GROUND, GUNWALEISH_SOLE_REQUESTER << GUNWALEISH_BUS_GROUND_SHIFT);
     expect("ground", gunwaleish_ground((uint8_t)bus(stop)), GUNWALEISH_SOLE_REQUESTER);
     expect("INT0 and the lines", pins(stop), GUNWALEISH_PINS_INT0_ASSERTED | GUNWALEISH_PINS_SCL_HIGH | GUNWALEISH_PINS_SDA_HIGH);
     expect("granted told", reg(0, GUNWALEISH_REGISTER_INT_STATUS), GUNWALEISH_INT_GRANTED);
@@ -118,7 +139,7 @@ static void grants(void) {
     expect("lost told", reg(0, GUNWALEISH_REGISTER_INT_STATUS), GUNWALEISH_INT_LOST);
     write_register(1, GUNWALEISH_REGISTER_INT_MSK, 0x7f & ~GUNWALEISH_INT_TEST);
     uint32_t test = write_register(1, GUNWALEISH_REGISTER_STATUS, GUNWALEISH_STATUS_TEST_INT);
-    expect("INT1", pins(test) & GUNWALEISH_PINS_INT1_ASSERTED, GUNWALEISH_PINS_INT1_ASSERTED);
+    expect("both outputs", pins(test), GUNWALEISH_PINS_INT0_ASSERTED | GUNWALEISH_PINS_INT1_ASSERTED | GUNWALEISH_PINS_SCL_HIGH | GUNWALEISH_PINS_SDA_HIGH);
     expect("test told", reg(1, GUNWALEISH_REGISTER_INT_STATUS), GUNWALEISH_INT_TEST);
 }
 
@@ -167,6 +188,7 @@ static void settings(void) {
 int main(void) {
     version();
     builders();
+    arrays();
     outcomes();
     registers();
     grants();
