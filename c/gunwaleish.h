@@ -74,7 +74,10 @@ GUNWALEISH_BYTE_ENUM(gunwaleish_kind_of_part) {
  *   8 RESET         0     0    0       the reset pin
  *   9 GENERAL CALL  m     b    0       b to all devices: 06h is the soft reset, every other byte is not acknowledged and does nothing
  *
- * So a master asks for the bus with COMMAND 01h, WRITE of GUNWALEISH_CONTR_LOCK_REQ, STOP. The next section has the registers. */
+ * So a master asks for the bus with COMMAND 01h, WRITE of GUNWALEISH_CONTR_LOCK_REQ, STOP. If nobody claims or owns it, the one who asks claims it; if
+ * both ask at once, priority decides, and then who was granted last. Who claims is granted the bus as soon as its port is at rest and no soft reset holds
+ * SCL low. The grant ends when LOCK_REQ is written 0, at a reset, or by a loss: with a reserve of 1 to 255 ms in RT once that many ticks have passed and
+ * the bus is idle (no transfer on it, both lines high), with RT 00h only if the idle timer is on, at 101 or 151 idle ticks. The partner's request is next. */
 GUNWALEISH_BYTE_ENUM(gunwaleish_event_number) {
     GUNWALEISH_EVENT_COMMAND = 0,
     GUNWALEISH_EVENT_WRITE = 1,
@@ -380,6 +383,14 @@ enum gunwaleish_totals {
     GUNWALEISH_TOTAL_REFUSED_10 = 16
 };
 
+/* How an address pin is strapped: tied to one of the supplies, or pulled to one by a resistor. AD3 is always a tie. */
+enum gunwaleish_straps {
+    GUNWALEISH_STRAP_VSS = 0,
+    GUNWALEISH_STRAP_VDD = 1,
+    GUNWALEISH_STRAP_PULL_DOWN = 2,
+    GUNWALEISH_STRAP_PULL_UP = 3
+};
+
 /* What gunwaleish_pin gives for a pin that is not there. */
 #define GUNWALEISH_NO_PIN 0xff
 
@@ -526,7 +537,7 @@ uint32_t gunwaleish_share_join(const uint64_t *other, uint64_t other_len, uint64
 
 /* ---- straps ---- */
 
-/* The address of a strapping; pin codes are 0 VSS, 1 VDD, 2 pull-down, 3 pull-up. Packed: number + 256 * address; number 0 or 8. */
+/* The address of a strapping, a number of gunwaleish_straps a pin. Packed: number + 256 * address; number 0 or 8. */
 uint32_t gunwaleish_address_of(uint8_t ad3, uint8_t ad2, uint8_t ad1, uint8_t ad0);
 
 /* The strapping of an address. Packed: number + 256 * AD3 + 256^2 * AD2 + 256^3 * AD1 + 256^4 * AD0; number 0 or 11. */

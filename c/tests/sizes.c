@@ -1,4 +1,4 @@
-/* Holds the header's sizes, and its words for order sheets and totals, to the library: the most of each is taken, and one more is not. */
+/* Holds the header's sizes, and its words for order sheets, totals and straps, to the library: the most of each is taken, and one more is not. */
 #include "expect.h"
 
 #define ONE_MORE (4 * (GUNWALEISH_MOST_EVENTS + 1))
@@ -146,8 +146,18 @@ static void other_shares(void) {
     expect("longest 1", totals[GUNWALEISH_TOTAL_LONGEST_1], 11);
 }
 
-int main(void) {
+static void straps(void) {
+    const uint8_t low = GUNWALEISH_STRAP_VSS, high = GUNWALEISH_STRAP_VDD, down = GUNWALEISH_STRAP_PULL_DOWN, up = GUNWALEISH_STRAP_PULL_UP;
     uint64_t pins = gunwaleish_pins_of(0x0f);
+    expect("all to VSS", gunwaleish_address(gunwaleish_address_of(low, low, low, low)), 0x70);
+    expect("AD1 pulled down", gunwaleish_address(gunwaleish_address_of(low, low, down, low)), 0x10);
+    expect("the pins of 0Fh", gunwaleish_address(gunwaleish_address_of(high, high, high, up)), 0x0f);
+    expect("AD3 of 0Fh", gunwaleish_pin(pins, 3), high);
+    expect("AD0 of 0Fh", gunwaleish_pin(pins, 0), up);
+    expect("no pin AD4", gunwaleish_pin(pins, 4), 0xff);
+}
+
+int main(void) {
     traces();
     captures();
     images();
@@ -155,8 +165,6 @@ int main(void) {
     sheets();
     shares();
     other_shares();
-    expect("AD3 of 0Fh", gunwaleish_pin(pins, 3), 1);
-    expect("AD0 of 0Fh", gunwaleish_pin(pins, 0), 3);
-    expect("no pin AD4", gunwaleish_pin(pins, 4), 0xff);
+    straps();
     return ended("sizes");
 }
