@@ -4,7 +4,9 @@
 extern uint8_t board_stack_start[], board_data[], board_data_end[], board_zero[], board_zero_end[];
 extern const uint8_t board_data_in_flash[];
 
-static void start(void) {
+void board_entry(void);
+
+void board_entry(void) {
     const uint8_t *from = board_data_in_flash;
     for (uint8_t *to = board_data; to < board_data_end; to++) {
         *to = *from++;
@@ -26,7 +28,7 @@ struct vectors {
     uint8_t *stack;
     handler *handlers[6];
 };
-__attribute__((section(".vectors"), used)) static const struct vectors vectors = {board_stack_start, {start, fault, fault, fault, fault, fault}};
+__attribute__((section(".vectors"), used)) static const struct vectors vectors = {board_stack_start, {board_entry, fault, fault, fault, fault, fault}};
 
 uintptr_t board_call(uintptr_t number, const void *block) {
     register uintptr_t r0 __asm__("r0") = number;
@@ -46,6 +48,8 @@ void board_count_from_here(void) {
     SYSTICK->reload = TOP;
     SYSTICK->value = 0;
     SYSTICK->control = 5; /* on, by the processor's clock, without an interrupt */
+    while (SYSTICK->value == 0) {
+    } /* it begins at the top with its first count */
 }
 
 uint32_t board_counted(void) {

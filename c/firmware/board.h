@@ -13,8 +13,17 @@ uintptr_t board_call(uintptr_t number, const void *block);
 void board_count_from_here(void);
 uint32_t board_counted(void);
 
-/* The lowest byte of the room for the stack; the linker scripts have it. */
+/* The lowest byte of the room for the stack; the linker scripts have it. And where the stack stands. */
 extern uint8_t board_stack_end[];
+static inline uint8_t *board_stack(void) {
+    uint8_t *at;
+#ifdef __arm__
+    __asm__ volatile("mov %0, sp" : "=r"(at)::"memory");
+#else
+    __asm__ volatile("mv %0, sp" : "=r"(at)::"memory");
+#endif
+    return at;
+}
 
 /* Over the calls of every board. */
 int board_open(const char *name, int to_write);
