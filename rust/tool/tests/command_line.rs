@@ -6,7 +6,7 @@ use std::fs;
 use std::path::Path;
 use std::process::Command;
 
-use common::{code, root, run, said, Folder, TOOL};
+use common::{code, root, run, said, text, Folder, TOOL};
 
 use gunwaleish_tool::commands::COMMANDS;
 
@@ -184,6 +184,18 @@ fn examples_of_the_help_work() {
         let ran = Command::new("sh").args(["-c", &line]).current_dir(root()).output().unwrap();
         assert_eq!(code(&ran), 0, "{line}: {}", said(&ran));
     }
+}
+
+/// The table of commands in `rust/README.md` has a row for each, in the order of the help.
+#[test]
+fn the_page_has_every_command() {
+    let page = text("rust/README.md");
+    let row = |line: &str| {
+        Some(line.strip_prefix("| `gunwaleish ")?.split([' ', '`']).next()?.to_string())
+    };
+    let rows: Vec<String> = page.lines().filter_map(row).collect();
+    let names: Vec<&str> = COMMANDS.iter().map(|command| command.name).collect();
+    assert_eq!(rows, names);
 }
 
 #[test]
