@@ -18,13 +18,6 @@ use Rattle.capture.specs.Import.{cutOnEither, importNumber, importedBy, bufferB
 use Rattle.capture.specs.Samples.{bothAfter}
 use Rattle.capture.proofs.Bytes.{bytes-length}
 use Rattle.capture.proofs.Joined.{cut-joined}
-use Rattle.importing.specs.Stored.{stored}
-use Rattle.importing.proofs.Stored.{stored-front}
-
--- a walk that only counts leaves the buffer
-pub untouched : (l left p : List ℕ) (i : ℕ) → left ≡ stored false l i p → left ≡ l
-unfolding stored
-untouched l left p i h = h
 
 pub cut-found : (address : ℕ) (samples : List ℕ) (s : Both) (b : Bool) → s ≡ bothAfter address samples → b ≡ (isCut (s .bus0) || isCut (s .bus1))
     → cutOnEither address samples ≡ b
@@ -39,42 +32,41 @@ module _ (address : ℕ) (samples buffer : List ℕ) where
   Promised r left = (r ≡ imported address samples buffer) × (left ≡ importedBuffer address samples buffer)
 
   -- refused with k: no events, and the buffer as it was
-  refusal : (k : ℕ) (r : Imported) → eqb k 0 ≡ false → number ≡ k → (left : List ℕ) → left ≡ buffer → (r .number ≡ k) × (r .count ≡ 0) → Promised r left
+  refusal : (k : ℕ) (r : Imported) → eqb k 0 ≡ false → number ≡ k → (r .number ≡ k) × (r .count ≡ 0) → Promised r buffer
   unfolding imported importedBuffer
-  refusal k r t e left same h =
+  refusal k r t e h =
       let c : r .count ≡ importedBy k address samples .count = h .1 ∙ sym (if-false (length (captured address samples)) 0 t) in
       let answer : r ≡ importedBy k address samples = λ j. record { number = h .0 j; count = c j } in
       let kept : buffer ≡ bufferBy k address samples buffer = sym (if-false (eventBytes (captured address samples) ++ drop (4 * length (captured address samples)) buffer) buffer t) in
-      (answer ∙ ap (λ (n : ℕ). importedBy n address samples) (sym e), same ∙ kept ∙ ap (λ (n : ℕ). bufferBy n address samples buffer) (sym e))
+      (answer ∙ ap (λ (n : ℕ). importedBy n address samples) (sym e), kept ∙ ap (λ (n : ℕ). bufferBy n address samples buffer) (sym e))
 
   pub refused-13 : (r : Imported) → 32768 < length samples → (r .number ≡ 13) × (r .count ≡ 0) → Promised r buffer
   unfolding importNumber
-  refused-13 r long h = refusal 13 r refl (simp (lt-ltb _ _ long)) buffer refl h
+  refused-13 r long h = refusal 13 r refl (simp (lt-ltb _ _ long)) h
 
   module _ (short : length samples ≤ 32768) where
     pub refused-11 : (r : Imported) → inRange address ≡ false → (r .number ≡ 11) × (r .count ≡ 0) → Promised r buffer
     unfolding importNumber
-    refused-11 r a h = refusal 11 r refl (simp (le-ltb _ _ short, a)) buffer refl h
+    refused-11 r a h = refusal 11 r refl (simp (le-ltb _ _ short, a)) h
 
     module _ (a : inRange address ≡ true) where
-      pub refused-12 : (r : Imported) (left : List ℕ) → cutOnEither address samples ≡ true → left ≡ buffer → (r .number ≡ 12) × (r .count ≡ 0) → Promised r left
+      pub refused-12 : (r : Imported) → cutOnEither address samples ≡ true → (r .number ≡ 12) × (r .count ≡ 0) → Promised r buffer
       unfolding importNumber
-      refused-12 r left x same h = refusal 12 r refl (simp (le-ltb _ _ short, a, x)) left same h
+      refused-12 r x h = refusal 12 r refl (simp (le-ltb _ _ short, a, x)) h
 
-      pub refused-9 : (r : Imported) (left : List ℕ) → cutOnEither address samples ≡ false → length buffer < 4 * length (captured address samples)
-          → left ≡ buffer → (r .number ≡ 9) × (r .count ≡ 0) → Promised r left
+      pub refused-9 : (r : Imported) → cutOnEither address samples ≡ false → length buffer < 4 * length (captured address samples)
+          → (r .number ≡ 9) × (r .count ≡ 0) → Promised r buffer
       unfolding importNumber
-      refused-9 r left x room same h = refusal 9 r refl (simp (le-ltb _ _ short, a, x, lt-ltb _ _ room)) left same h
+      refused-9 r x room h = refusal 9 r refl (simp (le-ltb _ _ short, a, x, lt-ltb _ _ room)) h
 
       -- accepted: n bytes are those of n / 4 events, and they stand at the front
       pub accepted : (n : ℕ) (left : List ℕ) → cutOnEither address samples ≡ false → 4 * length (captured address samples) ≤ length buffer
-          → n ≡ 4 * length (captured address samples) → left ≡ stored true buffer 0 (eventBytes (captured address samples))
+          → n ≡ 4 * length (captured address samples) → left ≡ eventBytes (captured address samples) ++ drop n buffer
           → Promised (record { number = 0; count = n / 4 }) left
       unfolding importNumber imported importedBuffer
       accepted n left x room e l =
           let zero : number ≡ 0 = simp (le-ltb _ _ short, a, x, le-ltb _ _ room) in
-          let c : n / 4 ≡ length (captured address samples) = omega (arith, e) in
-          let front = stored-front buffer (eventBytes (captured address samples)) (4 * length (captured address samples)) (sym (bytes-length (captured address samples))) room in (
+          let c : n / 4 ≡ length (captured address samples) = omega (arith, e) in (
             (λ j. record { number = 0; count = c j }) ∙ ap (λ (k : ℕ). importedBy k address samples) (sym zero),
-            l ∙ front ∙ ap (λ (k : ℕ). bufferBy k address samples buffer) (sym zero),
+            l ∙ ap (λ (k : ℕ). eventBytes (captured address samples) ++ drop k buffer) e ∙ ap (λ (k : ℕ). bufferBy k address samples buffer) (sym zero),
           )

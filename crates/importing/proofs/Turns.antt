@@ -2,10 +2,10 @@
 -- Assumes nothing.
 use Prim.Native.Nat.{ℕ, _+_, _-_, _*_, _≤_, _<_}
 use mathlib.Core.Path.{_≡_, sym, ap, _∙_}
-use mathlib.Core.Bool.{Bool}
 use mathlib.Core.List.{List, _++_}
 use native.Mathlib.Omega.{arith}
 use lib.ListN.{length, getD, take, length-append}
+use lib.Seq.{sets}
 use Rattle.arbiter.specs.declared.Event.{Event}
 use Rattle.capture.specs.declared.Both.{Both}
 use Rattle.capture.specs.declared.Heard.{Heard}
@@ -16,8 +16,8 @@ use Rattle.capture.proofs.Joined.{events-joined}
 use Rattle.capture.proofs.Prefix.{both-more, events-more, events-few, first-events}
 use Rattle.importing.specs.declared.Few.{Few}
 use Rattle.importing.specs.declared.Few.the-variants.{NoEvent, OneEvent, TwoEvents}
-use Rattle.importing.specs.Stored.{listed, stored}
-use Rattle.importing.proofs.Stored.{stored-more, stored-none}
+use Rattle.importing.specs.Listed.{listed}
+use Rattle.importing.proofs.Stored.{sets-more}
 
 -- ---- room
 
@@ -31,9 +31,9 @@ listed-few (TwoEvents e f) = omega arith
 pub no-bytes : (address : ℕ) (samples : List ℕ) → 0 ≡ 4 * length (eventsAfter address (take 1 samples))
 no-bytes address samples = omega (arith, ap length (first-events address samples))
 
-pub none-stored : (address : ℕ) (samples : List ℕ) (writes : Bool) (l : List ℕ) → l ≡ stored writes l 0 (eventBytes (eventsAfter address (take 1 samples)))
+pub none-stored : (address : ℕ) (samples l : List ℕ) → l ≡ sets l 0 (eventBytes (eventsAfter address (take 1 samples)))
 unfolding eventBytes
-none-stored address samples writes l = stored-none writes l 0 ∙ ap (λ (es : List Event). stored writes l 0 (eventBytes es)) (sym (first-events address samples))
+none-stored address samples l = ap (λ (es : List Event). sets l 0 (eventBytes es)) (sym (first-events address samples))
 
 -- ---- sample i, heard as r where both buses are as s, with the events es
 
@@ -59,10 +59,10 @@ module _ (address : ℕ) (samples : List ℕ) (i : ℕ) (p : 1 ≤ i) (h : i < l
       pub turn-room : n + 4 * length es ≤ 4 * length (captured address samples)
       turn-room = omega (arith, turn-bytes, events-few address samples (i + 1), ap length (events-joined address samples))
 
-      pub turn-stored : (writes : Bool) (l out : List ℕ) → out ≡ stored writes l 0 (eventBytes (eventsAfter address (take i samples)))
-          → stored writes out n (eventBytes es) ≡ stored writes l 0 (eventBytes (eventsAfter address (take (i + 1) samples)))
-      turn-stored writes l out o =
+      pub turn-stored : (l out : List ℕ) → out ≡ sets l 0 (eventBytes (eventsAfter address (take i samples)))
+          → sets out n (eventBytes es) ≡ sets l 0 (eventBytes (eventsAfter address (take (i + 1) samples)))
+      turn-stored l out o =
           let old : List Event = eventsAfter address (take i samples) in
-          ap (λ (x : List ℕ). stored writes x n (eventBytes es)) o
-          ∙ stored-more writes l 0 n (eventBytes old) (eventBytes es) (omega (arith, so-far, bytes-length old))
-          ∙ ap (stored writes l 0) (sym (bytes-append old es) ∙ ap eventBytes (sym turn-events))
+          ap (λ (x : List ℕ). sets x n (eventBytes es)) o
+          ∙ sets-more l 0 n (eventBytes old) (eventBytes es) (omega (arith, so-far, bytes-length old))
+          ∙ ap (sets l 0) (sym (bytes-append old es) ∙ ap eventBytes (sym turn-events))

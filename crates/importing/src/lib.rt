@@ -1,23 +1,24 @@
-// A capture turned into events. Nothing may be written where a capture is refused, and its last sample can still refuse it; so the samples
-// are gone through twice: once to count the events and to meet every refusal, and once to write.
+// A capture turned into events. Nothing may be written where a capture is refused, and its last sample can still refuse it; so the events are
+// kept in a list of the call's own until the end, and copied into the lent buffer then. The list has room for the most that a capture gives.
 ghost use Prim.Native.Nat.{_+_, _*_, _≤_, _<_};
 ghost use mathlib.Core.Path.{_≡_};
 ghost use mathlib.Core.Bool.{_||_};
 ghost use mathlib.Core.List.{[], _∷_};
 ghost use lib.ListN.{length};
 ghost use lib.Seq.{sets};
-ghost use Rattle.arbiter.specs.Words.{worth};
 ghost use Rattle.arbiter.specs.Marks.{raw};
 ghost use Rattle.arbiter.specs.Straps.{inRange};
+ghost use Rattle.capture.specs.Answers.{mostGiven};
 ghost use Rattle.capture.specs.OneBus.{isCut};
 ghost use Rattle.capture.specs.Events.{fromOne, besideWrite, together, masterByte, rawOf, fourBytes, eventBytes, captured};
 ghost use Rattle.capture.specs.Import.{imported, importedBuffer};
 ghost use Rattle.capture.specs.Samples.{bothSilent, bothAfter};
-ghost use Rattle.importing.specs.Stored.{listed, stored};
+ghost use Rattle.importing.specs.Listed.{listed};
 use arbiter::Event;
 use arbiter::Master;
 use arbiter::Raw;
 use bits::worth_of;
+use bytes::copy;
 use capture::Awaited;
 use capture::Both;
 use capture::Given;
@@ -119,7 +120,7 @@ fn raw_of(e: Event) -> Raw
     }
 }
 
-// ---- events into the lent buffer; each function gives the place after what it stored or counted
+// ---- events into the list; each function gives the place after what it stored
 
 fn put_raw(out: &mut [u8], at: usize, r: Raw)
     requires { ⌜ at + 4 ≤ length (now out) ⌝ }
@@ -131,28 +132,24 @@ fn put_raw(out: &mut [u8], at: usize, r: Raw)
     out[at + 3] = r.z;
 }
 
-fn put_event(out: &mut [u8], at: usize, writes: bool, e: Event) -> usize
-    requires { ⌜ (at < 2097152) × (worth (at + 4) writes ≤ length (now out)) ⌝ }
-    ensures { λ r. ⌜ (r ≡ at + 4) × (now (out .exit) ≡ stored writes (now (out .entry)) at (eventBytes (e ∷ []))) ⌝ }
+fn put_event(out: &mut [u8], at: usize, e: Event) -> usize
+    requires { ⌜ (at < 2097152) × (at + 4 ≤ length (now out)) ⌝ }
+    ensures { λ r. ⌜ (r ≡ at + 4) × (now (out .exit) ≡ sets (now (out .entry)) at (eventBytes (e ∷ []))) ⌝ }
 {
-    if writes {
-        put_raw(out, at, raw_of(e));
-        at + 4
-    } else {
-        at + 4
-    }
+    put_raw(out, at, raw_of(e));
+    at + 4
 }
 
-fn put_few(out: &mut [u8], at: usize, writes: bool, f: Few) -> usize
-    requires { ⌜ (at < 1048576) × (worth (at + 4 * length (listed f)) writes ≤ length (now out)) ⌝ }
-    ensures { λ r. ⌜ (r ≡ at + 4 * length (listed f)) × (now (out .exit) ≡ stored writes (now (out .entry)) at (eventBytes (listed f))) ⌝ }
+fn put_few(out: &mut [u8], at: usize, f: Few) -> usize
+    requires { ⌜ (at < 1048576) × (at + 4 * length (listed f) ≤ length (now out)) ⌝ }
+    ensures { λ r. ⌜ (r ≡ at + 4 * length (listed f)) × (now (out .exit) ≡ sets (now (out .entry)) at (eventBytes (listed f))) ⌝ }
 {
     match f {
         Few::NoEvent => at,
-        Few::OneEvent(e) => put_event(out, at, writes, e),
+        Few::OneEvent(e) => put_event(out, at, e),
         Few::TwoEvents(first, second) => {
-            let next = put_event(out, at, writes, first);
-            put_event(out, next, writes, second)
+            let next = put_event(out, at, first);
+            put_event(out, next, second)
         }
     }
 }
@@ -187,11 +184,11 @@ fn is_any_cut(s: Both) -> bool
     is_cut(bus0) | is_cut(bus1)
 }
 
-// Through all samples: the events are counted, and stored if they are to be written.
-fn walk(samples: &[u8], address: u8, out: &mut [u8], writes: bool) -> Walked
-    requires { ⌜ (length (now samples) ≤ 32768) × (worth (4 * length (captured address (now samples))) writes ≤ length (now out)) ⌝ }
+// Through all samples: the events are stored one after the other.
+fn walk(samples: &[u8], address: u8, out: &mut [u8]) -> Walked
+    requires { ⌜ (length (now samples) ≤ 32768) × (4 * length (captured address (now samples)) ≤ length (now out)) ⌝ }
     ensures found { λ r. ⌜ (r .both ≡ bothAfter address (now (samples .entry))) × (r .bytes ≡ 4 * length (captured address (now (samples .entry)))) ⌝ }
-    ensures written { λ r. ⌜ now (out .exit) ≡ stored writes (now (out .entry)) 0 (eventBytes (captured address (now (samples .entry)))) ⌝ }
+    ensures written { λ r. ⌜ now (out .exit) ≡ sets (now (out .entry)) 0 (eventBytes (captured address (now (samples .entry)))) ⌝ }
 {
     let mut both = silent_both();
     let mut bytes: usize = 0;
@@ -200,7 +197,7 @@ fn walk(samples: &[u8], address: u8, out: &mut [u8], writes: bool) -> Walked
         let h = hear_sample(address, samples[i - 1], samples[i], both);
         let given0 = h.given0;
         let given1 = h.given1;
-        bytes = put_few(out, bytes, writes, few_of(given0, given1));
+        bytes = put_few(out, bytes, few_of(given0, given1));
         both = h.both;
         i += 1;
     }
@@ -213,6 +210,13 @@ fn is_address(address: u8) -> bool
     ensures { λ r. ⌜ r ≡ inRange address ⌝ }
 {
     !(address < 8) & (address < 120)
+}
+
+// Room for four bytes an event, for the most events that a capture gives.
+fn empty_list() -> [u8; 14560]
+    ensures { λ r. ⌜ length r ≡ 4 * mostGiven ⌝ }
+{
+    [0; 14560]
 }
 
 fn refused(number: u8) -> Imported
@@ -229,18 +233,20 @@ pub fn import_capture(samples: &[u8], address: u8, events: &mut [u8]) -> Importe
         return refused(13);
     }
     if is_address(address) {
-        let found = walk(samples, address, events, false);
+        let mut list = empty_list();
+        let found = walk(samples, address, &mut list);
         let both = found.both;
         if is_any_cut(both) {
             return refused(12);
         }
-        if events.len() < found.bytes {
+        let n = found.bytes;
+        if events.len() < n {
             return refused(9);
         }
-        let written = walk(samples, address, events, true);
+        copy(&list[..n], events);
         Imported {
             number: 0,
-            count: written.bytes / 4,
+            count: n / 4,
         }
     } else {
         refused(11)

@@ -1,13 +1,15 @@
 -- `importing::import_capture` meets its contract.
 -- Assumes nothing.
 use Prim.Native.Nat.{ℕ, _*_, _≤_, _<_}
-use mathlib.Core.Path.{sym, ap, _∙_}
-use mathlib.Core.List.{List}
+use mathlib.Core.Path.{_≡_, sym, ap, _∙_}
 use native.Mathlib.Omega.{arith}
-use lib.ListN.{length}
+use lib.ListN.{length, take}
+use lib.Seq.{length-sets, length-take-le}
 use Rattle.capture.specs.Events.{captured, eventBytes}
-use Rattle.importing.specs.Stored.{stored}
-use Rattle.importing.proofs.Numbers.{untouched, cut-found, refused-13, refused-11, refused-12, refused-9, accepted}
+use Rattle.capture.proofs.Bound.{most-captured}
+use Rattle.capture.proofs.Bytes.{bytes-length}
+use Rattle.importing.proofs.Numbers.{cut-found, refused-13, refused-11, refused-12, refused-9, accepted}
+use Rattle.importing.proofs.Stored.{front-copied}
 use borrow.Author.Needs.{needs}
 use Rattle.importing.proofs.import_capture.Statement.{statement}
 use Rattle.importing.proofs.import_capture.Tie as tie
@@ -23,8 +25,17 @@ returns c =
 is-address-requires : tie.Need-is-address-requires
 is-address-requires c κs = search needs
 
+empty-list-requires : tie.Need-empty-list-requires
+empty-list-requires c κs = search needs
+
+slice-aggregate-walk : tie.Need-slice-aggregate-walk
+slice-aggregate-walk c = search needs
+
 walk-requires : tie.Need-walk-requires
-walk-requires c κs = (omega arith, omega arith)
+walk-requires c κs =
+    let s = c .before .before .before .before .before .before .before .args in
+    let short : length (s .samples .now) ≤ 32768 = c .before .before .before .before .if1 .left in
+    (short, omega (arith, most-captured (s .address) (s .samples .now) short, c .before .empty-list .ensures))
 
 is-any-cut-requires : tie.Need-is-any-cut-requires
 is-any-cut-requires c κs = search needs
@@ -32,53 +43,59 @@ is-any-cut-requires c κs = search needs
 refused-requires-2 : tie.Need-refused-requires-2
 refused-requires-2 c κs = search needs
 
-same-length : tie.Need-same-length
-same-length c = search needs
-
 returns-2 : tie.Need-returns-2
 returns-2 c =
     let s = c .before .before .before .before .before .before .before .before .before .before .before .before .before .args in
-    let found = c .before .before .before .before .before .before .walk .ensures in
     let a = sym (c .before .before .before .before .before .before .before .before .before .is-address .ensures) ∙ c .before .before .before .before .before .before .before .before .if2 .taken in
-    let x = cut-found (s .address) (s .samples .now) _ _ (found .0 .0) (c .before .before .is-any-cut .ensures) ∙ c .before .if3 .taken in
-    refused-12 (s .address) (s .samples .now) (s .events .now) (c .before .before .before .before .before .before .before .before .before .before .if1 .left) a _ _ x (untouched _ _ _ _ (found .1)) (c .refused2 .ensures)
+    let x = cut-found (s .address) (s .samples .now) _ _ (c .before .before .before .before .before .walk .ensures .0 .0) (c .before .before .is-any-cut .ensures) ∙ c .before .if3 .taken in
+    refused-12 (s .address) (s .samples .now) (s .events .now) (c .before .before .before .before .before .before .before .before .before .before .if1 .left) a _ x (c .refused2 .ensures)
 
 refused-requires-3 : tie.Need-refused-requires-3
 refused-requires-3 c κs = search needs
 
-same-length-2 : tie.Need-same-length-2
-same-length-2 c = search needs
-
 returns-3 : tie.Need-returns-3
 returns-3 c =
-    let s = c .before .before .before .before .before .before .before .before .before .before .before .before .before .before .before .args in
-    let found = c .before .before .before .before .before .before .before .before .walk .ensures in
-    let a = sym (c .before .before .before .before .before .before .before .before .before .before .before .is-address .ensures) ∙ c .before .before .before .before .before .before .before .before .before .before .if2 .taken in
-    let x = cut-found (s .address) (s .samples .now) _ _ (found .0 .0) (c .before .before .before .before .is-any-cut .ensures) ∙ c .before .before .before .if3 .left in
-    let same = untouched _ _ _ _ (found .1) in
-    let room : length (s .events .now) < 4 * length (captured (s .address) (s .samples .now)) = omega (arith, found .0 .1, ap length same, c .before .if4 .taken) in
-    refused-9 (s .address) (s .samples .now) (s .events .now) (c .before .before .before .before .before .before .before .before .before .before .before .before .if1 .left) a _ _ x room same (c .refused3 .ensures)
+    let s = c .before .before .before .before .before .before .before .before .before .before .before .before .before .before .args in
+    let found = c .before .before .before .before .before .before .walk .ensures .0 in
+    let a = sym (c .before .before .before .before .before .before .before .before .before .before .is-address .ensures) ∙ c .before .before .before .before .before .before .before .before .before .if2 .taken in
+    let x = cut-found (s .address) (s .samples .now) _ _ (found .0) (c .before .before .before .is-any-cut .ensures) ∙ c .before .before .if3 .left in
+    let room : length (s .events .now) < 4 * length (captured (s .address) (s .samples .now)) = omega (arith, found .1, c .before .if4 .taken) in
+    refused-9 (s .address) (s .samples .now) (s .events .now) (c .before .before .before .before .before .before .before .before .before .before .before .if1 .left) a _ x room (c .refused3 .ensures)
 
-walk-requires-2 : tie.Need-walk-requires-2
-walk-requires-2 c κs = (omega arith, omega (arith, c .before .before .before .before .before .before .before .before .walk .ensures .0 .1, c .before .if4 .left))
+array-share-prefix-list : tie.Need-array-share-prefix-list
+array-share-prefix-list c =
+    let s = c .before .before .before .before .before .before .before .before .before .before .before .before .before .args in
+    let w = c .before .before .before .before .before .walk .ensures in
+    let most = most-captured (s .address) (s .samples .now) (c .before .before .before .before .before .before .before .before .before .before .if1 .left) in
+    omega (arith, most, w .0 .1, ap length (w .1), length-sets (c .before .before .before .before .before .before .before .empty-list .result) 0 (eventBytes (captured (s .address) (s .samples .now))), c .before .before .before .before .before .before .before .empty-list .ensures)
+
+slice-aggregate-copy : tie.Need-slice-aggregate-copy
+slice-aggregate-copy c =
+    sym (length-take-le _ _ (array-share-prefix-list (c .before)))
+
+copy-requires : tie.Need-copy-requires
+copy-requires c κs =
+    let copied : length (take (c .before .before .before .before .before .before .before .walk .result .bytes) (c .before .before .before .before .before .before .before .walk .last .1 .1 .0)) ≡ c .before .before .before .before .before .before .before .walk .result .bytes = length-take-le _ _ (array-share-prefix-list (c .before .before)) in
+    omega (arith, copied, c .before .before .if4 .left)
 
 refused-requires-4 : tie.Need-refused-requires-4
 refused-requires-4 c κs = search needs
 
-same-length-3 : tie.Need-same-length-3
-same-length-3 c = search needs
+same-length : tie.Need-same-length
+same-length c = search needs
 
 returns-4 : tie.Need-returns-4
 returns-4 c =
-    let s = c .before .before .before .before .before .before .before .before .before .before .before .before .before .before .before .before .before .before .before .args in
-    let found = c .before .before .before .before .before .before .before .before .before .before .before .before .walk .ensures in
-    let written = c .before .before .before .walk2 .ensures in
-    let a = sym (c .before .before .before .before .before .before .before .before .before .before .before .before .before .before .before .is-address .ensures) ∙ c .before .before .before .before .before .before .before .before .before .before .before .before .before .before .if2 .taken in
-    let x = cut-found (s .address) (s .samples .now) _ _ (found .0 .0) (c .before .before .before .before .before .before .before .before .is-any-cut .ensures) ∙ c .before .before .before .before .before .before .before .if3 .left in
-    let same = untouched _ _ _ _ (found .1) in
-    let room : 4 * length (captured (s .address) (s .samples .now)) ≤ length (s .events .now) = omega (arith, found .0 .1, ap length same, c .before .before .before .before .before .if4 .left) in
-    let left = written .1 ∙ ap (λ (l : List ℕ). stored _ l 0 (eventBytes (captured (s .address) (s .samples .now)))) same in
-    accepted (s .address) (s .samples .now) (s .events .now) (c .before .before .before .before .before .before .before .before .before .before .before .before .before .before .before .before .if1 .left) a _ _ x room (written .0 .1) left
+    let s = c .before .before .before .before .before .before .before .before .before .before .before .before .before .before .before .before .before .before .args in
+    let w = c .before .before .before .before .before .before .before .before .before .before .walk .ensures in
+    let es = captured (s .address) (s .samples .now) in
+    let a = sym (c .before .before .before .before .before .before .before .before .before .before .before .before .before .before .is-address .ensures) ∙ c .before .before .before .before .before .before .before .before .before .before .before .before .before .if2 .taken in
+    let x = cut-found (s .address) (s .samples .now) _ _ (w .0 .0) (c .before .before .before .before .before .before .before .is-any-cut .ensures) ∙ c .before .before .before .before .before .before .if3 .left in
+    let room : 4 * length es ≤ length (s .events .now) = omega (arith, w .0 .1, c .before .before .before .before .before .if4 .left) in
+    let most = most-captured (s .address) (s .samples .now) (c .before .before .before .before .before .before .before .before .before .before .before .before .before .before .before .if1 .left) in
+    let fits : c .before .before .before .before .before .before .before .before .before .before .walk .result .bytes ≤ length (c .before .before .before .before .before .before .before .before .before .before .before .before .empty-list .result) = omega (arith, most, w .0 .1, c .before .before .before .before .before .before .before .before .before .before .before .before .empty-list .ensures) in
+    let left = c .before .before .copy .ensures .1 ∙ front-copied (c .before .before .before .before .before .before .before .before .before .before .before .before .empty-list .result) (eventBytes es) _ (s .events .now) _ (w .1) (w .0 .1 ∙ sym (bytes-length es)) fits in
+    accepted (s .address) (s .samples .now) (s .events .now) (c .before .before .before .before .before .before .before .before .before .before .before .before .before .before .before .if1 .left) a _ _ x room (w .0 .1) left
 
 returns-5 : tie.Need-returns-5
 returns-5 c =
@@ -93,16 +110,18 @@ import-capture-spec =
     refused-requires
     returns
     is-address-requires
+    empty-list-requires
+    slice-aggregate-walk
     walk-requires
     is-any-cut-requires
     refused-requires-2
-    same-length
     returns-2
     refused-requires-3
-    same-length-2
     returns-3
-    walk-requires-2
+    array-share-prefix-list
+    slice-aggregate-copy
+    copy-requires
     refused-requires-4
-    same-length-3
+    same-length
     returns-4
     returns-5)

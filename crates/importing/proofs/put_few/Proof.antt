@@ -6,8 +6,8 @@ use native.Mathlib.Omega.{arith}
 use lib.ListN.{length}
 use Rattle.capture.specs.Events.{eventBytes}
 use Rattle.importing.specs.declared.Few.{Few}
-use Rattle.importing.specs.Stored.{listed}
-use Rattle.importing.proofs.Stored.{stored-none, less-room, two-stored}
+use Rattle.importing.specs.Listed.{listed}
+use Rattle.importing.proofs.Stored.{two-stored}
 use borrow.Author.Needs.{needs}
 use Rattle.importing.proofs.put_few.Statement.{statement}
 use Rattle.importing.proofs.put_few.Tie as tie
@@ -22,7 +22,7 @@ put-event-requires : tie.Need-put-event-requires
 put-event-requires c κs =
     let one = ap (λ (x : Few). length (listed x)) (c .before .before .f .given .1) in
     let s = c .before .before .before .before .before in
-    (omega arith, less-room (s .args .writes) (s .args .at + 4) (s .args .at + 4 * length (listed (s .args .f))) _ _ (omega (arith, one)) (s .pre .1) refl)
+    (omega arith, omega (arith, one, s .pre .1))
 
 enum-known-f-2 : tie.Need-enum-known-f-2
 enum-known-f-2 c = search needs
@@ -31,7 +31,7 @@ put-event-requires-2 : tie.Need-put-event-requires-2
 put-event-requires-2 c κs =
     let two = ap (λ (x : Few). length (listed x)) (c .before .before .f2 .given .1) in
     let s = c .before .before .before .before .before in
-    (omega arith, less-room (s .args .writes) (s .args .at + 4) (s .args .at + 4 * length (listed (s .args .f))) _ _ (omega (arith, two)) (s .pre .1) refl)
+    (omega arith, omega (arith, two, s .pre .1))
 
 put-event-requires-3 : tie.Need-put-event-requires-3
 put-event-requires-3 c κs =
@@ -40,14 +40,14 @@ put-event-requires-3 c κs =
     let put = c .before .before .before .put-event2 in
     let next = put .ensures .0 in (
       omega (arith, next),
-      less-room (s .args .writes) (put .result + 4) (s .args .at + 4 * length (listed (s .args .f))) _ _ (omega (arith, two, next)) (s .pre .1) (put .kept .0),
+      omega (arith, two, next, s .pre .1, put .kept .0),
     )
 
 returns : tie.Need-returns
 unfolding eventBytes
 returns c =
     let none = c .enum-told .given .1 in
-    (omega (arith, ap (λ (x : Few). length (listed x)) none), rw none (stored-none _ _ _))
+    (omega (arith, ap (λ (x : Few). length (listed x)) none), rw none refl)
 
 same-length : tie.Need-same-length
 same-length c = search needs
@@ -66,7 +66,7 @@ returns-3 c =
     let two = c .before .before .before .before .before .before .before .before .before .f2 .given .1 in
     let first = c .before .before .before .before .before .before .put-event2 .ensures in
     let second = c .before .before .put-event3 .ensures in
-    (omega (arith, first .0, second .0, ap (λ (x : Few). length (listed x)) two), rw two (two-stored _ _ _ _ _ _ _ _ (first .1) (first .0) (second .1)))
+    (omega (arith, first .0, second .0, ap (λ (x : Few). length (listed x)) two), rw two (two-stored _ _ _ _ _ _ _ (first .1) (first .0) (second .1)))
 
 pub put-few-spec : {M : Type 1} → statement M
 put-few-spec =

@@ -5,26 +5,25 @@ use mathlib.Core.Path.{_≡_, refl, sym, ap, _∙_}
 use mathlib.Core.List.{List}
 use native.Mathlib.Omega.{arith}
 use lib.ListN.{length, take}
-use lib.Seq.{take-all}
+use lib.Seq.{sets, take-all}
 use Rattle.arbiter.specs.declared.Event.{Event}
 use Rattle.capture.specs.Events.{eventBytes, captured}
 use Rattle.capture.specs.Samples.{bothAfter, eventsAfter}
 use Rattle.capture.proofs.Joined.{events-joined}
 use Rattle.capture.proofs.Prefix.{first-both}
-use Rattle.importing.specs.Stored.{listed, stored}
-use Rattle.importing.proofs.Stored.{less-room}
+use Rattle.importing.specs.Listed.{listed}
 use Rattle.importing.proofs.Turns.{listed-few, no-bytes, none-stored, turn-both, turn-bytes, turn-room, turn-stored}
 use borrow.Author.Needs.{needs}
 use Rattle.importing.proofs.walk.Statement.{statement}
 use Rattle.importing.proofs.walk.Tie as tie
 
 abbrev Inv-loop : tie.InvT-loop
-Inv-loop samples address out₀ writes both₀ bytes₀ i₀ out both bytes i =
+Inv-loop samples address out₀ both₀ bytes₀ i₀ out both bytes i =
     (1 ≤ i) × (bytes ≤ 8 * i) × (length out ≡ length out₀) × (both ≡ bothAfter address (take i samples))
-    × (bytes ≡ 4 * length (eventsAfter address (take i samples))) × (out ≡ stored writes out₀ 0 (eventBytes (eventsAfter address (take i samples))))
+    × (bytes ≡ 4 * length (eventsAfter address (take i samples))) × (out ≡ sets out₀ 0 (eventBytes (eventsAfter address (take i samples))))
 
 abbrev μ-loop : tie.MeasureT-loop
-μ-loop samples address out₀ writes both₀ bytes₀ i₀ out both bytes i = length samples - i
+μ-loop samples address out₀ both₀ bytes₀ i₀ out both bytes i = length samples - i
 
 silent-both-requires : tie.Need-silent-both-requires Inv-loop μ-loop
 silent-both-requires c κs = search needs
@@ -38,7 +37,7 @@ loop-holds c =
       refl,
       c .silent-both .ensures ∙ sym (first-both (s .args .address) first),
       no-bytes (s .args .address) first,
-      none-stored (s .args .address) first (s .args .writes) (s .args .out .now),
+      none-stored (s .args .address) first (s .args .out .now),
     )
 
 sub-hear-sample : tie.Need-sub-hear-sample Inv-loop μ-loop
@@ -66,7 +65,7 @@ put-few-requires c κs =
     let under : l .loop .i < length samples = omega arith in
     let room = turn-room a samples (l .loop .i) (l .loop .inv .0) under _ (l .loop .inv .3) _ h _ (c .few-of .ensures) _ (l .loop .inv .4) in (
       omega arith,
-      less-room (s .args .writes) (l .loop .bytes + 4 * length (listed (c .few-of .result))) (4 * length (captured a samples)) _ _ room (s .pre .1) (l .loop .inv .2),
+      omega (arith, room, s .pre .1, l .loop .inv .2),
     )
 
 add-i : tie.Need-add-i Inv-loop μ-loop
@@ -91,7 +90,7 @@ loop-again c =
       put .kept .0 ∙ inv .2,
       turn-both a samples (l .loop .i) (inv .0) under _ (inv .3) _ h,
       put .ensures .0 ∙ turn-bytes a samples (l .loop .i) (inv .0) under _ (inv .3) _ h _ (few .ensures) _ (inv .4),
-      put .ensures .1 ∙ turn-stored a samples (l .loop .i) (inv .0) under _ (inv .3) _ h _ (few .ensures) _ (inv .4) (s .args .writes) (s .args .out .now) _ (inv .5),
+      put .ensures .1 ∙ turn-stored a samples (l .loop .i) (inv .0) under _ (inv .3) _ h _ (few .ensures) _ (inv .4) (s .args .out .now) _ (inv .5),
     )
 
 same-length : tie.Need-same-length Inv-loop μ-loop
@@ -107,7 +106,7 @@ returns c =
     let all : take (l .loop .i) samples ≡ samples = take-all (l .loop .i) samples (omega arith) in
     let events : eventsAfter a (take (l .loop .i) samples) ≡ captured a samples = ap (eventsAfter a) all ∙ events-joined a samples in (
       (inv .3 ∙ ap (bothAfter a) all, inv .4 ∙ ap (λ (es : List Event). 4 * length es) events),
-      inv .5 ∙ ap (λ (es : List Event). stored (s .args .writes) (s .args .out .now) 0 (eventBytes es)) events,
+      inv .5 ∙ ap (λ (es : List Event). sets (s .args .out .now) 0 (eventBytes es)) events,
     )
 
 pub walk-spec : {M : Type 1} → statement M
