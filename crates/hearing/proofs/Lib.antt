@@ -1,2 +1,3 @@
 pub mod Light
+pub mod Heavy
 pub mod Unique

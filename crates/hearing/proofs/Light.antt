@@ -5,7 +5,7 @@ use mathlib.Core.Path.{_≡_, refl, sym, ap, _∙_}
 use mathlib.Core.Bool.{Bool, true, false, not, _&&_, _||_, false≢true}
 use lib.Dec.{eqb, ltb}
 use borrow.Author.Tests.{eqb-true, ltb-true}
-use Rattle.arbiter.specs.Words.{bit}
+use Rattle.arbiter.specs.Words.{if_then_else_, bit}
 use Rattle.arbiter.specs.declared.Master.{Master}
 use Rattle.arbiter.specs.declared.Master.the-variants.{Zero, One}
 use Rattle.arbiter.proofs.Choice.{split, not-true}
@@ -17,7 +17,7 @@ use Rattle.capture.specs.declared.Both.{Both}
 use Rattle.capture.specs.OneBus.{levels, isStart, isStop, rises, sign, isOutside, atClock, heard, gives}
 use Rattle.capture.specs.Samples.{sampled}
 use Rattle.capture.proofs.Laws.{same-steady}
-use Rattle.hearing.specs.Light.{isStill, isLight, areLight, lightly, bothLightly, unheard}
+use Rattle.hearing.specs.Light.{isStill, isMarked, hasRoom, isLight, areLight, lightly, bothLightly, unheard}
 
 -- ---- tests
 
@@ -53,10 +53,10 @@ still-sampled address before now s h =
 
 module _ (was now : Levels) (l : Listener) (light : isLight was now l ≡ true) where
   tests : (isStart was now ≡ false) × (isStop was now ≡ false) × (rises was now ≡ true → (isOutside (l .awaited) ≡ false) × (ltb (l .clocks) 8 ≡ true))
-  unfolding isLight
+  unfolding isLight isMarked hasRoom
   tests = go (was .scl) (was .sda) (now .scl) (now .sda) (isOutside (l .awaited)) (ltb (l .clocks) 8) light
     where
-      go : (a b c d o t : Bool) → not (c && ((a && ((b && not d) || (not b && d))) || (not a && (o || not t)))) ≡ true
+      go : (a b c d o t : Bool) → (if (not a && c) then (not o && t) else not (a && c && ((b && not d) || (not b && d)))) ≡ true
           → ((a && c && b && not d) ≡ false) × ((a && c && not b && d) ≡ false) × ((not a && c) ≡ true → (o ≡ false) × (t ≡ true))
       go true b false d o t h = (refl, refl, λ e. absurd (false≢true e))
       go false b false d o t h = (refl, refl, λ e. absurd (false≢true e))

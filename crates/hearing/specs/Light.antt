@@ -17,13 +17,17 @@ use Rattle.capture.specs.OneBus.{levels, rises, isOutside, shifted}
 unfoldable pub isStill : ℕ → ℕ → Bool
 isStill before now = eqb before now || (not (bit 0 now) && not (bit 2 now))
 
--- neither START nor STOP, and no clock but the first eight of a byte
+-- START or STOP
+unfoldable pub isMarked : Levels → Levels → Bool
+isMarked was now = was .scl && now .scl && ((was .sda && not (now .sda)) || (not (was .sda) && now .sda))
+
+-- the next clock brings a bit to a byte in hand
+unfoldable pub hasRoom : Listener → Bool
+hasRoom l = not (isOutside (l .awaited)) && ltb (l .clocks) 8
+
+-- no clock but the first eight of a byte, and neither START nor STOP
 unfoldable pub isLight : Levels → Levels → Listener → Bool
-isLight was now l =
-    not
-    (now .scl
-    && ((was .scl && ((was .sda && not (now .sda)) || (not (was .sda) && now .sda)))
-    || (not (was .scl) && (isOutside (l .awaited) || not (ltb (l .clocks) 8)))))
+isLight was now l = if rises was now then hasRoom l else not (isMarked was now)
 
 unfoldable pub areLight : ℕ → ℕ → Both → Bool
 areLight before now s = isLight (levels Zero before) (levels Zero now) (s .bus0) && isLight (levels One before) (levels One now) (s .bus1)

@@ -1,11 +1,12 @@
 // Two samples after each other on both buses: what they show, and what becomes of the bytes in hand.
 ghost use mathlib.Core.Path.{_≡_};
-ghost use mathlib.Core.Bool.{true};
+ghost use mathlib.Core.Bool.{true, false};
 ghost use Prim.Native.Nat.{_<_};
 ghost use Rattle.arbiter.specs.declared.Master.the-variants.{Zero, One};
-ghost use Rattle.capture.specs.OneBus.{levels, isStart, isStop, rises, sign, addressed, awaitedAfter, byteGives, owes, isOutside, shifted, atClock, heard, gives};
+ghost use Rattle.capture.specs.declared.Sign.the-variants.{Stops};
+ghost use Rattle.capture.specs.OneBus.{levels, rises, sign, addressed, awaitedAfter, byteGives, owes, isOutside, started, stopped, shifted, ended, heard, gives};
 ghost use Rattle.capture.specs.Samples.{sampled};
-ghost use Rattle.hearing.specs.Light.{isStill, isLight, lightly, areLight, bothLightly, unheard};
+ghost use Rattle.hearing.specs.Light.{isStill, isMarked, hasRoom, isLight, lightly, areLight, bothLightly, unheard};
 use arbiter::Event;
 use arbiter::Master;
 use bits::worth_of;
@@ -15,7 +16,12 @@ use capture::Given;
 use capture::Heard;
 use capture::Levels;
 use capture::Listener;
-use capture::Sign;
+
+// What becomes of one bus with a sample.
+pub struct Told {
+    pub bus: Listener,
+    pub given: Given,
+}
 
 // ---- two samples after each other
 
@@ -37,36 +43,16 @@ fn levels_1(x: u8) -> Levels
     }
 }
 
-fn is_start(was: Levels, now: Levels) -> bool
-    ensures { λ r. ⌜ r ≡ isStart was now ⌝ }
+fn is_marked(was: Levels, now: Levels) -> bool
+    ensures { λ r. ⌜ r ≡ isMarked was now ⌝ }
 {
-    was.scl & now.scl & was.sda & !now.sda
-}
-
-fn is_stop(was: Levels, now: Levels) -> bool
-    ensures { λ r. ⌜ r ≡ isStop was now ⌝ }
-{
-    was.scl & now.scl & !was.sda & now.sda
+    was.scl & now.scl & ((was.sda & !now.sda) | (!was.sda & now.sda))
 }
 
 fn is_rise(was: Levels, now: Levels) -> bool
     ensures { λ r. ⌜ r ≡ rises was now ⌝ }
 {
     !was.scl & now.scl
-}
-
-fn sign_of(was: Levels, now: Levels) -> Sign
-    ensures { λ r. ⌜ r ≡ sign was now ⌝ }
-{
-    if is_start(was, now) {
-        Sign::Starts
-    } else if is_stop(was, now) {
-        Sign::Stops
-    } else if is_rise(was, now) {
-        Sign::Clocks(now.sda)
-    } else {
-        Sign::Steady
-    }
 }
 
 // ---- a byte's end
@@ -143,103 +129,6 @@ fn is_outside(awaited: Awaited) -> bool
     }
 }
 
-// ---- one bus after a sign. The listener is written out in each arm: a function for each arm nearly doubled the instructions a sample.
-
-fn on_clock(address: u8, b: bool, l: Listener) -> Listener
-    ensures { λ r. ⌜ r ≡ atClock address b l ⌝ }
-{
-    let awaited = l.awaited;
-    if is_outside(awaited) {
-        l
-    } else if l.clocks < 8 {
-        Listener {
-            awaited,
-            clocks: l.clocks + 1,
-            value: l.value % 128 * 2 + worth_of(1, b),
-            owed: l.owed,
-            broken: l.broken,
-        }
-    } else {
-        let next = awaited_after(address, awaited, l.value);
-        Listener {
-            awaited: next,
-            clocks: 0,
-            value: 0,
-            owed: l.owed | is_owing(awaited),
-            broken: l.broken,
-        }
-    }
-}
-
-fn heard_by(address: u8, s: Sign, l: Listener) -> Listener
-    ensures { λ r. ⌜ r ≡ heard address s l ⌝ }
-{
-    match s {
-        Sign::Steady => l,
-        Sign::Starts => Listener {
-            awaited: Awaited::AddressByte,
-            clocks: 0,
-            value: 0,
-            owed: l.owed,
-            broken: l.broken | (1 < l.clocks),
-        },
-        Sign::Stops => Listener {
-            awaited: Awaited::NoByte,
-            clocks: 0,
-            value: 0,
-            owed: false,
-            broken: l.broken | (1 < l.clocks),
-        },
-        Sign::Clocks(b) => on_clock(address, b, l),
-    }
-}
-
-fn given_by(m: Master, s: Sign, l: Listener) -> Given
-    ensures { λ r. ⌜ r ≡ gives m s l ⌝ }
-{
-    match s {
-        Sign::Steady => Given::Nothing,
-        Sign::Starts => Given::Nothing,
-        Sign::Stops => {
-            if l.owed {
-                Given::Gives(Event::Stop(m))
-            } else {
-                Given::Nothing
-            }
-        }
-        Sign::Clocks(_) => {
-            if l.clocks < 8 {
-                Given::Nothing
-            } else {
-                let awaited = l.awaited;
-                byte_gives(m, awaited, l.value)
-            }
-        }
-    }
-}
-
-// ---- both buses
-
-// The long way, right for every sample.
-fn fully(address: u8, before: u8, now: u8, s: Both) -> Heard
-    ensures { λ r. ⌜ r ≡ sampled address before now s ⌝ }
-{
-    let sign0 = sign_of(levels_0(before), levels_0(now));
-    let sign1 = sign_of(levels_1(before), levels_1(now));
-    let old0 = s.bus0;
-    let old1 = s.bus1;
-    let given0 = given_by(Master::Zero, sign0, old0);
-    let given1 = given_by(Master::One, sign1, old1);
-    let bus0 = heard_by(address, sign0, old0);
-    let bus1 = heard_by(address, sign1, old1);
-    let both = Both { bus0, bus1 };
-    Heard {
-        both,
-        given0,
-        given1,
-    }
-}
-
 // ---- the short ways, for most samples of a capture
 
 fn is_still(before: u8, now: u8) -> bool
@@ -248,13 +137,22 @@ fn is_still(before: u8, now: u8) -> bool
     (before == now) | (!(now / 1 % 2 == 1) & !(now / 4 % 2 == 1))
 }
 
+fn has_room(l: Listener) -> bool
+    ensures { λ r. ⌜ r ≡ hasRoom l ⌝ }
+{
+    let awaited = l.awaited;
+    !is_outside(awaited) & (l.clocks < 8)
+}
+
+// By branches and not by one formula, so that a bus where SCL does not rise is not asked for its byte.
 fn is_light(was: Levels, now: Levels, l: Listener) -> bool
     ensures { λ r. ⌜ r ≡ isLight was now l ⌝ }
 {
-    let awaited = l.awaited;
-    !(now.scl
-        & ((was.scl & ((was.sda & !now.sda) | (!was.sda & now.sda)))
-            | (!was.scl & (is_outside(awaited) | !(l.clocks < 8)))))
+    if is_rise(was, now) {
+        has_room(l)
+    } else {
+        !is_marked(was, now)
+    }
 }
 
 fn are_light(before: u8, now: u8, s: Both) -> bool
@@ -262,8 +160,11 @@ fn are_light(before: u8, now: u8, s: Both) -> bool
 {
     let bus0 = s.bus0;
     let bus1 = s.bus1;
-    is_light(levels_0(before), levels_0(now), bus0)
-        & is_light(levels_1(before), levels_1(now), bus1)
+    if is_light(levels_0(before), levels_0(now), bus0) {
+        is_light(levels_1(before), levels_1(now), bus1)
+    } else {
+        false
+    }
 }
 
 fn on_bit(b: bool, l: Listener) -> Listener
@@ -312,6 +213,152 @@ fn nothing_given(both: Both) -> Heard
     }
 }
 
+// ---- the long way, of a bus where a sample is not light: a START or STOP, the ninth clock of a byte, or a clock outside START to STOP
+
+fn on_start(l: Listener) -> Listener
+    ensures { λ r. ⌜ r ≡ started l ⌝ }
+{
+    Listener {
+        awaited: Awaited::AddressByte,
+        clocks: 0,
+        value: 0,
+        owed: l.owed,
+        broken: l.broken | (1 < l.clocks),
+    }
+}
+
+fn on_stop(l: Listener) -> Listener
+    ensures { λ r. ⌜ r ≡ stopped l ⌝ }
+{
+    Listener {
+        awaited: Awaited::NoByte,
+        clocks: 0,
+        value: 0,
+        owed: false,
+        broken: l.broken | (1 < l.clocks),
+    }
+}
+
+fn stop_gives(m: Master, l: Listener) -> Given
+    ensures { λ r. ⌜ r ≡ gives m Stops l ⌝ }
+{
+    if l.owed {
+        Given::Gives(Event::Stop(m))
+    } else {
+        Given::Nothing
+    }
+}
+
+// A byte's end is written out here: as a function of its own it takes two thirds more instructions a sample.
+fn heavily(m: Master, address: u8, was: Levels, now: Levels, l: Listener) -> Told
+    requires { ⌜ isLight was now l ≡ false ⌝ }
+    ensures { λ r. ⌜ (r .bus ≡ heard address (sign was now) l) × (r .given ≡ gives m (sign was now) l) ⌝ }
+{
+    let awaited = l.awaited;
+    if was.scl {
+        if now.sda {
+            Told {
+                bus: on_stop(l),
+                given: stop_gives(m, l),
+            }
+        } else {
+            Told {
+                bus: on_start(l),
+                given: Given::Nothing,
+            }
+        }
+    } else if is_outside(awaited) {
+        Told {
+            bus: l,
+            given: Given::Nothing,
+        }
+    } else {
+        Told {
+            bus: Listener {
+                awaited: awaited_after(address, awaited, l.value),
+                clocks: 0,
+                value: 0,
+                owed: l.owed | is_owing(awaited),
+                broken: l.broken,
+            },
+            given: byte_gives(m, awaited, l.value),
+        }
+    }
+}
+
+// ---- both buses, where one is heavy or both are. They are seldom heavy at once.
+
+fn heavy_0(address: u8, before: u8, now: u8, s: Both) -> Heard
+    requires { ⌜ (isLight (levels Zero before) (levels Zero now) (s .bus0) ≡ false) × (isLight (levels One before) (levels One now) (s .bus1) ≡ true) ⌝ }
+    ensures { λ r. ⌜ r ≡ sampled address before now s ⌝ }
+{
+    let old0 = s.bus0;
+    let old1 = s.bus1;
+    let t = heavily(Master::Zero, address, levels_0(before), levels_0(now), old0);
+    let bus0 = t.bus;
+    let bus1 = with_bit(levels_1(before), levels_1(now), old1);
+    let given0 = t.given;
+    let both = Both { bus0, bus1 };
+    Heard {
+        both,
+        given0,
+        given1: Given::Nothing,
+    }
+}
+
+fn heavy_1(address: u8, before: u8, now: u8, s: Both) -> Heard
+    requires { ⌜ (isLight (levels Zero before) (levels Zero now) (s .bus0) ≡ true) × (isLight (levels One before) (levels One now) (s .bus1) ≡ false) ⌝ }
+    ensures { λ r. ⌜ r ≡ sampled address before now s ⌝ }
+{
+    let old0 = s.bus0;
+    let old1 = s.bus1;
+    let t = heavily(Master::One, address, levels_1(before), levels_1(now), old1);
+    let bus0 = with_bit(levels_0(before), levels_0(now), old0);
+    let bus1 = t.bus;
+    let given1 = t.given;
+    let both = Both { bus0, bus1 };
+    Heard {
+        both,
+        given0: Given::Nothing,
+        given1,
+    }
+}
+
+fn heavy_both(address: u8, before: u8, now: u8, s: Both) -> Heard
+    requires { ⌜ (isLight (levels Zero before) (levels Zero now) (s .bus0) ≡ false) × (isLight (levels One before) (levels One now) (s .bus1) ≡ false) ⌝ }
+    ensures { λ r. ⌜ r ≡ sampled address before now s ⌝ }
+{
+    let old0 = s.bus0;
+    let old1 = s.bus1;
+    let t = heavily(Master::Zero, address, levels_0(before), levels_0(now), old0);
+    let u = heavily(Master::One, address, levels_1(before), levels_1(now), old1);
+    let bus0 = t.bus;
+    let bus1 = u.bus;
+    let given0 = t.given;
+    let given1 = u.given;
+    let both = Both { bus0, bus1 };
+    Heard {
+        both,
+        given0,
+        given1,
+    }
+}
+
+fn not_light(address: u8, before: u8, now: u8, s: Both) -> Heard
+    requires { ⌜ areLight before now s ≡ false ⌝ }
+    ensures { λ r. ⌜ r ≡ sampled address before now s ⌝ }
+{
+    let bus0 = s.bus0;
+    let bus1 = s.bus1;
+    if is_light(levels_1(before), levels_1(now), bus1) {
+        heavy_0(address, before, now, s)
+    } else if is_light(levels_0(before), levels_0(now), bus0) {
+        heavy_1(address, before, now, s)
+    } else {
+        heavy_both(address, before, now, s)
+    }
+}
+
 // One sample after the one before it, on both buses.
 pub fn hear_sample(address: u8, before: u8, now: u8, s: Both) -> Heard
     ensures { λ r. ⌜ r ≡ sampled address before now s ⌝ }
@@ -321,6 +368,6 @@ pub fn hear_sample(address: u8, before: u8, now: u8, s: Both) -> Heard
     } else if are_light(before, now, s) {
         nothing_given(with_bits(before, now, s))
     } else {
-        fully(address, before, now, s)
+        not_light(address, before, now, s)
     }
 }

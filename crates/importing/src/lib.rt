@@ -212,7 +212,7 @@ fn is_address(address: u8) -> bool
     !(address < 8) & (address < 120)
 }
 
-// Room for four bytes an event, for the most events that a capture gives.
+// Room for four bytes an event, for the most events that a capture gives. It stands on the caller's stack.
 fn empty_list() -> [u8; 14560]
     ensures { λ r. ⌜ length r ≡ 4 * mostGiven ⌝ }
 {

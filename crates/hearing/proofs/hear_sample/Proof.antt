@@ -22,8 +22,8 @@ with-bits-requires c κs = sym (c .before .are-light .ensures) ∙ c .if2 .taken
 nothing-given-requires-2 : tie.Need-nothing-given-requires-2
 nothing-given-requires-2 c κs = search needs
 
-fully-requires : tie.Need-fully-requires
-fully-requires c κs = search needs
+not-light-requires : tie.Need-not-light-requires
+not-light-requires c κs = sym (c .before .are-light .ensures) ∙ c .if2 .left
 
 returns : tie.Need-returns
 returns c = c .nothing-given .ensures ∙ still-sampled _ _ _ _ (sym (c .before .before .is-still .ensures) ∙ c .before .if1 .taken)
@@ -35,7 +35,7 @@ returns-2 c =
     ∙ light-sampled _ _ _ _ (sym (c .before .before .before .are-light .ensures) ∙ c .before .before .if2 .taken)
 
 returns-3 : tie.Need-returns-3
-returns-3 c = search needs
+returns-3 c = c .not-light .ensures
 
 pub hear-sample-spec : {M : Type 1} → statement M
 hear-sample-spec =
@@ -46,7 +46,7 @@ hear-sample-spec =
     are-light-requires
     with-bits-requires
     nothing-given-requires-2
-    fully-requires
+    not-light-requires
     returns
     returns-2
     returns-3)

@@ -1,0 +1,16 @@
+-- `hearing::has_room` meets its contract.
+-- Assumes nothing.
+use Rattle.hearing.specs.Light.{hasRoom}
+use borrow.Author.Needs.{needs}
+use Rattle.hearing.proofs.has_room.Statement.{statement}
+use Rattle.hearing.proofs.has_room.Tie as tie
+
+is-outside-requires : tie.Need-is-outside-requires
+is-outside-requires c κs = search needs
+
+returns : tie.Need-returns
+unfolding hasRoom
+returns c = simp (c .before .is-outside .ensures)
+
+pub has-room-spec : {M : Type 1} → statement M
+has-room-spec = tie.close (tie.spec is-outside-requires returns)
