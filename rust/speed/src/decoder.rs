@@ -1,5 +1,6 @@
 //! A plain decoder of captures in Rust: one pass over the samples, a state for each bus, and the
-//! events in a list that is copied into the lent buffer when nothing is refused.
+//! events in a list that is copied into the lent buffer when nothing is refused. So it keeps the
+//! promise of the proved call: a refused capture leaves the buffer as it was.
 
 use model::capture::MOST_SAMPLES;
 use model::event::make::*;
