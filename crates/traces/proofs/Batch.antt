@@ -30,7 +30,7 @@ use Rattle.light.proofs.Short.{answer-shows}
 use Rattle.quiet.specs.Counts.{least, afterTicks}
 use Rattle.quiet.specs.Quiet.{isStill, countsLeft, quietTicks, tick, ticks}
 use Rattle.quiet.proofs.Ticks.{quiet, quiet-together}
-use Rattle.traces.specs.Ticks.{isTickRaw, ticksAhead, AllTicks, withSame}
+use Rattle.traces.specs.Ticks.{isTickRaw, AllTicks, withSame}
 use Rattle.traces.proofs.Runs.{again-device, again-out}
 
 -- ---- a settled device is quiet as long as its counts last
@@ -212,14 +212,6 @@ least-both x y r h = go (ltb x y) refl h
 pub some-one : (k : ℕ) → (k ≡ 0 → ⊥) → 1 ≤ k
 some-one zero h = absurd (h refl)
 some-one (suc k) h = omega arith
-
-pub some-ahead : (settled : Bool) (r : Raw) (d : Device) (k : ℕ) → k ≡ ticksAhead settled r d → (k ≡ 0 → ⊥) → (settled ≡ true) × (isTickRaw r ≡ true) × (k ≡ countsLeft d)
-some-ahead settled r d k h some = go settled (isTickRaw r) refl refl h
-  where
-    go : (s t : Bool) → settled ≡ s → isTickRaw r ≡ t → k ≡ (if s && t then countsLeft d else 0) → (settled ≡ true) × (isTickRaw r ≡ true) × (k ≡ countsLeft d)
-    go true true e f q = (e, f, q)
-    go true false e f q = absurd (some q)
-    go false t e f q = absurd (some q)
 
 -- ---- the whole run of TICKs, from event i to before event j, with what the code made of it: the device x and the buffer last
 

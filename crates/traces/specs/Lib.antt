@@ -1,2 +1,3 @@
 pub mod Bodies
 pub mod Ticks
+pub mod Sides

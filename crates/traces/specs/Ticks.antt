@@ -5,20 +5,13 @@ use mathlib.Core.Path.{_≡_}
 use mathlib.Core.Bool.{Bool, true, _&&_}
 use mathlib.Core.List.{List}
 use lib.Dec.{eqb}
-use Rattle.arbiter.specs.Words.{if_then_else_}
-use Rattle.arbiter.specs.declared.Device.{Device}
 use Rattle.arbiter.specs.declared.Raw.{Raw}
 use Rattle.arbiter.specs.declared.Answer.{Answer}
 use Rattle.format.specs.Places.{eventAt, withAnswer}
-use Rattle.quiet.specs.Quiet.{countsLeft}
 
 -- the four bytes of a TICK: 6 and unused fields that are 0
 abbrev pub isTickRaw : Raw → Bool
 isTickRaw r = eqb (r .kind) 6 && eqb (r .x) 0 && eqb (r .y) 0 && eqb (r .z) 0
-
--- so many TICKs from this event on move nothing but counts, in a device that is told to be settled
-abbrev pub ticksAhead : Bool → Raw → Device → ℕ
-ticksAhead settled r d = if settled && isTickRaw r then countsLeft d else 0
 
 -- each event from one place to before another is a TICK
 abbrev pub AllTicks : ℕ → ℕ → List ℕ → Type 0

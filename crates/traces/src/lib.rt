@@ -1,16 +1,18 @@
 // A trace: read from its bytes, or refused by number, and run event by event into a lent answer buffer.
+mod sides;
+
 ghost use Prim.Native.Nat.{ℕ, _+_, _-_, _*_, _≤_, _<_};
 ghost use mathlib.Core.Path.{_≡_};
-ghost use mathlib.Core.Bool.{true};
+ghost use mathlib.Core.Bool.{true, false};
 ghost use mathlib.Core.List.{List, _++_};
 ghost use lib.ListN.{length, drop};
 ghost use Rattle.arbiter.specs.Steps.{step, runFrom, answersFrom};
 ghost use Rattle.arbiter.specs.Traces.{eventBytes, rawsIn, kindNumber, readKind, readCounted, readTrace, refusalNumber, readNumber, bytesOf, report, bufferAfter, ran, bufferRan};
 ghost use Rattle.light.specs.Light.{Settled};
-ghost use Rattle.step.specs.Short.{kept, shortStep};
+ghost use Rattle.step.specs.Short.{shortStep};
 ghost use Rattle.quiet.specs.Counts.{least};
 ghost use Rattle.traces.specs.Bodies.{kindRead, ranWith, reportWith, headOf};
-ghost use Rattle.traces.specs.Ticks.{isTickRaw, ticksAhead, AllTicks, withSame};
+ghost use Rattle.traces.specs.Ticks.{isTickRaw, AllTicks, withSame};
 use arbiter::Answer;
 use arbiter::Device;
 use arbiter::Kind;
@@ -21,6 +23,7 @@ use arbiter::Report;
 use arbiter::Stepped;
 use arbiter::Strapped;
 use arbiter::TraceRead;
+use fields::rolls_over;
 use format::EVENT_BYTES;
 use format::HEAD_BYTES;
 use format::KIND_COUNT;
@@ -39,12 +42,41 @@ use format::kind_of;
 use format::pins_in;
 use format::put_answer;
 use format::whole_bytes;
+use ports::commanded_side;
+use ports::stopped_side;
 use quiet::after_ticks;
 use quiet::settled_ticks;
+use registers::empties_own;
+use registers::fallen_side;
+use registers::reader_side;
+use registers::sender_side;
+use resets::reset_device;
+use sides::answer_kept;
+use sides::bus_lined;
+use sides::byte_read;
+use sides::claims_at;
+use sides::commanded_number;
+use sides::device_of;
+use sides::ends_no_grant;
+use sides::fits_byte;
+use sides::fits_levels;
+use sides::fits_none;
+use sides::fits_one;
+use sides::granted_at;
+use sides::intin_fell;
+use sides::is_initialising;
+use sides::is_resting;
+use sides::kind_told;
+use sides::lines_shown;
+use sides::partner_written;
+use sides::takes_bytes;
+use sides::writes_lightly;
+use sides::written_number;
 use step::answered;
 use step::fresh;
 use step::step_told;
 use straps::address_of;
+use writing::light_writer;
 
 // A report with the kind of its device alone, by its number.
 pub struct Head {
@@ -141,31 +173,10 @@ fn is_tick(r: Raw) -> bool
     wide(r.kind) + 256 * wide(r.x) + 65536 * wide(r.y) + 16777216 * wide(r.z) == 6
 }
 
-fn ticks_ahead(settled: bool, r: Raw, d: Device) -> u16
-    ensures { λ k. ⌜ k ≡ ticksAhead settled r d ⌝ }
-{
-    if settled & is_tick(r) {
-        settled_ticks(d)
-    } else {
-        0
-    }
-}
-
 fn least_of(x: usize, y: usize) -> usize
     ensures { λ r. ⌜ r ≡ least x y ⌝ }
 {
     if x < y { x } else { y }
-}
-
-fn quiet_answer(owner: u8, lines: u8) -> Answer
-    ensures { λ r. ⌜ r ≡ kept 0 0 owner lines ⌝ }
-{
-    Answer {
-        outcome: 0,
-        read: 0,
-        owner,
-        lines,
-    }
 }
 
 // Event i and the TICKs right after it, up to event last, answered alike: the event that they end at.
@@ -187,14 +198,18 @@ fn play_ticks(events: &[u8], answers: &mut [u8], i: usize, last: usize, a: Answe
 }
 
 // The one place here that steps a device: a function as large as a step is inlined only where a single place calls it.
-fn step_one(settled: bool, owner: u8, lines: u8, d: Device, r: Raw) -> Stepped
-    ensures { λ s. ⌜ s ≡ shortStep settled owner lines d r ⌝ }
+fn step_one(owner: u8, lines: u8, d: Device, r: Raw) -> Stepped
+    ensures { λ s. ⌜ s ≡ shortStep false owner lines d r ⌝ }
 {
-    step_told(settled, owner, lines, d, r)
+    step_told(false, owner, lines, d, r)
 }
 
-// The first n events of these bytes, each answered at its place. From a device that is settled, TICKs that move nothing but counts are taken
-// together, and light events end with their own effect.
+// The first n events of these bytes, each answered at its place. In a device that is settled TICKs that move nothing but counts are taken together, and an
+// event that is refused or ends with its own effect does so here, on the one side or the two that it moves. All else is stepped in full.
+//
+// It is one long function because it has to be fast: the two sides stand in an array of the loop and are taken by the number of their master, without a
+// branch on it, which no function over them by value or by reference keeps; and the step, which is as large as it is, is inlined only where a
+// single place calls it.
 fn play(settled: bool, from: Device, events: &[u8], answers: &mut [u8], n: usize) -> Device
     requires { ⌜ (eventBytes * n ≤ length (now events)) × (eventBytes * n ≤ length (now answers)) × (settled ≡ true → Settled from) ⌝ }
     ensures { λ r. ⌜ (r ≡ runFrom from (rawsIn n (now (events .entry)))) × (now (answers .exit) ≡ bytesOf (answersFrom from (rawsIn n (now (events .entry)))) ++ drop (eventBytes * n) (now (answers .entry))) ⌝ }
@@ -202,27 +217,203 @@ fn play(settled: bool, from: Device, events: &[u8], answers: &mut [u8], n: usize
     let first = answered(0, 0, from);
     let mut owner = first.owner;
     let mut lines = first.lines;
-    let mut d = from;
+    let kind = from.kind;
+    let rolls = rolls_over(from);
+    let side0 = from.side0;
+    let side1 = from.side1;
+    let mut sides = [side0, side1];
+    let mut bus = from.bus;
+    let mut arb = from.arb;
     let mut i: usize = 0;
     while i < n {
         let r = event_at(events, i);
-        let k = ticks_ahead(settled, r, d);
-        if k == 0 {
-            let s = step_one(settled, owner, lines, d, r);
-            let a = s.answer;
-            put_answer(answers, i, a);
-            d = s.device;
-            owner = a.owner;
-            lines = a.lines;
-            i += 1;
-        } else {
-            let last = i + least_of(k as usize, n - i);
-            let j = play_ticks(events, answers, i, last, quiet_answer(owner, lines));
-            d = after_ticks((j - i) as u16, d);
-            i = j;
+        let what = kind_told(settled, r);
+        let at = (r.x % 2) as usize;
+        match what {
+            0 => {
+                if fits_byte(r) {
+                    let s = sides[at];
+                    sides[at] = commanded_side(r.y, s);
+                    put_answer(
+                        answers,
+                        i,
+                        answer_kept(commanded_number(r.y), 0, owner, lines),
+                    );
+                    i += 1;
+                    continue;
+                }
+            }
+            1 => {
+                if fits_byte(r) {
+                    let s = sides[at];
+                    if takes_bytes(s) {
+                        if writes_lightly(r.x, r.y, arb, s) {
+                            let o = sides[1 - at];
+                            sides[at] = light_writer(rolls, granted_at(r.x, arb), r.y, s);
+                            sides[1 - at] = partner_written(r.y, s, o);
+                            let s0 = sides[0];
+                            let s1 = sides[1];
+                            lines = lines_shown(s0, s1, bus);
+                            put_answer(answers, i, answer_kept(written_number(s), 0, owner, lines));
+                            i += 1;
+                            continue;
+                        }
+                    } else {
+                        put_answer(answers, i, answer_kept(4, 0, owner, lines));
+                        i += 1;
+                        continue;
+                    }
+                }
+            }
+            2 => {
+                if fits_one(r) {
+                    let s = sides[at];
+                    let o = sides[1 - at];
+                    let read = byte_read(r.x, arb, s, o, bus);
+                    sides[at] = reader_side(s);
+                    if empties_own(s) {
+                        sides[1 - at] = sender_side(true, o);
+                        let s0 = sides[0];
+                        let s1 = sides[1];
+                        lines = lines_shown(s0, s1, bus);
+                        put_answer(answers, i, answer_kept(0, read, owner, lines));
+                        i += 1;
+                        continue;
+                    } else {
+                        put_answer(answers, i, answer_kept(0, read, owner, lines));
+                        i += 1;
+                        continue;
+                    }
+                }
+            }
+            3 => {
+                if fits_one(r) {
+                    let s = sides[at];
+                    if is_resting(s) {
+                        put_answer(answers, i, answer_kept(4, 0, owner, lines));
+                        i += 1;
+                        continue;
+                    } else {
+                        if claims_at(r.x, arb) {} else {
+                            sides[at] = stopped_side(s);
+                            put_answer(answers, i, answer_kept(0, 0, owner, lines));
+                            i += 1;
+                            continue;
+                        }
+                    }
+                }
+            }
+            4 => {
+                if r.z == 0 {
+                    let s0 = sides[0];
+                    let s1 = sides[1];
+                    if takes_bytes(s0) & takes_bytes(s1) {} else {
+                        put_answer(answers, i, answer_kept(4, 0, owner, lines));
+                        i += 1;
+                        continue;
+                    }
+                }
+            }
+            5 => {
+                if fits_levels(r) {
+                    let s0 = sides[0];
+                    let s1 = sides[1];
+                    let after = bus_lined(r, bus);
+                    if ends_no_grant(kind, s0, s1, after, arb) {
+                        let fell = intin_fell(r, bus);
+                        let e0 = fallen_side(fell, s0);
+                        let e1 = fallen_side(fell, s1);
+                        sides[0] = e0;
+                        sides[1] = e1;
+                        bus = after;
+                        lines = lines_shown(e0, e1, after);
+                        put_answer(answers, i, answer_kept(0, 0, owner, lines));
+                        i += 1;
+                        continue;
+                    }
+                }
+            }
+            6 => {
+                if is_tick(r) {
+                    let s0 = sides[0];
+                    let s1 = sides[1];
+                    let d = device_of(kind, s0, s1, bus, arb);
+                    let k = settled_ticks(d);
+                    if k == 0 {} else {
+                        let last = i + least_of(k as usize, n - i);
+                        let j = play_ticks(
+                            events,
+                            answers,
+                            i,
+                            last,
+                            answer_kept(0, 0, owner, lines),
+                        );
+                        let e = after_ticks((j - i) as u16, d);
+                        bus = e.bus;
+                        arb = e.arb;
+                        i = j;
+                        continue;
+                    }
+                }
+            }
+            7 => {
+                if fits_one(r) {
+                    if is_initialising(arb) {} else {
+                        put_answer(answers, i, answer_kept(4, 0, owner, lines));
+                        i += 1;
+                        continue;
+                    }
+                }
+            }
+            8 => {
+                if fits_none(r) {
+                    let s0 = sides[0];
+                    let s1 = sides[1];
+                    let d = reset_device(0, device_of(kind, s0, s1, bus, arb));
+                    let a = answered(0, 0, d);
+                    put_answer(answers, i, a);
+                    let e0 = d.side0;
+                    let e1 = d.side1;
+                    sides[0] = e0;
+                    sides[1] = e1;
+                    bus = d.bus;
+                    arb = d.arb;
+                    owner = a.owner;
+                    lines = a.lines;
+                    i += 1;
+                    continue;
+                }
+            }
+            9 => {
+                if fits_byte(r) {
+                    if r.y == 0x06 {} else {
+                        put_answer(answers, i, answer_kept(1, 0, owner, lines));
+                        i += 1;
+                        continue;
+                    }
+                }
+            }
+            _ => {}
         }
+        let s0 = sides[0];
+        let s1 = sides[1];
+        let s = step_one(owner, lines, device_of(kind, s0, s1, bus, arb), r);
+        let a = s.answer;
+        put_answer(answers, i, a);
+        let e = s.device;
+        let e0 = e.side0;
+        let e1 = e.side1;
+        sides[0] = e0;
+        sides[1] = e1;
+        bus = e.bus;
+        arb = e.arb;
+        owner = a.owner;
+        lines = a.lines;
+        i += 1;
     }
-    d
+    let s0 = sides[0];
+    let s1 = sides[1];
+    device_of(kind, s0, s1, bus, arb)
 }
 
 fn ran_with(number: u8, events: usize, device: Device) -> Ran

@@ -5,6 +5,8 @@ use Rattle.writing.proofs.writable_at.Reads as writable-at
 use Rattle.writing.proofs.written_by_0.Reads as written-by-0
 use Rattle.writing.proofs.written_by_1.Reads as written-by-1
 use Rattle.writing.proofs.paired_by.Reads as paired-by
+use Rattle.writing.proofs.light_writer.Reads as light-writer
+use Rattle.writing.proofs.light_partner.Reads as light-partner
 
 pub writable-at-once : OneResult writable-at.Post
 writable-at-once κ a x y s t p q = once p q
@@ -17,3 +19,9 @@ written-by-1-once κ a x y s t p q = once p q
 
 pub paired-by-once : OneResult paired-by.Post
 paired-by-once κ a x y s t p q = once p q
+
+pub light-writer-once : OneResult light-writer.Post
+light-writer-once κ a x y s t p q = once p q
+
+pub light-partner-once : OneResult light-partner.Post
+light-partner-once κ a x y s t p q = once p q

@@ -1,97 +1,593 @@
--- `traces::play` meets its contract: the device is the one after i events, their answers stand before the untouched rest, and the last two answer
--- bytes are the device's.
+-- `traces::play` meets its contract: the loop holds the device after i events by its parts, their answers stand before the untouched rest, and the last two
+-- answer bytes are the device's. Each arm of the match is a step (proofs/Arms), and each turn keeps what is known (proofs/Turn).
 -- Assumes nothing.
-use Prim.Native.Nat.{ℕ, _≤_, _<_, _-_, _+_, _*_}
-use mathlib.Core.Path.{_≡_, refl, sym, ap, ap₂, subst, _∙_}
-use mathlib.Core.Bool.{true}
+use Prim.Native.Nat.{ℕ, _≤_, _<_, _-_, _+_, _*_, _%_}
+use mathlib.Core.Path.{_≡_, refl, sym, ap, ap₂, _∙_}
+use mathlib.Core.Bool.{Bool, true, false, _&&_}
 use mathlib.Core.List.{_++_}
 use native.Mathlib.Omega.{arith}
 use borrow.Author.Needs.{needs}
-use lib.ListN.{length, drop}
-use Rattle.arbiter.specs.Steps.{ownerByte, linesByte, step, runFrom, answersFrom}
-use Rattle.arbiter.specs.Traces.{eventBytes, rawsIn, bytesOf, eventCount}
-use Rattle.light.specs.Light.{Settled}
-use Rattle.step.specs.Short.{kept}
-use Rattle.light.proofs.Settles.{stays-settled}
-use Rattle.light.proofs.Short.{short-is-step, answer-shows}
-use Rattle.quiet.specs.Quiet.{countsLeft}
-use Rattle.format.specs.Places.{eventAt}
+use borrow.Author.Tests.{eq-eqb, ne-eqb}
+use lib.ListN.{length, drop, set}
+use Rattle.arbiter.specs.Registers.{ownWritten}
+use Rattle.arbiter.specs.Effects.{writeRisen, wasReset}
+use Rattle.arbiter.specs.Steps.{runFrom, answersFrom}
+use Rattle.arbiter.specs.Traces.{eventBytes, rawsIn, bytesOf}
 use Rattle.arbiter.specs.declared.Answer.{Answer}
-use Rattle.arbiter.specs.declared.Stepped.{Stepped}
-use Rattle.traces.specs.Ticks.{isTickRaw}
-use Rattle.traces.proofs.Runs.{again-device, again-out}
-use Rattle.traces.proofs.Batch.{least-both, some-one, some-ahead, all-from, together}
+use Rattle.arbiter.specs.declared.Device.{Device}
+use Rattle.step.specs.Carried.{steppedWith}
+use Rattle.step.specs.Short.{kept, shortStep}
+use Rattle.traces.proofs.Batch.{least-both, some-one}
+use Rattle.traces.proofs.Arms.{sideAt, held, told as told-kind, first-holds, reads-command, reads-write, reads-read, reads-stop, reads-pair, reads-lines, reads-pulse, reads-reset, reads-call, command-arm, stop-refused, stop-arm, write-refused, write-arm, read-emptying, read-arm, pair-refused, pulse-refused, lines-arm, call-arm, reset-arm}
+use Rattle.traces.proofs.Turn.{Known, turned, stepped-on, ticked-on, two-on, told-step}
 use Rattle.traces.proofs.play.Statement.{statement}
 use Rattle.traces.proofs.play.Tie as tie
 
 abbrev Inv-loop : tie.InvT-loop
-Inv-loop settled events answers₀ n owner₀ lines₀ d₀ i₀ answers owner lines d i =
-    (i ≤ n)
-    × (length answers ≡ length answers₀)
-    × (d ≡ runFrom d₀ (rawsIn i events))
-    × (answers ≡ bytesOf (answersFrom d₀ (rawsIn i events)) ++ drop (eventBytes * i) answers₀)
-    × (settled ≡ true → Settled d)
-    × (owner ≡ ownerByte d)
-    × (lines ≡ linesByte d)
+Inv-loop settled events answers₀ n owner₀ lines₀ kind rolls sides₀ bus₀ arb₀ i₀ answers owner lines sides bus arb i =
+    (length sides ≡ 2) × Known settled events answers₀ n (held kind sides₀ bus₀ arb₀) answers owner lines (held kind sides bus arb) i
 
 abbrev μ-loop : tie.MeasureT-loop
-μ-loop settled events answers₀ n owner₀ lines₀ d₀ i₀ answers owner lines d i = n - i
+μ-loop settled events answers₀ n owner₀ lines₀ kind rolls sides₀ bus₀ arb₀ i₀ answers owner lines sides bus arb i = n - i
 
 answered-requires : tie.Need-answered-requires Inv-loop μ-loop
 answered-requires c κs = search needs
 
+rolls-over-requires : tie.Need-rolls-over-requires Inv-loop μ-loop
+rolls-over-requires c κs = search needs
+
 loop-holds : tie.Need-loop-holds Inv-loop μ-loop
 unfolding runFrom answersFrom rawsIn
 loop-holds c =
-    let shown = c .answered .ensures in
-    (omega arith, refl, refl, refl, c .before .before .before .pre .2, ap (λ (a : Answer). a .owner) shown, ap (λ (a : Answer). a .lines) shown)
+    let start = c .before .before .before .before .before .before .before .before in
+    let shown = c .before .before .before .before .before .answered .ensures in
+    (refl, (omega arith, refl, refl, refl, start .pre .2, ap (λ (a : Answer). a .owner) shown, ap (λ (a : Answer). a .lines) shown))
 
 event-at-requires : tie.Need-event-at-requires Inv-loop μ-loop
 event-at-requires c κs = search needs
 
-ticks-ahead-requires : tie.Need-ticks-ahead-requires Inv-loop μ-loop
-ticks-ahead-requires c κs = search needs
+kind-told-requires : tie.Need-kind-told-requires Inv-loop μ-loop
+kind-told-requires c κs = search needs
 
-step-one-requires : tie.Need-step-one-requires Inv-loop μ-loop
-step-one-requires c κs = search needs
+cast-at : tie.Need-cast-at Inv-loop μ-loop
+cast-at c = omega arith
+
+fits-byte-requires : tie.Need-fits-byte-requires Inv-loop μ-loop
+fits-byte-requires c κs = search needs
+
+mul-s : tie.Need-mul-s Inv-loop μ-loop
+mul-s c = omega arith
+
+array-copy-out-s : tie.Need-array-copy-out-s Inv-loop μ-loop
+array-copy-out-s c = omega arith
+
+commanded-side-requires : tie.Need-commanded-side-requires Inv-loop μ-loop
+commanded-side-requires c κs = search needs
+
+mul-sides : tie.Need-mul-sides Inv-loop μ-loop
+mul-sides c = omega arith
+
+array-set-from-sides : tie.Need-array-set-from-sides Inv-loop μ-loop
+array-set-from-sides c = omega arith
+
+commanded-number-requires : tie.Need-commanded-number-requires Inv-loop μ-loop
+commanded-number-requires c κs = search needs
+
+answer-kept-requires : tie.Need-answer-kept-requires Inv-loop μ-loop
+answer-kept-requires c κs = search needs
 
 put-answer-requires : tie.Need-put-answer-requires Inv-loop μ-loop
 put-answer-requires c κs = search needs
 
 add-i : tie.Need-add-i Inv-loop μ-loop
-add-i c =
-    let tested = c .before .before .before .before .before .before .before .before .before .before in
-    omega (arith, tested .loop-test .taken, tested .before .before .before .before .before .good .1 .1 .1 .1)
+add-i c = omega (arith, c .before .before .before .before .before .before .before .before .before .before .before .before .before .before .loop-test .taken, c .before .before .before .before .before .before .before .before .before .before .before .before .before .before .before .before .before .before .before .before .before .before .before .before .good .1 .1 .1 .1)
 
 loop-less : tie.Need-loop-less Inv-loop μ-loop
-loop-less c = omega arith
+loop-less c = omega (arith, c .before .before .before .before .before .before .before .before .before .before .before .before .before .before .loop-test .taken)
 
 loop-again : tie.Need-loop-again Inv-loop μ-loop
 loop-again c =
-    let put = c .before .before .before in
-    let took = put .before .before .before in
-    let ahead = took .before .before in
-    let tested = ahead .before .before in
-    let at = tested .before in
-    let start = at .before .before .before .before in
-    let inv = at .loop .inv in
-    let d = at .loop .d in
-    let events = start .args .events .now in
-    let more : at .loop .i < eventCount events = omega (arith, tested .loop-test .taken, start .pre .0) in
-    let room : eventBytes * (at .loop .i + 1) ≤ length (start .args .answers .now) = omega (arith, tested .loop-test .taken, start .pre .1) in
-    let read = ahead .before .event-at .ensures in
-    let stepped =
-    took .step-one .ensures ∙ short-is-step (start .args .settled) (at .loop .owner) (at .loop .lines) d _ (inv .4) (inv .5) (inv .6) ∙ ap (step d) read
-    in
-    let shows = answer-shows d (eventAt (at .loop .i) events) in (
-      omega (arith, tested .loop-test .taken),
-      put .put-answer .kept .0 ∙ inv .1,
-      again-device _ events (at .loop .i) d _ more (inv .2) stepped,
-      again-out _ events (at .loop .i) d _ more (inv .2) stepped (start .args .answers .now) _ _ (inv .3) (inv .1) (put .put-answer .ensures) room,
-      λ h. subst Settled (sym (ap (λ (s : Stepped). s .device) stepped)) (stays-settled d (eventAt (at .loop .i) events) (inv .4 h)),
-      ap (λ (s : Stepped). s .answer .owner) stepped ∙ shows .0 ∙ ap (λ (s : Stepped). ownerByte (s .device)) (sym stepped),
-      ap (λ (s : Stepped). s .answer .lines) stepped ∙ shows .1 ∙ ap (λ (s : Stepped). linesByte (s .device)) (sym stepped),
+    let at = c .before .before .before .before .before .before .before .before .before .before .before .before .before .before .before .loop in
+    let start = c .before .before .before .before .before .before .before .before .before .before .before .before .before .before .before .before .before .before .before .before .before .before .before .before in
+    let given = start .args in
+    let kind = given .from .kind in
+    let two = at .inv .0 in
+    let known = at .inv .1 in
+    let event = c .before .before .before .before .before .before .before .before .before .before .before .before .before .event-at in
+    let r = event .result in
+    let within = c .before .before .before .before .before .before .before .before .before .before .before .before .before .before .loop-test .taken in
+    let told = told-kind (given .settled) r (c .before .before .before .before .before .before .before .before .before .before .before .before .kind-told .result) 0 (c .before .before .before .before .before .before .before .before .before .before .before .before .kind-told .ensures) (c .before .before .before .before .before .before .before .before .before .before .match .keys1) (omega arith) in
+    let settled = known .4 (told .0) in
+    let fits = sym (c .before .before .before .before .before .before .before .before .before .fits-byte .ensures) ∙ c .before .before .before .before .before .before .before .before .if1 .taken in
+    let side = c .before .before .before .before .before .before .commanded-side in
+    let number = c .before .before .before .before .commanded-number in
+    let arm = command-arm kind (at .sides) (at .bus) (at .arb) two (at .owner) (at .lines) (known .5) (known .6) r (first-holds _ _ fits) (reads-command r (told .1) fits) settled (side .result) (number .result) (side .ensures) (number .ensures) in (
+      two-on (at .sides) _ _ two,
+      turned (given .settled) (given .events .now) (given .answers .now) (given .n) (given .from) (at .answers) (at .owner) (at .lines) (held kind (at .sides) (at .bus) (at .arb)) (at .i) known within (start .pre .0) (start .pre .1)
+          (steppedWith (held kind (set (at .sides) (r .x % 2) (side .result)) (at .bus) (at .arb)) (kept (number .result) 0 (at .owner) (at .lines))) r (event .ensures) (arm) _ _ (c .before .before .put-answer .kept .0) (c .before .before .put-answer .ensures) (c .before .before .before .answer-kept .ensures),
     )
+
+fits-byte-requires-2 : tie.Need-fits-byte-requires-2 Inv-loop μ-loop
+fits-byte-requires-2 c κs = search needs
+
+mul-s-2 : tie.Need-mul-s-2 Inv-loop μ-loop
+mul-s-2 c = omega arith
+
+array-copy-out-s-2 : tie.Need-array-copy-out-s-2 Inv-loop μ-loop
+array-copy-out-s-2 c = omega arith
+
+takes-bytes-requires : tie.Need-takes-bytes-requires Inv-loop μ-loop
+takes-bytes-requires c κs = search needs
+
+writes-lightly-requires : tie.Need-writes-lightly-requires Inv-loop μ-loop
+writes-lightly-requires c κs = search needs
+
+sub-o : tie.Need-sub-o Inv-loop μ-loop
+sub-o c = omega arith
+
+mul-o : tie.Need-mul-o Inv-loop μ-loop
+mul-o c = omega arith
+
+array-copy-out-o : tie.Need-array-copy-out-o Inv-loop μ-loop
+array-copy-out-o c = omega arith
+
+granted-at-requires : tie.Need-granted-at-requires Inv-loop μ-loop
+granted-at-requires c κs = search needs
+
+light-writer-requires : tie.Need-light-writer-requires Inv-loop μ-loop
+light-writer-requires c κs = search needs
+
+mul-sides-2 : tie.Need-mul-sides-2 Inv-loop μ-loop
+mul-sides-2 c = omega arith
+
+array-set-from-sides-2 : tie.Need-array-set-from-sides-2 Inv-loop μ-loop
+array-set-from-sides-2 c = omega arith
+
+partner-written-requires : tie.Need-partner-written-requires Inv-loop μ-loop
+partner-written-requires c κs = search needs
+
+sub-sides : tie.Need-sub-sides Inv-loop μ-loop
+sub-sides c = omega arith
+
+mul-sides-3 : tie.Need-mul-sides-3 Inv-loop μ-loop
+mul-sides-3 c = omega arith
+
+array-set-from-sides-3 : tie.Need-array-set-from-sides-3 Inv-loop μ-loop
+array-set-from-sides-3 c = omega arith
+
+array-copy-out-s0 : tie.Need-array-copy-out-s0 Inv-loop μ-loop
+array-copy-out-s0 c = search needs
+
+array-copy-out-s1 : tie.Need-array-copy-out-s1 Inv-loop μ-loop
+array-copy-out-s1 c = search needs
+
+lines-shown-requires : tie.Need-lines-shown-requires Inv-loop μ-loop
+lines-shown-requires c κs = search needs
+
+written-number-requires : tie.Need-written-number-requires Inv-loop μ-loop
+written-number-requires c κs = search needs
+
+answer-kept-requires-2 : tie.Need-answer-kept-requires-2 Inv-loop μ-loop
+answer-kept-requires-2 c κs = search needs
+
+put-answer-requires-2 : tie.Need-put-answer-requires-2 Inv-loop μ-loop
+put-answer-requires-2 c κs = search needs
+
+add-i-2 : tie.Need-add-i-2 Inv-loop μ-loop
+add-i-2 c = omega (arith, c .before .before .before .before .before .before .before .before .before .before .before .before .before .before .before .before .before .before .before .before .before .before .before .before .loop-test .taken, c .before .before .before .before .before .before .before .before .before .before .before .before .before .before .before .before .before .before .before .before .before .before .before .before .before .before .before .before .before .before .before .before .before .before .good .1 .1 .1 .1)
+
+loop-less-2 : tie.Need-loop-less-2 Inv-loop μ-loop
+loop-less-2 c = omega (arith, c .before .before .before .before .before .before .before .before .before .before .before .before .before .before .before .before .before .before .before .before .before .before .before .before .loop-test .taken)
+
+loop-again-2 : tie.Need-loop-again-2 Inv-loop μ-loop
+loop-again-2 c =
+    let at = c .before .before .before .before .before .before .before .before .before .before .before .before .before .before .before .before .before .before .before .before .before .before .before .before .before .loop in
+    let start = c .before .before .before .before .before .before .before .before .before .before .before .before .before .before .before .before .before .before .before .before .before .before .before .before .before .before .before .before .before .before .before .before .before .before in
+    let given = start .args in
+    let kind = given .from .kind in
+    let two = at .inv .0 in
+    let known = at .inv .1 in
+    let event = c .before .before .before .before .before .before .before .before .before .before .before .before .before .before .before .before .before .before .before .before .before .before .before .event-at in
+    let r = event .result in
+    let within = c .before .before .before .before .before .before .before .before .before .before .before .before .before .before .before .before .before .before .before .before .before .before .before .before .loop-test .taken in
+    let told = told-kind (given .settled) r (c .before .before .before .before .before .before .before .before .before .before .before .before .before .before .before .before .before .before .before .before .before .before .kind-told .result) 1 (c .before .before .before .before .before .before .before .before .before .before .before .before .before .before .before .before .before .before .before .before .before .before .kind-told .ensures) (c .before .before .before .before .before .before .before .before .before .before .before .before .before .before .before .before .before .before .before .before .match .keys2) (omega arith) in
+    let settled = known .4 (told .0) in
+    let fits = sym (c .before .before .before .before .before .before .before .before .before .before .before .before .before .before .before .before .before .before .before .fits-byte2 .ensures) ∙ c .before .before .before .before .before .before .before .before .before .before .before .before .before .before .before .before .before .before .if2 .taken in
+    let opened = sym (c .before .before .before .before .before .before .before .before .before .before .before .before .before .before .before .before .takes-bytes .ensures) ∙ c .before .before .before .before .before .before .before .before .before .before .before .before .before .before .before .if3 .taken in
+    let light = sym (c .before .before .before .before .before .before .before .before .before .before .before .before .before .before .writes-lightly .ensures) ∙ c .before .before .before .before .before .before .before .before .before .before .before .before .before .if4 .taken in
+    let writer = c .before .before .before .before .before .before .before .before .before .before .light-writer in
+    let partner = c .before .before .before .before .before .before .before .before .before .partner-written in
+    let number = c .before .before .before .before .written-number in
+    let lines = c .before .before .before .before .before .before .lines-shown in
+    let s = sideAt (at .sides) (r .x % 2) in
+    let wrote = writer .ensures ∙ ap₂ (λ (x y : Bool). writeRisen x (ownWritten y (s .pointer) (r .y) s)) (c .before .before .before .before .before .before .before .before .before .before .before .before .before .before .before .before .before .before .before .before .before .before .before .before .before .before .before .before .before .before .rolls-over .ensures) (c .before .before .before .before .before .before .before .before .before .before .before .granted-at .ensures) in
+    let arm = write-arm kind (at .sides) (at .bus) (at .arb) two (at .owner) (at .lines) (known .5) (known .6) r (first-holds _ _ fits) (reads-write r (told .1) fits) settled opened light (writer .result) (partner .result) (number .result) (lines .result) wrote (partner .ensures) (number .ensures) (lines .ensures) in (
+      two-on (set (at .sides) _ _) _ _ (two-on (at .sides) _ _ two),
+      turned (given .settled) (given .events .now) (given .answers .now) (given .n) (given .from) (at .answers) (at .owner) (at .lines) (held kind (at .sides) (at .bus) (at .arb)) (at .i) known within (start .pre .0) (start .pre .1)
+          (steppedWith (held kind (set (set (at .sides) (r .x % 2) (writer .result)) (1 - r .x % 2) (partner .result)) (at .bus) (at .arb)) (kept (number .result) 0 (at .owner) (lines .result))) r (event .ensures) (arm) _ _ (c .before .before .put-answer2 .kept .0) (c .before .before .put-answer2 .ensures) (c .before .before .before .answer-kept2 .ensures),
+    )
+
+answer-kept-requires-3 : tie.Need-answer-kept-requires-3 Inv-loop μ-loop
+answer-kept-requires-3 c κs = search needs
+
+put-answer-requires-3 : tie.Need-put-answer-requires-3 Inv-loop μ-loop
+put-answer-requires-3 c κs = search needs
+
+add-i-3 : tie.Need-add-i-3 Inv-loop μ-loop
+add-i-3 c = omega (arith, c .before .before .before .before .before .before .before .before .before .before .before .before .before .before .loop-test .taken, c .before .before .before .before .before .before .before .before .before .before .before .before .before .before .before .before .before .before .before .before .before .before .before .before .good .1 .1 .1 .1)
+
+loop-less-3 : tie.Need-loop-less-3 Inv-loop μ-loop
+loop-less-3 c = omega (arith, c .before .before .before .before .before .before .before .before .before .before .before .before .before .before .loop-test .taken)
+
+loop-again-3 : tie.Need-loop-again-3 Inv-loop μ-loop
+loop-again-3 c =
+    let at = c .before .before .before .before .before .before .before .before .before .before .before .before .before .before .before .loop in
+    let start = c .before .before .before .before .before .before .before .before .before .before .before .before .before .before .before .before .before .before .before .before .before .before .before .before in
+    let given = start .args in
+    let kind = given .from .kind in
+    let two = at .inv .0 in
+    let known = at .inv .1 in
+    let event = c .before .before .before .before .before .before .before .before .before .before .before .before .before .event-at in
+    let r = event .result in
+    let within = c .before .before .before .before .before .before .before .before .before .before .before .before .before .before .loop-test .taken in
+    let told = told-kind (given .settled) r (c .before .before .before .before .before .before .before .before .before .before .before .before .kind-told .result) 1 (c .before .before .before .before .before .before .before .before .before .before .before .before .kind-told .ensures) (c .before .before .before .before .before .before .before .before .before .before .match .keys2) (omega arith) in
+    let settled = known .4 (told .0) in
+    let fits = sym (c .before .before .before .before .before .before .before .before .before .fits-byte2 .ensures) ∙ c .before .before .before .before .before .before .before .before .if2 .taken in
+    let shut = sym (c .before .before .before .before .before .before .takes-bytes .ensures) ∙ c .before .before .before .before .before .if3 .left in
+    let arm = write-refused kind (at .sides) (at .bus) (at .arb) two (at .owner) (at .lines) (known .5) (known .6) r (first-holds _ _ fits) (reads-write r (told .1) fits) shut in (
+      two,
+      turned (given .settled) (given .events .now) (given .answers .now) (given .n) (given .from) (at .answers) (at .owner) (at .lines) (held kind (at .sides) (at .bus) (at .arb)) (at .i) known within (start .pre .0) (start .pre .1)
+          (steppedWith (held kind (at .sides) (at .bus) (at .arb)) (kept 4 0 (at .owner) (at .lines))) r (event .ensures) (arm) _ _ (c .before .before .put-answer3 .kept .0) (c .before .before .put-answer3 .ensures) (c .before .before .before .answer-kept3 .ensures),
+    )
+
+fits-one-requires : tie.Need-fits-one-requires Inv-loop μ-loop
+fits-one-requires c κs = search needs
+
+mul-s-3 : tie.Need-mul-s-3 Inv-loop μ-loop
+mul-s-3 c = omega arith
+
+array-copy-out-s-3 : tie.Need-array-copy-out-s-3 Inv-loop μ-loop
+array-copy-out-s-3 c = omega arith
+
+sub-o-2 : tie.Need-sub-o-2 Inv-loop μ-loop
+sub-o-2 c = omega arith
+
+mul-o-2 : tie.Need-mul-o-2 Inv-loop μ-loop
+mul-o-2 c = omega arith
+
+array-copy-out-o-2 : tie.Need-array-copy-out-o-2 Inv-loop μ-loop
+array-copy-out-o-2 c = omega arith
+
+byte-read-requires : tie.Need-byte-read-requires Inv-loop μ-loop
+byte-read-requires c κs = search needs
+
+reader-side-requires : tie.Need-reader-side-requires Inv-loop μ-loop
+reader-side-requires c κs = search needs
+
+mul-sides-4 : tie.Need-mul-sides-4 Inv-loop μ-loop
+mul-sides-4 c = omega arith
+
+array-set-from-sides-4 : tie.Need-array-set-from-sides-4 Inv-loop μ-loop
+array-set-from-sides-4 c = omega arith
+
+empties-own-requires : tie.Need-empties-own-requires Inv-loop μ-loop
+empties-own-requires c κs = search needs
+
+sender-side-requires : tie.Need-sender-side-requires Inv-loop μ-loop
+sender-side-requires c κs = search needs
+
+sub-sides-2 : tie.Need-sub-sides-2 Inv-loop μ-loop
+sub-sides-2 c = omega arith
+
+mul-sides-5 : tie.Need-mul-sides-5 Inv-loop μ-loop
+mul-sides-5 c = omega arith
+
+array-set-from-sides-5 : tie.Need-array-set-from-sides-5 Inv-loop μ-loop
+array-set-from-sides-5 c = omega arith
+
+array-copy-out-s0-2 : tie.Need-array-copy-out-s0-2 Inv-loop μ-loop
+array-copy-out-s0-2 c = search needs
+
+array-copy-out-s1-2 : tie.Need-array-copy-out-s1-2 Inv-loop μ-loop
+array-copy-out-s1-2 c = search needs
+
+lines-shown-requires-2 : tie.Need-lines-shown-requires-2 Inv-loop μ-loop
+lines-shown-requires-2 c κs = search needs
+
+answer-kept-requires-4 : tie.Need-answer-kept-requires-4 Inv-loop μ-loop
+answer-kept-requires-4 c κs = search needs
+
+put-answer-requires-4 : tie.Need-put-answer-requires-4 Inv-loop μ-loop
+put-answer-requires-4 c κs = search needs
+
+add-i-4 : tie.Need-add-i-4 Inv-loop μ-loop
+add-i-4 c = omega (arith, c .before .before .before .before .before .before .before .before .before .before .before .before .before .before .before .before .before .before .before .before .before .loop-test .taken, c .before .before .before .before .before .before .before .before .before .before .before .before .before .before .before .before .before .before .before .before .before .before .before .before .before .before .before .before .before .before .before .good .1 .1 .1 .1)
+
+loop-less-4 : tie.Need-loop-less-4 Inv-loop μ-loop
+loop-less-4 c = omega (arith, c .before .before .before .before .before .before .before .before .before .before .before .before .before .before .before .before .before .before .before .before .before .loop-test .taken)
+
+loop-again-4 : tie.Need-loop-again-4 Inv-loop μ-loop
+loop-again-4 c =
+    let at = c .before .before .before .before .before .before .before .before .before .before .before .before .before .before .before .before .before .before .before .before .before .before .loop in
+    let start = c .before .before .before .before .before .before .before .before .before .before .before .before .before .before .before .before .before .before .before .before .before .before .before .before .before .before .before .before .before .before .before in
+    let given = start .args in
+    let kind = given .from .kind in
+    let two = at .inv .0 in
+    let known = at .inv .1 in
+    let event = c .before .before .before .before .before .before .before .before .before .before .before .before .before .before .before .before .before .before .before .before .event-at in
+    let r = event .result in
+    let within = c .before .before .before .before .before .before .before .before .before .before .before .before .before .before .before .before .before .before .before .before .before .loop-test .taken in
+    let told = told-kind (given .settled) r (c .before .before .before .before .before .before .before .before .before .before .before .before .before .before .before .before .before .before .before .kind-told .result) 2 (c .before .before .before .before .before .before .before .before .before .before .before .before .before .before .before .before .before .before .before .kind-told .ensures) (c .before .before .before .before .before .before .before .before .before .before .before .before .before .before .before .before .before .match .keys3) (omega arith) in
+    let settled = known .4 (told .0) in
+    let fits = sym (c .before .before .before .before .before .before .before .before .before .before .before .before .before .before .before .before .fits-one .ensures) ∙ c .before .before .before .before .before .before .before .before .before .before .before .before .before .before .before .if5 .taken in
+    let emptied = sym (c .before .before .before .before .before .before .before .before .before .before .empties-own .ensures) ∙ c .before .before .before .before .before .before .before .before .before .if6 .taken in
+    let reader = c .before .before .before .before .before .before .before .before .before .before .before .reader-side in
+    let sender = c .before .before .before .before .before .before .before .before .sender-side in
+    let byte = c .before .before .before .before .before .before .before .before .before .before .before .before .byte-read in
+    let lines = c .before .before .before .before .before .lines-shown2 in
+    let arm = read-emptying kind (at .sides) (at .bus) (at .arb) two (at .owner) (at .lines) (known .5) (known .6) r (first-holds _ _ (first-holds _ _ fits)) (reads-read r (told .1) fits) settled emptied (reader .result) (sender .result) (byte .result) (lines .result) (reader .ensures) (sender .ensures) (byte .ensures) (lines .ensures) in (
+      two-on (set (at .sides) _ _) _ _ (two-on (at .sides) _ _ two),
+      turned (given .settled) (given .events .now) (given .answers .now) (given .n) (given .from) (at .answers) (at .owner) (at .lines) (held kind (at .sides) (at .bus) (at .arb)) (at .i) known within (start .pre .0) (start .pre .1)
+          (steppedWith (held kind (set (set (at .sides) (r .x % 2) (reader .result)) (1 - r .x % 2) (sender .result)) (at .bus) (at .arb)) (kept 0 (byte .result) (at .owner) (lines .result))) r (event .ensures) (arm) _ _ (c .before .before .put-answer4 .kept .0) (c .before .before .put-answer4 .ensures) (c .before .before .before .answer-kept4 .ensures),
+    )
+
+answer-kept-requires-5 : tie.Need-answer-kept-requires-5 Inv-loop μ-loop
+answer-kept-requires-5 c κs = search needs
+
+put-answer-requires-5 : tie.Need-put-answer-requires-5 Inv-loop μ-loop
+put-answer-requires-5 c κs = search needs
+
+add-i-5 : tie.Need-add-i-5 Inv-loop μ-loop
+add-i-5 c = omega (arith, c .before .before .before .before .before .before .before .before .before .before .before .before .before .before .before .before .before .loop-test .taken, c .before .before .before .before .before .before .before .before .before .before .before .before .before .before .before .before .before .before .before .before .before .before .before .before .before .before .before .good .1 .1 .1 .1)
+
+loop-less-5 : tie.Need-loop-less-5 Inv-loop μ-loop
+loop-less-5 c = omega (arith, c .before .before .before .before .before .before .before .before .before .before .before .before .before .before .before .before .before .loop-test .taken)
+
+loop-again-5 : tie.Need-loop-again-5 Inv-loop μ-loop
+loop-again-5 c =
+    let at = c .before .before .before .before .before .before .before .before .before .before .before .before .before .before .before .before .before .before .loop in
+    let start = c .before .before .before .before .before .before .before .before .before .before .before .before .before .before .before .before .before .before .before .before .before .before .before .before .before .before .before in
+    let given = start .args in
+    let kind = given .from .kind in
+    let two = at .inv .0 in
+    let known = at .inv .1 in
+    let event = c .before .before .before .before .before .before .before .before .before .before .before .before .before .before .before .before .event-at in
+    let r = event .result in
+    let within = c .before .before .before .before .before .before .before .before .before .before .before .before .before .before .before .before .before .loop-test .taken in
+    let told = told-kind (given .settled) r (c .before .before .before .before .before .before .before .before .before .before .before .before .before .before .before .kind-told .result) 2 (c .before .before .before .before .before .before .before .before .before .before .before .before .before .before .before .kind-told .ensures) (c .before .before .before .before .before .before .before .before .before .before .before .before .before .match .keys3) (omega arith) in
+    let settled = known .4 (told .0) in
+    let fits = sym (c .before .before .before .before .before .before .before .before .before .before .before .before .fits-one .ensures) ∙ c .before .before .before .before .before .before .before .before .before .before .before .if5 .taken in
+    let emptied = sym (c .before .before .before .before .before .before .empties-own .ensures) ∙ c .before .before .before .before .before .if6 .left in
+    let reader = c .before .before .before .before .before .before .before .reader-side in
+    let byte = c .before .before .before .before .before .before .before .before .byte-read in
+    let arm = read-arm kind (at .sides) (at .bus) (at .arb) two (at .owner) (at .lines) (known .5) (known .6) r (first-holds _ _ (first-holds _ _ fits)) (reads-read r (told .1) fits) settled emptied (reader .result) (byte .result) (reader .ensures) (byte .ensures) in (
+      two-on (at .sides) _ _ two,
+      turned (given .settled) (given .events .now) (given .answers .now) (given .n) (given .from) (at .answers) (at .owner) (at .lines) (held kind (at .sides) (at .bus) (at .arb)) (at .i) known within (start .pre .0) (start .pre .1)
+          (steppedWith (held kind (set (at .sides) (r .x % 2) (reader .result)) (at .bus) (at .arb)) (kept 0 (byte .result) (at .owner) (at .lines))) r (event .ensures) (arm) _ _ (c .before .before .put-answer5 .kept .0) (c .before .before .put-answer5 .ensures) (c .before .before .before .answer-kept5 .ensures),
+    )
+
+fits-one-requires-2 : tie.Need-fits-one-requires-2 Inv-loop μ-loop
+fits-one-requires-2 c κs = search needs
+
+mul-s-4 : tie.Need-mul-s-4 Inv-loop μ-loop
+mul-s-4 c = omega arith
+
+array-copy-out-s-4 : tie.Need-array-copy-out-s-4 Inv-loop μ-loop
+array-copy-out-s-4 c = omega arith
+
+is-resting-requires : tie.Need-is-resting-requires Inv-loop μ-loop
+is-resting-requires c κs = search needs
+
+answer-kept-requires-6 : tie.Need-answer-kept-requires-6 Inv-loop μ-loop
+answer-kept-requires-6 c κs = search needs
+
+put-answer-requires-6 : tie.Need-put-answer-requires-6 Inv-loop μ-loop
+put-answer-requires-6 c κs = search needs
+
+add-i-6 : tie.Need-add-i-6 Inv-loop μ-loop
+add-i-6 c = omega (arith, c .before .before .before .before .before .before .before .before .before .before .before .before .before .before .loop-test .taken, c .before .before .before .before .before .before .before .before .before .before .before .before .before .before .before .before .before .before .before .before .before .before .before .before .good .1 .1 .1 .1)
+
+loop-less-6 : tie.Need-loop-less-6 Inv-loop μ-loop
+loop-less-6 c = omega (arith, c .before .before .before .before .before .before .before .before .before .before .before .before .before .before .loop-test .taken)
+
+loop-again-6 : tie.Need-loop-again-6 Inv-loop μ-loop
+loop-again-6 c =
+    let at = c .before .before .before .before .before .before .before .before .before .before .before .before .before .before .before .loop in
+    let start = c .before .before .before .before .before .before .before .before .before .before .before .before .before .before .before .before .before .before .before .before .before .before .before .before in
+    let given = start .args in
+    let kind = given .from .kind in
+    let two = at .inv .0 in
+    let known = at .inv .1 in
+    let event = c .before .before .before .before .before .before .before .before .before .before .before .before .before .event-at in
+    let r = event .result in
+    let within = c .before .before .before .before .before .before .before .before .before .before .before .before .before .before .loop-test .taken in
+    let told = told-kind (given .settled) r (c .before .before .before .before .before .before .before .before .before .before .before .before .kind-told .result) 3 (c .before .before .before .before .before .before .before .before .before .before .before .before .kind-told .ensures) (c .before .before .before .before .before .before .before .before .before .before .match .keys4) (omega arith) in
+    let settled = known .4 (told .0) in
+    let fits = sym (c .before .before .before .before .before .before .before .before .before .fits-one2 .ensures) ∙ c .before .before .before .before .before .before .before .before .if7 .taken in
+    let rests = sym (c .before .before .before .before .before .before .is-resting .ensures) ∙ c .before .before .before .before .before .if8 .taken in
+    let arm = stop-refused kind (at .sides) (at .bus) (at .arb) two (at .owner) (at .lines) (known .5) (known .6) r (first-holds _ _ (first-holds _ _ fits)) (reads-stop r (told .1) fits) rests in (
+      two,
+      turned (given .settled) (given .events .now) (given .answers .now) (given .n) (given .from) (at .answers) (at .owner) (at .lines) (held kind (at .sides) (at .bus) (at .arb)) (at .i) known within (start .pre .0) (start .pre .1)
+          (steppedWith (held kind (at .sides) (at .bus) (at .arb)) (kept 4 0 (at .owner) (at .lines))) r (event .ensures) (arm) _ _ (c .before .before .put-answer6 .kept .0) (c .before .before .put-answer6 .ensures) (c .before .before .before .answer-kept6 .ensures),
+    )
+
+claims-at-requires : tie.Need-claims-at-requires Inv-loop μ-loop
+claims-at-requires c κs = search needs
+
+stopped-side-requires : tie.Need-stopped-side-requires Inv-loop μ-loop
+stopped-side-requires c κs = search needs
+
+mul-sides-6 : tie.Need-mul-sides-6 Inv-loop μ-loop
+mul-sides-6 c = omega arith
+
+array-set-from-sides-6 : tie.Need-array-set-from-sides-6 Inv-loop μ-loop
+array-set-from-sides-6 c = omega arith
+
+answer-kept-requires-7 : tie.Need-answer-kept-requires-7 Inv-loop μ-loop
+answer-kept-requires-7 c κs = search needs
+
+put-answer-requires-7 : tie.Need-put-answer-requires-7 Inv-loop μ-loop
+put-answer-requires-7 c κs = search needs
+
+add-i-7 : tie.Need-add-i-7 Inv-loop μ-loop
+add-i-7 c = omega (arith, c .before .before .before .before .before .before .before .before .before .before .before .before .before .before .before .before .before .loop-test .taken, c .before .before .before .before .before .before .before .before .before .before .before .before .before .before .before .before .before .before .before .before .before .before .before .before .before .before .before .good .1 .1 .1 .1)
+
+loop-less-7 : tie.Need-loop-less-7 Inv-loop μ-loop
+loop-less-7 c = omega (arith, c .before .before .before .before .before .before .before .before .before .before .before .before .before .before .before .before .before .loop-test .taken)
+
+loop-again-7 : tie.Need-loop-again-7 Inv-loop μ-loop
+loop-again-7 c =
+    let at = c .before .before .before .before .before .before .before .before .before .before .before .before .before .before .before .before .before .before .loop in
+    let start = c .before .before .before .before .before .before .before .before .before .before .before .before .before .before .before .before .before .before .before .before .before .before .before .before .before .before .before in
+    let given = start .args in
+    let kind = given .from .kind in
+    let two = at .inv .0 in
+    let known = at .inv .1 in
+    let event = c .before .before .before .before .before .before .before .before .before .before .before .before .before .before .before .before .event-at in
+    let r = event .result in
+    let within = c .before .before .before .before .before .before .before .before .before .before .before .before .before .before .before .before .before .loop-test .taken in
+    let told = told-kind (given .settled) r (c .before .before .before .before .before .before .before .before .before .before .before .before .before .before .before .kind-told .result) 3 (c .before .before .before .before .before .before .before .before .before .before .before .before .before .before .before .kind-told .ensures) (c .before .before .before .before .before .before .before .before .before .before .before .before .before .match .keys4) (omega arith) in
+    let settled = known .4 (told .0) in
+    let fits = sym (c .before .before .before .before .before .before .before .before .before .before .before .before .fits-one2 .ensures) ∙ c .before .before .before .before .before .before .before .before .before .before .before .if7 .taken in
+    let opened = sym (c .before .before .before .before .before .before .before .before .before .is-resting .ensures) ∙ c .before .before .before .before .before .before .before .before .if8 .left in
+    let claims = sym (c .before .before .before .before .before .before .before .claims-at .ensures) ∙ c .before .before .before .before .before .before .if9 .left in
+    let side = c .before .before .before .before .before .stopped-side in
+    let arm = stop-arm kind (at .sides) (at .bus) (at .arb) two (at .owner) (at .lines) (known .5) (known .6) r (first-holds _ _ (first-holds _ _ fits)) (reads-stop r (told .1) fits) settled opened claims (side .result) (side .ensures) in (
+      two-on (at .sides) _ _ two,
+      turned (given .settled) (given .events .now) (given .answers .now) (given .n) (given .from) (at .answers) (at .owner) (at .lines) (held kind (at .sides) (at .bus) (at .arb)) (at .i) known within (start .pre .0) (start .pre .1)
+          (steppedWith (held kind (set (at .sides) (r .x % 2) (side .result)) (at .bus) (at .arb)) (kept 0 0 (at .owner) (at .lines))) r (event .ensures) (arm) _ _ (c .before .before .put-answer7 .kept .0) (c .before .before .put-answer7 .ensures) (c .before .before .before .answer-kept7 .ensures),
+    )
+
+array-copy-out-s0-3 : tie.Need-array-copy-out-s0-3 Inv-loop μ-loop
+array-copy-out-s0-3 c = search needs
+
+array-copy-out-s1-3 : tie.Need-array-copy-out-s1-3 Inv-loop μ-loop
+array-copy-out-s1-3 c = search needs
+
+takes-bytes-requires-2 : tie.Need-takes-bytes-requires-2 Inv-loop μ-loop
+takes-bytes-requires-2 c κs = search needs
+
+takes-bytes-requires-3 : tie.Need-takes-bytes-requires-3 Inv-loop μ-loop
+takes-bytes-requires-3 c κs = search needs
+
+answer-kept-requires-8 : tie.Need-answer-kept-requires-8 Inv-loop μ-loop
+answer-kept-requires-8 c κs = search needs
+
+put-answer-requires-8 : tie.Need-put-answer-requires-8 Inv-loop μ-loop
+put-answer-requires-8 c κs = search needs
+
+add-i-8 : tie.Need-add-i-8 Inv-loop μ-loop
+add-i-8 c = omega (arith, c .before .before .before .before .before .before .before .before .before .before .before .before .before .before .before .before .loop-test .taken, c .before .before .before .before .before .before .before .before .before .before .before .before .before .before .before .before .before .before .before .before .before .before .before .before .before .before .good .1 .1 .1 .1)
+
+loop-less-8 : tie.Need-loop-less-8 Inv-loop μ-loop
+loop-less-8 c = omega (arith, c .before .before .before .before .before .before .before .before .before .before .before .before .before .before .before .before .loop-test .taken)
+
+loop-again-8 : tie.Need-loop-again-8 Inv-loop μ-loop
+loop-again-8 c =
+    let at = c .before .before .before .before .before .before .before .before .before .before .before .before .before .before .before .before .before .loop in
+    let start = c .before .before .before .before .before .before .before .before .before .before .before .before .before .before .before .before .before .before .before .before .before .before .before .before .before .before in
+    let given = start .args in
+    let kind = given .from .kind in
+    let two = at .inv .0 in
+    let known = at .inv .1 in
+    let event = c .before .before .before .before .before .before .before .before .before .before .before .before .before .before .before .event-at in
+    let r = event .result in
+    let within = c .before .before .before .before .before .before .before .before .before .before .before .before .before .before .before .before .loop-test .taken in
+    let told = told-kind (given .settled) r (c .before .before .before .before .before .before .before .before .before .before .before .before .before .before .kind-told .result) 4 (c .before .before .before .before .before .before .before .before .before .before .before .before .before .before .kind-told .ensures) (c .before .before .before .before .before .before .before .before .before .before .before .before .match .keys5) (omega arith) in
+    let settled = known .4 (told .0) in
+    let unused = eq-eqb _ _ (c .before .before .before .before .before .before .before .before .before .before .if10 .taken) in
+    let shut = ap₂ (λ (x y : Bool). x && y) (sym (c .before .before .before .before .before .before .before .takes-bytes2 .ensures)) (sym (c .before .before .before .before .before .before .takes-bytes3 .ensures)) ∙ c .before .before .before .before .before .if11 .left in
+    let arm = pair-refused kind (at .sides) (at .bus) (at .arb) two (at .owner) (at .lines) (known .5) (known .6) r (reads-pair r (told .1) unused) shut in (
+      two,
+      turned (given .settled) (given .events .now) (given .answers .now) (given .n) (given .from) (at .answers) (at .owner) (at .lines) (held kind (at .sides) (at .bus) (at .arb)) (at .i) known within (start .pre .0) (start .pre .1)
+          (steppedWith (held kind (at .sides) (at .bus) (at .arb)) (kept 4 0 (at .owner) (at .lines))) r (event .ensures) (arm) _ _ (c .before .before .put-answer8 .kept .0) (c .before .before .put-answer8 .ensures) (c .before .before .before .answer-kept8 .ensures),
+    )
+
+fits-levels-requires : tie.Need-fits-levels-requires Inv-loop μ-loop
+fits-levels-requires c κs = search needs
+
+array-copy-out-s0-4 : tie.Need-array-copy-out-s0-4 Inv-loop μ-loop
+array-copy-out-s0-4 c = search needs
+
+array-copy-out-s1-4 : tie.Need-array-copy-out-s1-4 Inv-loop μ-loop
+array-copy-out-s1-4 c = search needs
+
+bus-lined-requires : tie.Need-bus-lined-requires Inv-loop μ-loop
+bus-lined-requires c κs = search needs
+
+ends-no-grant-requires : tie.Need-ends-no-grant-requires Inv-loop μ-loop
+ends-no-grant-requires c κs = search needs
+
+intin-fell-requires : tie.Need-intin-fell-requires Inv-loop μ-loop
+intin-fell-requires c κs = search needs
+
+fallen-side-requires : tie.Need-fallen-side-requires Inv-loop μ-loop
+fallen-side-requires c κs = search needs
+
+fallen-side-requires-2 : tie.Need-fallen-side-requires-2 Inv-loop μ-loop
+fallen-side-requires-2 c κs = search needs
+
+array-set-from-sides-7 : tie.Need-array-set-from-sides-7 Inv-loop μ-loop
+array-set-from-sides-7 c = search needs
+
+array-set-from-sides-8 : tie.Need-array-set-from-sides-8 Inv-loop μ-loop
+array-set-from-sides-8 c = search needs
+
+lines-shown-requires-3 : tie.Need-lines-shown-requires-3 Inv-loop μ-loop
+lines-shown-requires-3 c κs = search needs
+
+answer-kept-requires-9 : tie.Need-answer-kept-requires-9 Inv-loop μ-loop
+answer-kept-requires-9 c κs = search needs
+
+put-answer-requires-9 : tie.Need-put-answer-requires-9 Inv-loop μ-loop
+put-answer-requires-9 c κs = search needs
+
+add-i-9 : tie.Need-add-i-9 Inv-loop μ-loop
+add-i-9 c = omega (arith, c .before .before .before .before .before .before .before .before .before .before .before .before .before .before .before .before .before .before .before .before .loop-test .taken, c .before .before .before .before .before .before .before .before .before .before .before .before .before .before .before .before .before .before .before .before .before .before .before .before .before .before .before .before .before .before .good .1 .1 .1 .1)
+
+loop-less-9 : tie.Need-loop-less-9 Inv-loop μ-loop
+loop-less-9 c = omega (arith, c .before .before .before .before .before .before .before .before .before .before .before .before .before .before .before .before .before .before .before .before .loop-test .taken)
+
+loop-again-9 : tie.Need-loop-again-9 Inv-loop μ-loop
+loop-again-9 c =
+    let at = c .before .before .before .before .before .before .before .before .before .before .before .before .before .before .before .before .before .before .before .before .before .loop in
+    let start = c .before .before .before .before .before .before .before .before .before .before .before .before .before .before .before .before .before .before .before .before .before .before .before .before .before .before .before .before .before .before in
+    let given = start .args in
+    let kind = given .from .kind in
+    let two = at .inv .0 in
+    let known = at .inv .1 in
+    let event = c .before .before .before .before .before .before .before .before .before .before .before .before .before .before .before .before .before .before .before .event-at in
+    let r = event .result in
+    let within = c .before .before .before .before .before .before .before .before .before .before .before .before .before .before .before .before .before .before .before .before .loop-test .taken in
+    let told = told-kind (given .settled) r (c .before .before .before .before .before .before .before .before .before .before .before .before .before .before .before .before .before .before .kind-told .result) 5 (c .before .before .before .before .before .before .before .before .before .before .before .before .before .before .before .before .before .before .kind-told .ensures) (c .before .before .before .before .before .before .before .before .before .before .before .before .before .before .before .before .match .keys6) (omega arith) in
+    let settled = known .4 (told .0) in
+    let fits = sym (c .before .before .before .before .before .before .before .before .before .before .before .before .before .before .before .fits-levels .ensures) ∙ c .before .before .before .before .before .before .before .before .before .before .before .before .before .before .if12 .taken in
+    let after = c .before .before .before .before .before .before .before .before .before .before .before .bus-lined in
+    let keeps = sym (c .before .before .before .before .before .before .before .before .before .before .ends-no-grant .ensures) ∙ c .before .before .before .before .before .before .before .before .before .if13 .taken in
+    let fell = c .before .before .before .before .before .before .before .before .intin-fell in
+    let first = c .before .before .before .before .before .before .before .fallen-side in
+    let second = c .before .before .before .before .before .before .fallen-side2 in
+    let lines = c .before .before .before .before .before .lines-shown3 in
+    let arm = lines-arm kind (at .sides) (at .bus) (at .arb) two (at .owner) (at .lines) (known .5) (known .6) r (reads-lines r (told .1) fits) settled (after .result) (after .ensures) keeps (fell .result) (fell .ensures) (first .result) (second .result) (lines .result) (first .ensures) (second .ensures) (lines .ensures) in (
+      two-on (set (at .sides) _ _) _ _ (two-on (at .sides) _ _ two),
+      turned (given .settled) (given .events .now) (given .answers .now) (given .n) (given .from) (at .answers) (at .owner) (at .lines) (held kind (at .sides) (at .bus) (at .arb)) (at .i) known within (start .pre .0) (start .pre .1)
+          (steppedWith (held kind (set (set (at .sides) 0 (first .result)) 1 (second .result)) (after .result) (at .arb)) (kept 0 0 (at .owner) (lines .result))) r (event .ensures) (arm) _ _ (c .before .before .put-answer9 .kept .0) (c .before .before .put-answer9 .ensures) (c .before .before .before .answer-kept9 .ensures),
+    )
+
+is-tick-requires : tie.Need-is-tick-requires Inv-loop μ-loop
+is-tick-requires c κs = search needs
+
+array-copy-out-s0-5 : tie.Need-array-copy-out-s0-5 Inv-loop μ-loop
+array-copy-out-s0-5 c = search needs
+
+array-copy-out-s1-5 : tie.Need-array-copy-out-s1-5 Inv-loop μ-loop
+array-copy-out-s1-5 c = search needs
+
+device-of-requires : tie.Need-device-of-requires Inv-loop μ-loop
+device-of-requires c κs = search needs
+
+settled-ticks-requires : tie.Need-settled-ticks-requires Inv-loop μ-loop
+settled-ticks-requires c κs = search needs
 
 cast-least-of : tie.Need-cast-least-of Inv-loop μ-loop
 cast-least-of c = omega arith
@@ -104,84 +600,270 @@ least-of-requires c κs = search needs
 
 add-last : tie.Need-add-last Inv-loop μ-loop
 add-last c =
-    let tested = c .before .before .before .before in
-    let start = tested .before .before .before .before .before in
-    let least = least-both (c .before .before .ticks-ahead .result) (start .args .n - tested .before .loop .i) (c .least-of .result) (c .least-of .ensures) in
-    omega (arith, least .1, tested .loop-test .taken, start .good .1 .1 .1 .1)
+    let at = c .before .before .before .before .before .before .before .before .before .before .before .before .before .loop in
+    let given = c .before .before .before .before .before .before .before .before .before .before .before .before .before .before .before .before .before .before .before .before .before .before .args in
+    let ahead = c .before .before .settled-ticks in
+    let few = c .least-of in
+    let within = c .before .before .before .before .before .before .before .before .before .before .before .before .loop-test .taken in
+    let least = least-both (ahead .result) (given .n - at .i) (few .result) (few .ensures) in
+    omega (arith, least .1, within, c .before .before .before .before .before .before .before .before .before .before .before .before .before .before .before .before .before .before .before .before .before .before .good .1 .1 .1 .1)
 
-quiet-answer-requires : tie.Need-quiet-answer-requires Inv-loop μ-loop
-quiet-answer-requires c κs = search needs
+answer-kept-requires-10 : tie.Need-answer-kept-requires-10 Inv-loop μ-loop
+answer-kept-requires-10 c κs = search needs
 
 play-ticks-requires : tie.Need-play-ticks-requires Inv-loop μ-loop
 play-ticks-requires c κs =
-    let counted = c .before .before in
-    let asked = counted .before in
-    let tested = asked .before .before .before in
-    let k = asked .before .ticks-ahead .result in
-    let rest = tested .before .before .before .before .before .args .n - tested .before .loop .i in
-    let some : 1 ≤ rest = omega (arith, tested .loop-test .taken) in
-    let least = least-both k rest (counted .least-of .result) (counted .least-of .ensures) in
-    omega (arith, least .2 (some-one k (asked .if1 .left)) some)
+    let at = c .before .before .before .before .before .before .before .before .before .before .before .before .before .before .before .loop in
+    let given = c .before .before .before .before .before .before .before .before .before .before .before .before .before .before .before .before .before .before .before .before .before .before .before .before .args in
+    let ahead = c .before .before .before .before .settled-ticks in
+    let few = c .before .before .least-of in
+    let within = c .before .before .before .before .before .before .before .before .before .before .before .before .before .before .loop-test .taken in
+    let least = least-both (ahead .result) (given .n - at .i) (few .result) (few .ensures) in
+    let some : 1 ≤ given .n - at .i = omega (arith, within) in
+    omega (arith, least .2 (some-one (ahead .result) (c .before .before .before .if15 .left)) some)
 
 sub-after-ticks : tie.Need-sub-after-ticks Inv-loop μ-loop
 sub-after-ticks c = omega (arith, c .before .before .play-ticks .ensures .0)
 
 cast-after-ticks : tie.Need-cast-after-ticks Inv-loop μ-loop
 cast-after-ticks c =
-    let played = c .before .before in
-    let counted = played .before .before .before in
-    let ahead = counted .before .before in
-    let tested = ahead .before .before in
-    let rest = tested .before .before .before .before .before .args .n - tested .before .loop .i in
-    let least = least-both (ahead .ticks-ahead .result) rest (counted .least-of .result) (counted .least-of .ensures) in
-    omega (arith, played .play-ticks .ensures .1, least .0, ahead .ticks-ahead .ok)
+    let at = c .before .before .before .before .before .before .before .before .before .before .before .before .before .before .before .before .before .before .loop in
+    let given = c .before .before .before .before .before .before .before .before .before .before .before .before .before .before .before .before .before .before .before .before .before .before .before .before .before .before .before .args in
+    let ahead = c .before .before .before .before .before .before .before .settled-ticks in
+    let few = c .before .before .before .before .before .least-of in
+    let within = c .before .before .before .before .before .before .before .before .before .before .before .before .before .before .before .before .before .loop-test .taken in
+    let least = least-both (ahead .result) (given .n - at .i) (few .result) (few .ensures) in
+    omega (arith, c .before .before .play-ticks .ensures .1, least .0, ahead .ok)
 
 after-ticks-requires : tie.Need-after-ticks-requires Inv-loop μ-loop
 after-ticks-requires c κs = search needs
 
-loop-less-2 : tie.Need-loop-less-2 Inv-loop μ-loop
-loop-less-2 c =
-    let played = c .before .before .before in
-    omega (arith, played .play-ticks .ensures .0, played .before .before .before .before .before .before .before .loop-test .taken)
+loop-less-10 : tie.Need-loop-less-10 Inv-loop μ-loop
+loop-less-10 c = omega (arith, c .before .before .before .before .before .play-ticks .ensures .0, c .before .before .before .before .before .before .before .before .before .before .before .before .before .before .before .before .before .before .before .before .loop-test .taken)
 
-loop-again-2 : tie.Need-loop-again-2 Inv-loop μ-loop
-loop-again-2 c =
-    let played = c .before .before .before in
-    let counted = played .before .before .before in
-    let asked = counted .before in
-    let ahead = asked .before in
-    let tested = ahead .before .before in
-    let at = tested .before in
-    let start = at .before .before .before .before in
-    let inv = at .loop .inv in
-    let d = at .loop .d in
-    let events = start .args .events .now in
-    let told = some-ahead (start .args .settled) (ahead .before .event-at .result) d (ahead .ticks-ahead .result) (ahead .ticks-ahead .ensures) (asked .if1 .left) in
-    let settled = inv .4 (told .0) in
-    let rest = start .args .n - at .loop .i in
-    let least = least-both (ahead .ticks-ahead .result) rest (counted .least-of .result) (counted .least-of .ensures) in
-    let ends = played .play-ticks .ensures in
-    let read = ahead .before .event-at .ensures in
-    let first : isTickRaw (eventAt (at .loop .i) events) ≡ true = ap isTickRaw (sym read) ∙ told .1 in
-    let alike = played .before .quiet-answer .ensures ∙ ap₂ (kept 0 0) (inv .5) (inv .6) in
-    let last : played .play-ticks .result ≤ start .args .n = omega (arith, ends .1, least .1, tested .loop-test .taken) in
-    let left : played .play-ticks .result - at .loop .i ≤ countsLeft d = omega (arith, ends .1, least .0, told .2) in
-    let all =
-    together _ events (start .args .answers .now) (at .loop .i) (played .play-ticks .result) d _ (at .loop .answers) _ _
-    settled (inv .2) (inv .3) (inv .1) (ends .0) left (omega (arith, last, start .pre .0)) (omega (arith, last, start .pre .1))
-    (all-from (at .loop .i) _ events first (ends .2)) alike (ends .3) (c .after-ticks .ensures)
-    in
-    (last, played .play-ticks .kept .1 .0 ∙ inv .1, all .0, all .1, λ h. all .2, inv .5 ∙ all .3, inv .6 ∙ all .4)
+loop-again-10 : tie.Need-loop-again-10 Inv-loop μ-loop
+loop-again-10 c =
+    let at = c .before .before .before .before .before .before .before .before .before .before .before .before .before .before .before .before .before .before .before .before .before .loop in
+    let start = c .before .before .before .before .before .before .before .before .before .before .before .before .before .before .before .before .before .before .before .before .before .before .before .before .before .before .before .before .before .before in
+    let given = start .args in
+    let kind = given .from .kind in
+    let two = at .inv .0 in
+    let known = at .inv .1 in
+    let event = c .before .before .before .before .before .before .before .before .before .before .before .before .before .before .before .before .before .before .before .event-at in
+    let r = event .result in
+    let within = c .before .before .before .before .before .before .before .before .before .before .before .before .before .before .before .before .before .before .before .before .loop-test .taken in
+    let told = told-kind (given .settled) r (c .before .before .before .before .before .before .before .before .before .before .before .before .before .before .before .before .before .before .kind-told .result) 6 (c .before .before .before .before .before .before .before .before .before .before .before .before .before .before .before .before .before .before .kind-told .ensures) (c .before .before .before .before .before .before .before .before .before .before .before .before .before .before .before .before .match .keys7) (omega arith) in
+    let settled = known .4 (told .0) in
+    let tick = sym (c .before .before .before .before .before .before .before .before .before .before .before .before .before .before .before .is-tick .ensures) ∙ c .before .before .before .before .before .before .before .before .before .before .before .before .before .before .if14 .taken in
+    let whole = c .before .before .before .before .before .before .before .before .before .before .before .device-of in
+    let ahead = c .before .before .before .before .before .before .before .before .before .before .settled-ticks in
+    let few = c .before .before .before .before .before .before .before .before .least-of in
+    let played = c .before .before .before .before .before .play-ticks in
+    let moved = c .before .before .after-ticks in (
+      two,
+      ticked-on (given .settled) (given .events .now) (given .answers .now) (given .n) (given .from) (at .answers) (at .owner) (at .lines) kind (at .sides) (at .bus) (at .arb) (at .i) two known within (start .pre .0) (start .pre .1)
+          (whole .result) (whole .ensures) (ahead .result) (ahead .ensures) (c .before .before .before .before .before .before .before .before .before .if15 .left) settled r (event .ensures) tick (few .result) (few .ensures)
+          (played .result) (played .ensures .0) (played .ensures .1) (played .ensures .2) _ (c .before .before .before .before .before .before .answer-kept10 .ensures) _ (played .kept .1 .0) (played .ensures .3) (moved .result) (moved .ensures),
+    )
+
+fits-one-requires-3 : tie.Need-fits-one-requires-3 Inv-loop μ-loop
+fits-one-requires-3 c κs = search needs
+
+is-initialising-requires : tie.Need-is-initialising-requires Inv-loop μ-loop
+is-initialising-requires c κs = search needs
+
+answer-kept-requires-11 : tie.Need-answer-kept-requires-11 Inv-loop μ-loop
+answer-kept-requires-11 c κs = search needs
+
+put-answer-requires-10 : tie.Need-put-answer-requires-10 Inv-loop μ-loop
+put-answer-requires-10 c κs = search needs
+
+add-i-10 : tie.Need-add-i-10 Inv-loop μ-loop
+add-i-10 c = omega (arith, c .before .before .before .before .before .before .before .before .before .before .before .before .before .loop-test .taken, c .before .before .before .before .before .before .before .before .before .before .before .before .before .before .before .before .before .before .before .before .before .before .before .good .1 .1 .1 .1)
+
+loop-less-11 : tie.Need-loop-less-11 Inv-loop μ-loop
+loop-less-11 c = omega (arith, c .before .before .before .before .before .before .before .before .before .before .before .before .before .loop-test .taken)
+
+loop-again-11 : tie.Need-loop-again-11 Inv-loop μ-loop
+loop-again-11 c =
+    let at = c .before .before .before .before .before .before .before .before .before .before .before .before .before .before .loop in
+    let start = c .before .before .before .before .before .before .before .before .before .before .before .before .before .before .before .before .before .before .before .before .before .before .before in
+    let given = start .args in
+    let kind = given .from .kind in
+    let two = at .inv .0 in
+    let known = at .inv .1 in
+    let event = c .before .before .before .before .before .before .before .before .before .before .before .before .event-at in
+    let r = event .result in
+    let within = c .before .before .before .before .before .before .before .before .before .before .before .before .before .loop-test .taken in
+    let told = told-kind (given .settled) r (c .before .before .before .before .before .before .before .before .before .before .before .kind-told .result) 7 (c .before .before .before .before .before .before .before .before .before .before .before .kind-told .ensures) (c .before .before .before .before .before .before .before .before .before .match .keys8) (omega arith) in
+    let settled = known .4 (told .0) in
+    let fits = sym (c .before .before .before .before .before .before .before .before .fits-one3 .ensures) ∙ c .before .before .before .before .before .before .before .if16 .taken in
+    let closed = sym (c .before .before .before .before .before .before .is-initialising .ensures) ∙ c .before .before .before .before .before .if17 .left in
+    let arm = pulse-refused kind (at .sides) (at .bus) (at .arb) two (at .owner) (at .lines) (known .5) (known .6) r (reads-pulse r (told .1) fits) closed in (
+      two,
+      turned (given .settled) (given .events .now) (given .answers .now) (given .n) (given .from) (at .answers) (at .owner) (at .lines) (held kind (at .sides) (at .bus) (at .arb)) (at .i) known within (start .pre .0) (start .pre .1)
+          (steppedWith (held kind (at .sides) (at .bus) (at .arb)) (kept 4 0 (at .owner) (at .lines))) r (event .ensures) (arm) _ _ (c .before .before .put-answer10 .kept .0) (c .before .before .put-answer10 .ensures) (c .before .before .before .answer-kept11 .ensures),
+    )
+
+fits-none-requires : tie.Need-fits-none-requires Inv-loop μ-loop
+fits-none-requires c κs = search needs
+
+array-copy-out-s0-6 : tie.Need-array-copy-out-s0-6 Inv-loop μ-loop
+array-copy-out-s0-6 c = search needs
+
+array-copy-out-s1-6 : tie.Need-array-copy-out-s1-6 Inv-loop μ-loop
+array-copy-out-s1-6 c = search needs
+
+device-of-requires-2 : tie.Need-device-of-requires-2 Inv-loop μ-loop
+device-of-requires-2 c κs = search needs
+
+reset-device-requires : tie.Need-reset-device-requires Inv-loop μ-loop
+reset-device-requires c κs = search needs
+
+answered-requires-2 : tie.Need-answered-requires-2 Inv-loop μ-loop
+answered-requires-2 c κs = search needs
+
+put-answer-requires-11 : tie.Need-put-answer-requires-11 Inv-loop μ-loop
+put-answer-requires-11 c κs = search needs
+
+array-set-from-sides-9 : tie.Need-array-set-from-sides-9 Inv-loop μ-loop
+array-set-from-sides-9 c = search needs
+
+array-set-from-sides-10 : tie.Need-array-set-from-sides-10 Inv-loop μ-loop
+array-set-from-sides-10 c = search needs
+
+add-i-11 : tie.Need-add-i-11 Inv-loop μ-loop
+add-i-11 c = omega (arith, c .before .before .before .before .before .before .before .before .before .before .before .before .before .before .before .before .before .before .before .loop-test .taken, c .before .before .before .before .before .before .before .before .before .before .before .before .before .before .before .before .before .before .before .before .before .before .before .before .before .before .before .before .before .good .1 .1 .1 .1)
+
+loop-less-12 : tie.Need-loop-less-12 Inv-loop μ-loop
+loop-less-12 c = omega (arith, c .before .before .before .before .before .before .before .before .before .before .before .before .before .before .before .before .before .before .before .loop-test .taken)
+
+loop-again-12 : tie.Need-loop-again-12 Inv-loop μ-loop
+loop-again-12 c =
+    let at = c .before .before .before .before .before .before .before .before .before .before .before .before .before .before .before .before .before .before .before .before .loop in
+    let start = c .before .before .before .before .before .before .before .before .before .before .before .before .before .before .before .before .before .before .before .before .before .before .before .before .before .before .before .before .before in
+    let given = start .args in
+    let kind = given .from .kind in
+    let two = at .inv .0 in
+    let known = at .inv .1 in
+    let event = c .before .before .before .before .before .before .before .before .before .before .before .before .before .before .before .before .before .before .event-at in
+    let r = event .result in
+    let within = c .before .before .before .before .before .before .before .before .before .before .before .before .before .before .before .before .before .before .before .loop-test .taken in
+    let told = told-kind (given .settled) r (c .before .before .before .before .before .before .before .before .before .before .before .before .before .before .before .before .before .kind-told .result) 8 (c .before .before .before .before .before .before .before .before .before .before .before .before .before .before .before .before .before .kind-told .ensures) (c .before .before .before .before .before .before .before .before .before .before .before .before .before .before .before .match .keys9) (omega arith) in
+    let settled = known .4 (told .0) in
+    let fits = sym (c .before .before .before .before .before .before .before .before .before .before .before .before .before .before .fits-none .ensures) ∙ c .before .before .before .before .before .before .before .before .before .before .before .before .before .if18 .taken in
+    let new = c .before .before .before .before .before .before .before .before .before .reset-device in
+    let told-of = c .before .before .before .before .before .before .before .before .answered2 in
+    let arm = reset-arm kind (at .sides) (at .bus) (at .arb) two (at .owner) (at .lines) (known .5) (known .6) r (reads-reset r (told .1) fits) (new .result) (told-of .result) (new .ensures ∙ ap (wasReset 0) (c .before .before .before .before .before .before .before .before .before .before .device-of2 .ensures)) (told-of .ensures) in
+    let put = c .before .before .before .before .before .before .put-answer11 in (
+      two-on (set (at .sides) _ _) _ _ (two-on (at .sides) _ _ two),
+      stepped-on (given .settled) (given .events .now) (given .answers .now) (given .n) (given .from) (at .answers) (at .owner) (at .lines) kind (at .sides) (at .bus) (at .arb) (at .i) two known within (start .pre .0) (start .pre .1)
+          (steppedWith (new .result) (told-of .result)) r (event .ensures) arm _ _ (put .kept .0) (put .ensures) refl,
+    )
+
+fits-byte-requires-3 : tie.Need-fits-byte-requires-3 Inv-loop μ-loop
+fits-byte-requires-3 c κs = search needs
+
+answer-kept-requires-12 : tie.Need-answer-kept-requires-12 Inv-loop μ-loop
+answer-kept-requires-12 c κs = search needs
+
+put-answer-requires-12 : tie.Need-put-answer-requires-12 Inv-loop μ-loop
+put-answer-requires-12 c κs = search needs
+
+add-i-12 : tie.Need-add-i-12 Inv-loop μ-loop
+add-i-12 c = omega (arith, c .before .before .before .before .before .before .before .before .before .before .before .before .before .loop-test .taken, c .before .before .before .before .before .before .before .before .before .before .before .before .before .before .before .before .before .before .before .before .before .before .before .good .1 .1 .1 .1)
+
+loop-less-13 : tie.Need-loop-less-13 Inv-loop μ-loop
+loop-less-13 c = omega (arith, c .before .before .before .before .before .before .before .before .before .before .before .before .before .loop-test .taken)
+
+loop-again-13 : tie.Need-loop-again-13 Inv-loop μ-loop
+loop-again-13 c =
+    let at = c .before .before .before .before .before .before .before .before .before .before .before .before .before .before .loop in
+    let start = c .before .before .before .before .before .before .before .before .before .before .before .before .before .before .before .before .before .before .before .before .before .before .before in
+    let given = start .args in
+    let kind = given .from .kind in
+    let two = at .inv .0 in
+    let known = at .inv .1 in
+    let event = c .before .before .before .before .before .before .before .before .before .before .before .before .event-at in
+    let r = event .result in
+    let within = c .before .before .before .before .before .before .before .before .before .before .before .before .before .loop-test .taken in
+    let told = told-kind (given .settled) r (c .before .before .before .before .before .before .before .before .before .before .before .kind-told .result) 9 (c .before .before .before .before .before .before .before .before .before .before .before .kind-told .ensures) (c .before .before .before .before .before .before .before .before .before .match .keys10) (omega arith) in
+    let settled = known .4 (told .0) in
+    let fits = sym (c .before .before .before .before .before .before .before .before .fits-byte3 .ensures) ∙ c .before .before .before .before .before .before .before .if19 .taken in
+    let other = ne-eqb _ _ (c .before .before .before .before .before .if20 .left) in
+    let arm = call-arm kind (at .sides) (at .bus) (at .arb) two (at .owner) (at .lines) (known .5) (known .6) r (reads-call r (told .1) fits) settled other in (
+      two,
+      turned (given .settled) (given .events .now) (given .answers .now) (given .n) (given .from) (at .answers) (at .owner) (at .lines) (held kind (at .sides) (at .bus) (at .arb)) (at .i) known within (start .pre .0) (start .pre .1)
+          (steppedWith (held kind (at .sides) (at .bus) (at .arb)) (kept 1 0 (at .owner) (at .lines))) r (event .ensures) (arm) _ _ (c .before .before .put-answer12 .kept .0) (c .before .before .put-answer12 .ensures) (c .before .before .before .answer-kept12 .ensures),
+    )
+
+array-copy-out-s0-7 : tie.Need-array-copy-out-s0-7 Inv-loop μ-loop
+array-copy-out-s0-7 c = search needs
+
+array-copy-out-s1-7 : tie.Need-array-copy-out-s1-7 Inv-loop μ-loop
+array-copy-out-s1-7 c = search needs
+
+device-of-requires-3 : tie.Need-device-of-requires-3 Inv-loop μ-loop
+device-of-requires-3 c κs = search needs
+
+step-one-requires : tie.Need-step-one-requires Inv-loop μ-loop
+step-one-requires c κs = search needs
+
+put-answer-requires-13 : tie.Need-put-answer-requires-13 Inv-loop μ-loop
+put-answer-requires-13 c κs = search needs
+
+array-set-from-sides-11 : tie.Need-array-set-from-sides-11 Inv-loop μ-loop
+array-set-from-sides-11 c = search needs
+
+array-set-from-sides-12 : tie.Need-array-set-from-sides-12 Inv-loop μ-loop
+array-set-from-sides-12 c = search needs
+
+add-i-13 : tie.Need-add-i-13 Inv-loop μ-loop
+add-i-13 c = omega (arith, c .before .before .before .before .before .before .before .before .before .before .before .before .before .before .before .before .before .before .loop-test .taken, c .before .before .before .before .before .before .before .before .before .before .before .before .before .before .before .before .before .before .before .before .before .before .before .before .before .before .before .before .good .1 .1 .1 .1)
+
+loop-less-14 : tie.Need-loop-less-14 Inv-loop μ-loop
+loop-less-14 c = omega (arith, c .before .before .before .before .before .before .before .before .before .before .before .before .before .before .before .before .before .before .loop-test .taken)
+
+loop-again-14 : tie.Need-loop-again-14 Inv-loop μ-loop
+loop-again-14 c =
+    let at = c .before .before .before .before .before .before .before .before .before .before .before .before .before .before .before .before .before .before .before .loop in
+    let start = c .before .before .before .before .before .before .before .before .before .before .before .before .before .before .before .before .before .before .before .before .before .before .before .before .before .before .before .before in
+    let given = start .args in
+    let kind = given .from .kind in
+    let two = at .inv .0 in
+    let known = at .inv .1 in
+    let event = c .before .before .before .before .before .before .before .before .before .before .before .before .before .before .before .before .before .event-at in
+    let r = event .result in
+    let within = c .before .before .before .before .before .before .before .before .before .before .before .before .before .before .before .before .before .before .loop-test .taken in
+    let s = c .before .before .before .before .before .before .before .before .before .before .step-one in
+    let whole = c .before .before .before .before .before .before .before .before .before .before .before .device-of3 in
+    let put = c .before .before .before .before .before .before .before .put-answer13 in
+    let truly = told-step (at .owner) (at .lines) (held kind (at .sides) (at .bus) (at .arb)) r (s .result) (known .5) (known .6) (s .ensures ∙ ap (λ (x : Device). shortStep false (at .owner) (at .lines) x r) (whole .ensures)) in (
+      two-on (set (at .sides) _ _) _ _ (two-on (at .sides) _ _ two),
+      stepped-on (given .settled) (given .events .now) (given .answers .now) (given .n) (given .from) (at .answers) (at .owner) (at .lines) kind (at .sides) (at .bus) (at .arb) (at .i) two known within (start .pre .0) (start .pre .1)
+          (s .result) r (event .ensures) truly _ _ (put .kept .0) (put .ensures) refl,
+    )
+
+array-copy-out-s0-8 : tie.Need-array-copy-out-s0-8 Inv-loop μ-loop
+array-copy-out-s0-8 c = search needs
+
+array-copy-out-s1-8 : tie.Need-array-copy-out-s1-8 Inv-loop μ-loop
+array-copy-out-s1-8 c = search needs
+
+device-of-requires-4 : tie.Need-device-of-requires-4 Inv-loop μ-loop
+device-of-requires-4 c κs = search needs
 
 same-length : tie.Need-same-length Inv-loop μ-loop
 same-length c = search needs
 
 returns : tie.Need-returns Inv-loop μ-loop
 returns c =
-    let start = c .before .before .before .before .before .args in
-    let inv = c .before .loop .inv in
-    let e : c .before .loop .i ≡ start .n = omega (arith, inv .0) in
-    (rw (← e) (inv .2), rw (← e) (inv .3))
+    let given = c .before .before .before .before .before .before .before .before .before .before .before .before .before .args in
+    let known = c .before .before .before .before .loop .inv .1 in
+    let e : c .before .before .before .before .loop .i ≡ given .n = omega (arith, known .0, c .before .before .before) in (
+      c .device-of4 .ensures ∙ known .2 ∙ ap (λ (k : ℕ). runFrom (given .from) (rawsIn k (given .events .now))) e,
+      known .3 ∙ ap (λ (k : ℕ). bytesOf (answersFrom (given .from) (rawsIn k (given .events .now))) ++ drop (eventBytes * k) (given .answers .now)) e,
+    )
 
 pub play-spec : {M : Type 1} → statement M
 play-spec =
@@ -190,24 +872,177 @@ play-spec =
     Inv-loop
     μ-loop
     answered-requires
+    rolls-over-requires
     loop-holds
     event-at-requires
-    ticks-ahead-requires
-    step-one-requires
+    kind-told-requires
+    cast-at
+    fits-byte-requires
+    mul-s
+    array-copy-out-s
+    commanded-side-requires
+    mul-sides
+    array-set-from-sides
+    commanded-number-requires
+    answer-kept-requires
     put-answer-requires
     add-i
     loop-less
     loop-again
+    fits-byte-requires-2
+    mul-s-2
+    array-copy-out-s-2
+    takes-bytes-requires
+    writes-lightly-requires
+    sub-o
+    mul-o
+    array-copy-out-o
+    granted-at-requires
+    light-writer-requires
+    mul-sides-2
+    array-set-from-sides-2
+    partner-written-requires
+    sub-sides
+    mul-sides-3
+    array-set-from-sides-3
+    array-copy-out-s0
+    array-copy-out-s1
+    lines-shown-requires
+    written-number-requires
+    answer-kept-requires-2
+    put-answer-requires-2
+    add-i-2
+    loop-less-2
+    loop-again-2
+    answer-kept-requires-3
+    put-answer-requires-3
+    add-i-3
+    loop-less-3
+    loop-again-3
+    fits-one-requires
+    mul-s-3
+    array-copy-out-s-3
+    sub-o-2
+    mul-o-2
+    array-copy-out-o-2
+    byte-read-requires
+    reader-side-requires
+    mul-sides-4
+    array-set-from-sides-4
+    empties-own-requires
+    sender-side-requires
+    sub-sides-2
+    mul-sides-5
+    array-set-from-sides-5
+    array-copy-out-s0-2
+    array-copy-out-s1-2
+    lines-shown-requires-2
+    answer-kept-requires-4
+    put-answer-requires-4
+    add-i-4
+    loop-less-4
+    loop-again-4
+    answer-kept-requires-5
+    put-answer-requires-5
+    add-i-5
+    loop-less-5
+    loop-again-5
+    fits-one-requires-2
+    mul-s-4
+    array-copy-out-s-4
+    is-resting-requires
+    answer-kept-requires-6
+    put-answer-requires-6
+    add-i-6
+    loop-less-6
+    loop-again-6
+    claims-at-requires
+    stopped-side-requires
+    mul-sides-6
+    array-set-from-sides-6
+    answer-kept-requires-7
+    put-answer-requires-7
+    add-i-7
+    loop-less-7
+    loop-again-7
+    array-copy-out-s0-3
+    array-copy-out-s1-3
+    takes-bytes-requires-2
+    takes-bytes-requires-3
+    answer-kept-requires-8
+    put-answer-requires-8
+    add-i-8
+    loop-less-8
+    loop-again-8
+    fits-levels-requires
+    array-copy-out-s0-4
+    array-copy-out-s1-4
+    bus-lined-requires
+    ends-no-grant-requires
+    intin-fell-requires
+    fallen-side-requires
+    fallen-side-requires-2
+    array-set-from-sides-7
+    array-set-from-sides-8
+    lines-shown-requires-3
+    answer-kept-requires-9
+    put-answer-requires-9
+    add-i-9
+    loop-less-9
+    loop-again-9
+    is-tick-requires
+    array-copy-out-s0-5
+    array-copy-out-s1-5
+    device-of-requires
+    settled-ticks-requires
     cast-least-of
     sub-least-of
     least-of-requires
     add-last
-    quiet-answer-requires
+    answer-kept-requires-10
     play-ticks-requires
     sub-after-ticks
     cast-after-ticks
     after-ticks-requires
-    loop-less-2
-    loop-again-2
+    loop-less-10
+    loop-again-10
+    fits-one-requires-3
+    is-initialising-requires
+    answer-kept-requires-11
+    put-answer-requires-10
+    add-i-10
+    loop-less-11
+    loop-again-11
+    fits-none-requires
+    array-copy-out-s0-6
+    array-copy-out-s1-6
+    device-of-requires-2
+    reset-device-requires
+    answered-requires-2
+    put-answer-requires-11
+    array-set-from-sides-9
+    array-set-from-sides-10
+    add-i-11
+    loop-less-12
+    loop-again-12
+    fits-byte-requires-3
+    answer-kept-requires-12
+    put-answer-requires-12
+    add-i-12
+    loop-less-13
+    loop-again-13
+    array-copy-out-s0-7
+    array-copy-out-s1-7
+    device-of-requires-3
+    step-one-requires
+    put-answer-requires-13
+    array-set-from-sides-11
+    array-set-from-sides-12
+    add-i-13
+    loop-less-14
+    loop-again-14
+    array-copy-out-s0-8
+    array-copy-out-s1-8
+    device-of-requires-4
     same-length
     returns)

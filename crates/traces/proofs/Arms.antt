@@ -1,0 +1,363 @@
+-- The arms of the loop over events, one by one: what each makes of the two sides, the bus and the answer is the step of its event.
+-- Assumes nothing.
+use Prim.Native.Nat.{ℕ, zero, suc, _-_, _%_, _<_}
+use mathlib.Core.Path.{_≡_, refl, sym, ap, ap₂, _∙_}
+use mathlib.Core.Bool.{Bool, true, false, not, _&&_, _||_, false≢true}
+use mathlib.Core.List.{List, [], _∷_}
+use native.Mathlib.Omega.{arith}
+use lib.Bits.{or-zero-r}
+use lib.ListN.{length, getD, set}
+use borrow.Author.Tests.{ltb-true}
+use Rattle.arbiter.specs.Words.{if_then_else_, partner, side, device}
+use Rattle.arbiter.specs.Parts.{withPort, withSide, withInts}
+use Rattle.arbiter.specs.State.{ownsTurn, isInitialising, atRest, forWriting, sclHigh, sdaHigh}
+use Rattle.arbiter.specs.Registers.{mailEmptiedInt, raised, registerByte, ownWritten, mailWritten}
+use Rattle.arbiter.specs.Rules.{rolls}
+use Rattle.arbiter.specs.Events.{unused, zeroOrOne, level, master, goodCommand, writable, softReset, fitting, decode, inSequence, acknowledged, outcome, outcomeNumber}
+use Rattle.arbiter.specs.Effects.{commanded, writeRisen, written, empties, readerSide, senderSide, wasRead, intInFallen, lined, freshSide, freshBus, freshArb, wasReset, holdAsked, effect}
+use Rattle.arbiter.specs.Order.{clockOf, busyAfter, sclChanged, levels, losses, lossesFrom, cut, cutFrom, claim, grant, grantFrom, connect, connectFrom}
+use Rattle.arbiter.specs.Steps.{parts, byteRead, ownerByte, linesByte, answer, refused, taken, stepEvent, stepDecoded, step}
+use Rattle.arbiter.specs.declared.Master.{Master}
+use Rattle.arbiter.specs.declared.Master.the-variants.{Zero, One}
+use Rattle.arbiter.specs.declared.Register.{Register}
+use Rattle.arbiter.specs.declared.Register.the-variants.{Id, Contr, Status, Rt, IntStatus, IntMask, MailLow, MailHigh}
+use Rattle.arbiter.specs.declared.Port.the-variants.{Rest}
+use Rattle.arbiter.specs.declared.Side.{Side}
+use Rattle.arbiter.specs.declared.Bus.{Bus}
+use Rattle.arbiter.specs.declared.Arbitration.{Arbitration}
+use Rattle.arbiter.specs.declared.Kind.{Kind}
+use Rattle.arbiter.specs.declared.Device.{Device}
+use Rattle.arbiter.specs.declared.Raw.{Raw}
+use Rattle.arbiter.specs.declared.Clock.the-variants.{NoClock}
+use Rattle.arbiter.specs.declared.Event.{Event}
+use Rattle.arbiter.specs.declared.Event.the-variants.{Command, Write, Read, Stop, Pair, Lines, Tick, Pulse, Reset, GeneralCall}
+use Rattle.arbiter.specs.declared.Decoded.{Decoded}
+use Rattle.arbiter.specs.declared.Decoded.the-variants.{Reads}
+use Rattle.arbiter.specs.declared.Outcome.the-variants.{Done, NotAcknowledged, OutOfSequence}
+use Rattle.arbiter.specs.declared.Answer.{Answer}
+use Rattle.arbiter.specs.declared.Stepped.{Stepped}
+use Rattle.arbiter.proofs.Choice.{not-true}
+use Rattle.arbitration.specs.Quiet.{noLoss}
+use Rattle.step.specs.Light.{claimsTurn}
+use Rattle.step.specs.Carried.{partsThreeToSeven, steppedWith}
+use Rattle.step.specs.Short.{kept}
+use Rattle.light.specs.Light.{Settled}
+use Rattle.light.specs.Ended.{leavesTurn, writeIsLight, linedBus, endsItself, keepsLines, itsEnd}
+use Rattle.light.proofs.Fits.{fits-self, fits-settles}
+use Rattle.light.proofs.Light.{written-sides}
+use Rattle.light.proofs.Short.{ended-is-step}
+use Rattle.traces.specs.Sides.{kindTold, byteIsLight, linesShown, deviceOf}
+
+-- ---- two sides in an array
+
+-- what the code would find past the end of it
+abbrev pub noSide : Side
+noSide =
+    record {
+      pointer = Id;
+      rt = 0;
+      contr = record { priority = false; smbusdis = false; idletimer = false; swrst = false; businit = false; busconnect = false; lockreq = false };
+      ints = 0;
+      mail = record { low = 0; high = 0; full = false };
+      auto = false;
+      port = Rest;
+      mask = 0;
+    }
+
+abbrev pub sideAt : List Side → ℕ → Side
+sideAt l n = getD l n noSide
+
+abbrev pub held : Kind → List Side → Bus → Arbitration → Device
+held k l b a = deviceOf k (sideAt l 0) (sideAt l 1) b a
+
+of-two : (P : List Side → Type 0) → ((s0 s1 : Side) → P (s0 ∷ s1 ∷ [])) → (l : List Side) → length l ≡ 2 → P l
+of-two P f [] h = absurd (omega (arith, h))
+of-two P f (s ∷ []) h = absurd (omega (arith, h))
+of-two P f (s0 ∷ s1 ∷ []) h = f s0 s1
+of-two P f (s0 ∷ s1 ∷ s2 ∷ l) h = absurd (omega (arith, h))
+
+by-master : (P : ℕ → Type 0) → P 0 → P 1 → (x : ℕ) → zeroOrOne x ≡ true → P x
+by-master P p q zero h = p
+by-master P p q (suc zero) h = q
+by-master P p q (suc (suc x)) h = absurd (omega (arith, ltb-true (suc (suc x)) 2 h))
+
+module _ (k : Kind) (b : Bus) (a : Arbitration) where
+  side-at : (l : List Side) (x : ℕ) → zeroOrOne x ≡ true → side (master x) (held k l b a) ≡ sideAt l (x % 2)
+  side-at l = by-master (λ x. side (master x) (held k l b a) ≡ sideAt l (x % 2)) refl refl
+
+  partner-at : (l : List Side) (x : ℕ) → zeroOrOne x ≡ true → side (partner (master x)) (held k l b a) ≡ sideAt l (1 - x % 2)
+  partner-at l = by-master (λ x. side (partner (master x)) (held k l b a) ≡ sideAt l (1 - x % 2)) refl refl
+
+  set-one : (l : List Side) → length l ≡ 2 → (x : ℕ) → zeroOrOne x ≡ true → (v : Side) → held k (set l (x % 2) v) b a ≡ withSide (master x) v (held k l b a)
+  set-one l two x h v =
+      of-two (λ m. held k (set m (x % 2) v) b a ≡ withSide (master x) v (held k m b a)) (λ s0 s1. by-master (λ n. held k (set (s0 ∷ s1 ∷ []) (n % 2) v) b a ≡ withSide (master n) v (held k (s0 ∷ s1 ∷ []) b a)) refl refl x h) l two
+
+  set-both : (l : List Side) → length l ≡ 2 → (x : ℕ) → zeroOrOne x ≡ true → (v w : Side) → held k (set (set l (x % 2) v) (1 - x % 2) w) b a ≡ device (master x) v w b a (held k l b a)
+  set-both l two x h v w =
+      of-two (λ m. held k (set (set m (x % 2) v) (1 - x % 2) w) b a ≡ device (master x) v w b a (held k m b a)) (λ s0 s1. by-master (λ n. held k (set (set (s0 ∷ s1 ∷ []) (n % 2) v) (1 - n % 2) w) b a ≡ device (master n) v w b a (held k (s0 ∷ s1 ∷ []) b a)) refl refl x h) l two
+
+  pub set-all : (l : List Side) → length l ≡ 2 → (v w : Side) → held k (set (set l 0 v) 1 w) b a ≡ deviceOf k v w b a
+  set-all l two v w = of-two (λ m. held k (set (set m 0 v) 1 w) b a ≡ deviceOf k v w b a) (λ s0 s1. refl) l two
+
+lines-of : (k : Kind) (s0 s1 : Side) (b : Bus) (a : Arbitration) → linesShown s0 s1 b ≡ linesByte (deviceOf k s0 s1 b a)
+unfolding linesByte
+lines-of k s0 s1 b a = refl
+
+-- ---- what the tests of the code tell
+
+-- a kind below 255 was told of a settled device
+pub told : (settled : Bool) (r : Raw) (w k : ℕ) → w ≡ kindTold settled r → w ≡ k → k < 255 → (settled ≡ true) × (r .kind ≡ k)
+told true r w k e f h = (refl, sym e ∙ f)
+told false r w k e f h = absurd (omega (arith, sym f ∙ e, h))
+
+pub first-holds : (p q : Bool) → p && q ≡ true → p ≡ true
+first-holds true q h = refl
+first-holds false q h = h
+
+module _ (r : Raw) (k : ℕ) (kind : r .kind ≡ k) where
+  abbrev same : Decoded
+  same = decode (record { kind = k; x = r .x; y = r .y; z = r .z })
+
+  as-kind : decode r ≡ same
+  as-kind = ap (λ (n : ℕ). decode (record { kind = n; x = r .x; y = r .y; z = r .z })) kind
+
+-- the event of a kind whose fields fit
+fitted : (e : Event) (t : Bool) → t ≡ true → fitting t e ≡ Reads e
+fitted e t h = ap (λ (b : Bool). fitting b e) h
+
+module _ (r : Raw) where
+  pub reads-command : r .kind ≡ 0 → zeroOrOne (r .x) && unused (r .z) ≡ true → decode r ≡ Reads (Command (master (r .x)) (r .y))
+  unfolding decode
+  reads-command k h = as-kind r 0 k ∙ fitted _ _ h
+
+  pub reads-write : r .kind ≡ 1 → zeroOrOne (r .x) && unused (r .z) ≡ true → decode r ≡ Reads (Write (master (r .x)) (r .y))
+  unfolding decode
+  reads-write k h = as-kind r 1 k ∙ fitted _ _ h
+
+  pub reads-read : r .kind ≡ 2 → zeroOrOne (r .x) && unused (r .y) && unused (r .z) ≡ true → decode r ≡ Reads (Read (master (r .x)))
+  unfolding decode
+  reads-read k h = as-kind r 2 k ∙ fitted _ _ h
+
+  pub reads-stop : r .kind ≡ 3 → zeroOrOne (r .x) && unused (r .y) && unused (r .z) ≡ true → decode r ≡ Reads (Stop (master (r .x)))
+  unfolding decode
+  reads-stop k h = as-kind r 3 k ∙ fitted _ _ h
+
+  pub reads-pair : r .kind ≡ 4 → unused (r .z) ≡ true → decode r ≡ Reads (Pair (r .x) (r .y))
+  unfolding decode
+  reads-pair k h = as-kind r 4 k ∙ fitted _ _ h
+
+  pub reads-lines : r .kind ≡ 5 → zeroOrOne (r .x) && zeroOrOne (r .y) && zeroOrOne (r .z) ≡ true → decode r ≡ Reads (Lines (level (r .x)) (level (r .y)) (level (r .z)))
+  unfolding decode
+  reads-lines k h = as-kind r 5 k ∙ fitted _ _ h
+
+  pub reads-pulse : r .kind ≡ 7 → zeroOrOne (r .x) && unused (r .y) && unused (r .z) ≡ true → decode r ≡ Reads (Pulse (level (r .x)))
+  unfolding decode
+  reads-pulse k h = as-kind r 7 k ∙ fitted _ _ h
+
+  pub reads-reset : r .kind ≡ 8 → unused (r .x) && unused (r .y) && unused (r .z) ≡ true → decode r ≡ Reads Reset
+  unfolding decode
+  reads-reset k h = as-kind r 8 k ∙ fitted _ _ h
+
+  pub reads-call : r .kind ≡ 9 → zeroOrOne (r .x) && unused (r .z) ≡ true → decode r ≡ Reads (GeneralCall (master (r .x)) (r .y))
+  unfolding decode
+  reads-call k h = as-kind r 9 k ∙ fitted _ _ h
+
+-- ---- an answer, part by part
+
+joined : (d e : Device) (n m p q o u i j : ℕ) → d ≡ e → n ≡ m → p ≡ q → o ≡ u → i ≡ j → steppedWith d (kept n p o i) ≡ steppedWith e (kept m q u j)
+joined d e n m p q o u i j f g h k l = λ t. record { device = f t; answer = record { outcome = g t; read = h t; owner = k t; lines = l t } }
+
+-- ---- a reset leaves parts 3 to 7 nothing to do
+
+none : (t : Bool) → _≡_ {A = ℕ} (if t then 0 else 0) 0
+none true = refl
+none false = refl
+
+reset-rest : (d : Device) → connect NoClock (grant (claim (cut false (losses (wasReset 0 d))))) ≡ wasReset 0 d
+unfolding connect connectFrom grant grantFrom claim cut cutFrom losses lossesFrom wasReset freshSide
+reset-rest d = refl
+
+-- ---- the arms. The loop holds the two sides l, the bus b and the arbitration a of a part of kind k, and knows its last two answer bytes.
+
+module _ (k : Kind) (l : List Side) (b : Bus) (a : Arbitration) (two : length l ≡ 2) (owner lines : ℕ) (o : owner ≡ ownerByte (held k l b a)) (i : lines ≡ linesByte (held k l b a)) (r : Raw) where
+  abbrev now : Device
+  now = held k l b a
+
+  stepped : (e : Event) → decode r ≡ Reads e → step now r ≡ stepEvent e now
+  unfolding step stepDecoded
+  stepped e h = ap (λ (x : Decoded). stepDecoded x now) h
+
+  -- out of sequence
+  refused-arm : (e : Event) → decode r ≡ Reads e → inSequence e now ≡ false → steppedWith now (kept 4 0 owner lines) ≡ step now r
+  unfolding stepEvent refused
+  refused-arm e h q =
+      joined now now 4 4 0 0 owner _ lines _ refl refl refl o i
+      ∙ sym (stepped e h ∙ ap (λ (x : Bool). if x then taken e now else refused (outcomeNumber OutOfSequence) now) q)
+
+  -- in sequence, and ended by itself
+  ended-arm : (e : Event) → decode r ≡ Reads e → Settled now → inSequence e now ≡ true → endsItself e now ≡ true
+      → (d : Device) (number byte li : ℕ) → d ≡ itsEnd e now → number ≡ outcomeNumber (if acknowledged e now then Done else NotAcknowledged) → byte ≡ byteRead e now
+      → li ≡ (if keepsLines e now then linesByte now else linesByte (itsEnd e now)) → steppedWith d (kept number byte owner li) ≡ step now r
+  unfolding outcome
+  ended-arm e h s q t d number byte li f g p n =
+      let asked = ap (λ (x : Bool). outcomeNumber (if x then (if acknowledged e now then Done else NotAcknowledged) else OutOfSequence)) (sym q) in
+      joined d _ number _ byte _ owner _ li _ f (g ∙ asked) p o n ∙ sym (stepped e h ∙ ended-is-step e now s q t)
+
+  module _ (fits : zeroOrOne (r .x) ≡ true) where
+    abbrev m : Master
+    m = master (r .x)
+
+    abbrev at : ℕ
+    at = r .x % 2
+
+    own : side m now ≡ sideAt l at
+    own = side-at k b a l (r .x) fits
+
+    other : side (partner m) now ≡ sideAt l (1 - at)
+    other = partner-at k b a l (r .x) fits
+
+    pub command-arm : decode r ≡ Reads (Command m (r .y)) → Settled now → (v : Side) (number : ℕ) → v ≡ commanded (r .y) (sideAt l at) → number ≡ outcomeNumber (if goodCommand (r .y) then Done else NotAcknowledged)
+        → steppedWith (held k (set l at v) b a) (kept number 0 owner lines) ≡ step now r
+    unfolding inSequence acknowledged endsItself keepsLines itsEnd effect byteRead
+    command-arm h s v number e g =
+        ended-arm (Command m (r .y)) h s refl refl _ number 0 lines
+        (set-one k b a l two (r .x) fits v ∙ ap (λ (x : Side). withSide m x now) (e ∙ ap (commanded (r .y)) (sym own))) g refl i
+
+    pub stop-refused : decode r ≡ Reads (Stop m) → atRest (sideAt l at .port) ≡ true → steppedWith now (kept 4 0 owner lines) ≡ step now r
+    unfolding inSequence
+    stop-refused h q = refused-arm (Stop m) h (ap (λ (x : Side). not (atRest (x .port))) own ∙ ap not q)
+
+    pub stop-arm : decode r ≡ Reads (Stop m) → Settled now → atRest (sideAt l at .port) ≡ false → claimsTurn m (a .turn) ≡ false → (v : Side) → v ≡ withPort Rest (sideAt l at)
+        → steppedWith (held k (set l at v) b a) (kept 0 0 owner lines) ≡ step now r
+    unfolding inSequence acknowledged endsItself keepsLines itsEnd effect byteRead
+    stop-arm h s q c v e =
+        ended-arm (Stop m) h s (ap (λ (x : Side). not (atRest (x .port))) own ∙ ap not q) (ap not c) _ 0 0 lines
+        (set-one k b a l two (r .x) fits v ∙ ap (λ (x : Side). withSide m x now) (e ∙ ap (withPort Rest) (sym own))) refl refl i
+
+    pub write-refused : decode r ≡ Reads (Write m (r .y)) → forWriting (sideAt l at .port) ≡ false → steppedWith now (kept 4 0 owner lines) ≡ step now r
+    unfolding inSequence
+    write-refused h q = refused-arm (Write m (r .y)) h (ap (λ (x : Side). forWriting (x .port)) own ∙ q)
+
+    light-byte : (p : Register) → writeIsLight p m (r .y) now ≡ byteIsLight p m (ownsTurn m (a .turn)) (r .y) (a .turn) ((side m now) .contr .busconnect)
+    light-byte Id = refl
+    light-byte Contr = refl
+    light-byte Status = refl
+    light-byte Rt = refl
+    light-byte IntStatus = refl
+    light-byte IntMask = refl
+    light-byte MailLow = refl
+    light-byte MailHigh = refl
+
+    pub write-arm : decode r ≡ Reads (Write m (r .y)) → Settled now → forWriting (sideAt l at .port) ≡ true
+        → byteIsLight (sideAt l at .pointer) m (ownsTurn m (a .turn)) (r .y) (a .turn) (sideAt l at .contr .busconnect) ≡ true
+        → (v w : Side) (number li : ℕ) → v ≡ writeRisen (rolls now) (ownWritten (ownsTurn m (a .turn)) (sideAt l at .pointer) (r .y) (sideAt l at)) → w ≡ mailWritten (sideAt l at .pointer) (r .y) (sideAt l (1 - at))
+        → number ≡ outcomeNumber (if writable (sideAt l at .pointer) then Done else NotAcknowledged)
+        → li ≡ linesShown (sideAt (set (set l at v) (1 - at) w) 0) (sideAt (set (set l at v) (1 - at) w) 1) b
+        → steppedWith (held k (set (set l at v) (1 - at) w) b a) (kept number 0 owner li) ≡ step now r
+    unfolding inSequence acknowledged endsItself keepsLines itsEnd effect byteRead
+    write-arm h s q t v w number li e f g n =
+        let light : writeIsLight ((side m now) .pointer) m (r .y) now ≡ true =
+        light-byte ((side m now) .pointer) ∙ ap (λ (x : Side). byteIsLight (x .pointer) m (ownsTurn m (a .turn)) (r .y) (a .turn) (x .contr .busconnect)) own ∙ t
+        in
+        let gone : held k (set (set l at v) (1 - at) w) b a ≡ written m (r .y) now =
+        set-both k b a l two (r .x) fits v w
+        ∙ ap₂ (λ (x y : Side). device m x y b a now) (e ∙ ap (λ (x : Side). writeRisen (rolls now) (ownWritten (ownsTurn m (a .turn)) (x .pointer) (r .y) x)) (sym own)) (f ∙ ap₂ (λ (x y : Side). mailWritten (x .pointer) (r .y) y) (sym own) (sym other))
+        ∙ sym (written-sides m (r .y) now light)
+        in
+        ended-arm (Write m (r .y)) h s (ap (λ (x : Side). forWriting (x .port)) own ∙ q) light _ number 0 li gone
+        (g ∙ ap (λ (x : Side). outcomeNumber (if writable (x .pointer) then Done else NotAcknowledged)) (sym own)) refl
+        (n ∙ lines-of k _ _ b a ∙ ap linesByte gone)
+
+    abbrev handed : ℕ
+    handed = registerByte (sideAt l at .pointer) (ownsTurn m (a .turn)) (ownsTurn (partner m) (a .turn)) (sideAt l at) (sideAt l (1 - at)) b (a .initfail)
+
+    same-byte : (byte : ℕ) → byte ≡ handed → byte ≡ byteRead (Read m) now
+    unfolding byteRead
+    same-byte byte e =
+        e ∙ ap₂ (λ (x y : Side). registerByte (x .pointer) (ownsTurn m (a .turn)) (ownsTurn (partner m) (a .turn)) x y b (a .initfail)) (sym own) (sym other)
+
+    emptied-is : (t : Bool) → empties (sideAt l at) ≡ t → empties (side m now) ≡ t
+    emptied-is t q = ap empties own ∙ q
+
+    pub read-emptying : decode r ≡ Reads (Read m) → Settled now → empties (sideAt l at) ≡ true → (v w : Side) (byte li : ℕ) → v ≡ readerSide (sideAt l at) → w ≡ senderSide true (sideAt l (1 - at)) → byte ≡ handed
+        → li ≡ linesShown (sideAt (set (set l at v) (1 - at) w) 0) (sideAt (set (set l at v) (1 - at) w) 1) b
+        → steppedWith (held k (set (set l at v) (1 - at) w) b a) (kept 0 byte owner li) ≡ step now r
+    unfolding inSequence acknowledged endsItself keepsLines itsEnd effect wasRead
+    read-emptying h s t v w byte li e f g n =
+        let gone : held k (set (set l at v) (1 - at) w) b a ≡ wasRead m now =
+        set-both k b a l two (r .x) fits v w
+        ∙ ap₂ (λ (x y : Side). device m x y b a now) (e ∙ ap readerSide (sym own)) (f ∙ ap₂ (λ (x : Bool) (y : Side). senderSide x y) (sym (emptied-is true t)) (sym other))
+        in
+        ended-arm (Read m) h s refl refl _ 0 byte li gone refl (same-byte byte g)
+        (n ∙ lines-of k _ _ b a ∙ ap linesByte gone ∙ ap (λ (x : Bool). if not x then linesByte now else linesByte (wasRead m now)) (sym (emptied-is true t)))
+
+    unsent : (x : Side) → x ≡ senderSide false x
+    unsent x = ap (λ (n : ℕ). withInts n x) (sym (or-zero-r (x .ints)))
+
+    pub read-arm : decode r ≡ Reads (Read m) → Settled now → empties (sideAt l at) ≡ false → (v : Side) (byte : ℕ) → v ≡ readerSide (sideAt l at) → byte ≡ handed
+        → steppedWith (held k (set l at v) b a) (kept 0 byte owner lines) ≡ step now r
+    unfolding inSequence acknowledged endsItself keepsLines itsEnd effect wasRead
+    read-arm h s t v byte e g =
+        let gone : held k (set l at v) b a ≡ wasRead m now =
+        set-one k b a l two (r .x) fits v
+        ∙ ap₂ (λ (x y : Side). device m x y b a now) (e ∙ ap readerSide (sym own)) (unsent (side (partner m) now) ∙ ap (λ (x : Bool). senderSide x (side (partner m) now)) (sym (emptied-is false t)))
+        in
+        ended-arm (Read m) h s refl refl _ 0 byte lines gone refl (same-byte byte g)
+        (i ∙ ap (λ (x : Bool). if not x then linesByte now else linesByte (wasRead m now)) (sym (emptied-is false t)))
+
+  pub pair-refused : decode r ≡ Reads (Pair (r .x) (r .y)) → forWriting (sideAt l 0 .port) && forWriting (sideAt l 1 .port) ≡ false → steppedWith now (kept 4 0 owner lines) ≡ step now r
+  unfolding inSequence
+  pair-refused h q = refused-arm (Pair (r .x) (r .y)) h q
+
+  pub pulse-refused : decode r ≡ Reads (Pulse (level (r .x))) → isInitialising (a .switch) ≡ false → steppedWith now (kept 4 0 owner lines) ≡ step now r
+  unfolding inSequence
+  pulse-refused h q = refused-arm (Pulse (level (r .x))) h q
+
+  pub lines-arm : decode r ≡ Reads (Lines (level (r .x)) (level (r .y)) (level (r .z))) → Settled now → (n : Bus) → n ≡ linedBus (level (r .x)) (level (r .y)) (level (r .z)) b → noLoss (a .turn) (held k l n a) ≡ true
+      → (fell : Bool) → fell ≡ b .intin && not (level (r .z)) → (v w : Side) (li : ℕ) → v ≡ intInFallen fell (sideAt l 0) → w ≡ intInFallen fell (sideAt l 1) → li ≡ linesShown v w n
+      → steppedWith (held k (set (set l 0 v) 1 w) n a) (kept 0 0 owner li) ≡ step now r
+  unfolding inSequence acknowledged endsItself keepsLines itsEnd effect lined byteRead
+  lines-arm h s n e t fell f v w li p q u =
+      let e1 : Event = Lines (level (r .x)) (level (r .y)) (level (r .z)) in
+      let gone : held k (set (set l 0 v) 1 w) n a ≡ itsEnd e1 now =
+      set-all k n a l two v w
+      ∙ (λ j. deviceOf k ((p ∙ ap (λ (x : Bool). intInFallen x (sideAt l 0)) f) j) ((q ∙ ap (λ (x : Bool). intInFallen x (sideAt l 1)) f) j) (e j) a)
+      in
+      ended-arm e1 h s refl (ap (λ (x : Bus). noLoss (a .turn) (held k l x a)) (sym e) ∙ t) _ 0 0 li gone refl refl
+      (u ∙ lines-of k v w n a ∙ ap linesByte (sym (set-all k n a l two v w) ∙ gone))
+
+  -- GENERAL CALL of another byte: nothing happens, and parts 2 to 7 have nothing to do in a settled device
+  pub call-arm : decode r ≡ Reads (GeneralCall (master (r .x)) (r .y)) → Settled now → softReset (r .y) ≡ false → steppedWith now (kept 1 0 owner lines) ≡ step now r
+  unfolding stepEvent taken inSequence acknowledged outcome byteRead parts effect partsThreeToSeven
+  call-arm h s q =
+      let rest : parts (GeneralCall (master (r .x)) (r .y)) now ≡ now =
+      ap (λ (x : Bool). partsThreeToSeven false (clockOf (GeneralCall (master (r .x)) (r .y))) (levels x b (if x then wasReset (holdAsked (side (master (r .x)) now)) now else now))) q
+      ∙ fits-settles Zero now (sideAt l 0) (sideAt l 1) s (fits-self Zero (a .turn) (sideAt l 0)) (refl, refl, refl)
+      in
+      joined now _ 1 _ 0 0 owner _ lines _ (sym rest) (ap (λ (x : Bool). outcomeNumber (if x then Done else NotAcknowledged)) (sym q)) refl (o ∙ ap ownerByte (sym rest)) (i ∙ ap linesByte (sym rest))
+      ∙ sym (stepped (GeneralCall (master (r .x)) (r .y)) h)
+
+  -- RESET: parts 2 to 7 find nothing to do
+  abbrev left : Bus
+  left = freshBus 0 b
+
+  reset-levels : levels true b (wasReset 0 now) ≡ wasReset 0 now
+  unfolding levels wasReset freshSide
+  reset-levels = λ j. record {
+    kind = k;
+    side0 = freshSide;
+    side1 = freshSide;
+    bus = record { outscl = b .outscl; outsda = b .outsda; intin = b .intin; drivescl = true; drivesda = true; busy = false; hold = 0; idle = none (not (busyAfter true b left) && sclHigh left && sdaHigh left) j; lowscl = none (sclHigh left) j; lowsda = none (sdaHigh left || sclChanged b left) j };
+    arb = freshArb;
+  }
+
+  reset-parts : parts Reset now ≡ wasReset 0 now
+  unfolding parts effect
+  reset-parts = ap (λ (x : Device). connect NoClock (grant (claim (cut false (losses x))))) reset-levels ∙ reset-rest now
+
+  pub reset-arm : decode r ≡ Reads Reset → (d : Device) (x : Answer) → d ≡ wasReset 0 now → x ≡ answer 0 0 d → steppedWith d x ≡ step now r
+  unfolding stepEvent taken inSequence acknowledged outcome byteRead
+  reset-arm h d x e f =
+      ap (λ (y : Answer). steppedWith d y) f
+      ∙ ap (λ (y : Device). steppedWith y (answer 0 0 y)) (e ∙ sym reset-parts)
+      ∙ sym (stepped Reset h)

@@ -1,0 +1,62 @@
+-- `traces::sides::byte_is_light` meets its contract.
+-- Assumes nothing.
+use borrow.Author.Needs.{needs}
+use Rattle.traces.proofs.sides.byte_is_light.Statement.{statement}
+use Rattle.traces.proofs.sides.byte_is_light.Tie as tie
+
+enum-told : tie.Need-enum-told
+enum-told c = search needs
+
+enum-told-2 : tie.Need-enum-told-2
+enum-told-2 c = search needs
+
+bit-0-requires : tie.Need-bit-0-requires
+bit-0-requires c κs = search needs
+
+leaves-turn-requires : tie.Need-leaves-turn-requires
+leaves-turn-requires c κs = search needs
+
+enum-told-3 : tie.Need-enum-told-3
+enum-told-3 c = search needs
+
+enum-told-4 : tie.Need-enum-told-4
+enum-told-4 c = search needs
+
+enum-told-5 : tie.Need-enum-told-5
+enum-told-5 c = search needs
+
+enum-told-6 : tie.Need-enum-told-6
+enum-told-6 c = search needs
+
+enum-told-7 : tie.Need-enum-told-7
+enum-told-7 c = search needs
+
+enum-told-8 : tie.Need-enum-told-8
+enum-told-8 c = search needs
+
+returns : tie.Need-returns
+returns c = simp (c .enum-told .given .1)
+
+returns-2 : tie.Need-returns-2
+returns-2 c = simp (← c .leaves-turn .ensures, ← c .before .bit-0 .ensures, c .before .before .enum-told2 .given .1)
+
+returns-3 : tie.Need-returns-3
+returns-3 c = simp (c .enum-told3 .given .1)
+
+returns-4 : tie.Need-returns-4
+returns-4 c = simp (c .enum-told4 .given .1)
+
+returns-5 : tie.Need-returns-5
+returns-5 c = simp (c .enum-told5 .given .1)
+
+returns-6 : tie.Need-returns-6
+returns-6 c = simp (c .enum-told6 .given .1)
+
+returns-7 : tie.Need-returns-7
+returns-7 c = simp (c .enum-told7 .given .1)
+
+returns-8 : tie.Need-returns-8
+returns-8 c = simp (c .enum-told8 .given .1)
+
+pub byte-is-light-spec : {M : Type 1} → statement M
+byte-is-light-spec = tie.close (tie.spec enum-told enum-told-2 bit-0-requires leaves-turn-requires enum-told-3 enum-told-4 enum-told-5 enum-told-6 enum-told-7 enum-told-8 returns returns-2 returns-3 returns-4 returns-5 returns-6 returns-7 returns-8)

@@ -1,0 +1,275 @@
+// What the loop over events asks of one event, and of the two sides that it holds beside each other (request #114).
+ghost use mathlib.Core.Path.{_≡_};
+ghost use mathlib.Core.Bool.{_&&_, not};
+ghost use Rattle.arbiter.specs.Words.{if_then_else_, partner};
+ghost use Rattle.arbiter.specs.State.{ownsTurn, isInitialising, atRest, forWriting};
+ghost use Rattle.arbiter.specs.Registers.{registerByte, mailWritten};
+ghost use Rattle.arbiter.specs.Events.{unused, zeroOrOne, level, master, goodCommand, writable, outcomeNumber};
+ghost use Rattle.arbiter.specs.declared.Outcome.the-variants.{Done, NotAcknowledged};
+ghost use Rattle.arbitration.specs.Quiet.{noLoss};
+ghost use Rattle.step.specs.Light.{claimsTurn};
+ghost use Rattle.step.specs.Short.{kept};
+ghost use Rattle.light.specs.Ended.{leavesTurn, linedBus};
+ghost use Rattle.traces.specs.Sides.{kindTold, byteIsLight, linesShown, deviceOf};
+use arbiter::Answer;
+use arbiter::Arbitration;
+use arbiter::Bus;
+use arbiter::Control;
+use arbiter::Device;
+use arbiter::Kind;
+use arbiter::Master;
+use arbiter::Raw;
+use arbiter::Register;
+use arbiter::Side;
+use arbiter::Turn;
+use arbitration::losses::no_loss;
+use bits::bit_0;
+use bits::worth_of;
+use bus::bus_hung;
+use bus::outside_of;
+use bus::scl_high;
+use bus::sda_high;
+use bus::settled_bus;
+use connection::initialises;
+use events::acknowledged_number;
+use fields::owns_turn;
+use fields::pointer_of;
+use fields::port_of;
+use fields::same_master;
+use fields::switch_of;
+use fields::turn_of;
+use ports::is_at_rest;
+use ports::is_for_writing;
+use registers::byte_handed_out;
+use registers::is_asserted_by;
+use writing::light_partner;
+use writing::writable_at;
+
+// ---- the four bytes of an event
+
+// The kind of an event in a settled device. In any other it is 255, which is no kind, and the event is stepped in full.
+pub(crate) fn kind_told(settled: bool, r: Raw) -> u8
+    ensures { λ k. ⌜ k ≡ kindTold settled r ⌝ }
+{
+    if settled { r.kind } else { 255 }
+}
+
+// A master and a byte, as COMMAND and WRITE have them.
+pub(crate) fn fits_byte(r: Raw) -> bool
+    ensures { λ t. ⌜ t ≡ zeroOrOne (r .x) && unused (r .z) ⌝ }
+{
+    (r.x < 2) & (r.z == 0)
+}
+
+// A master alone, as READ and STOP have it, or a level, as PULSE has it.
+pub(crate) fn fits_one(r: Raw) -> bool
+    ensures { λ t. ⌜ t ≡ zeroOrOne (r .x) && unused (r .y) && unused (r .z) ⌝ }
+{
+    (r.x < 2) & (r.y == 0) & (r.z == 0)
+}
+
+// Three levels, as LINES has them.
+pub(crate) fn fits_levels(r: Raw) -> bool
+    ensures { λ t. ⌜ t ≡ zeroOrOne (r .x) && zeroOrOne (r .y) && zeroOrOne (r .z) ⌝ }
+{
+    (r.x < 2) & (r.y < 2) & (r.z < 2)
+}
+
+// No field, as RESET has none.
+pub(crate) fn fits_none(r: Raw) -> bool
+    ensures { λ t. ⌜ t ≡ unused (r .x) && unused (r .y) && unused (r .z) ⌝ }
+{
+    (r.x == 0) & (r.y == 0) & (r.z == 0)
+}
+
+fn master_at(x: u8) -> Master
+    ensures { λ m. ⌜ m ≡ master x ⌝ }
+{
+    if x == 0 { Master::Zero } else { Master::One }
+}
+
+fn partner_at(x: u8) -> Master
+    ensures { λ m. ⌜ m ≡ partner (master x) ⌝ }
+{
+    if x == 0 { Master::One } else { Master::Zero }
+}
+
+// ---- the turn, as a master finds it
+
+fn claims_by(m: Master, t: Turn) -> bool
+    ensures { λ r. ⌜ r ≡ claimsTurn m t ⌝ }
+{
+    match t {
+        Turn::Nobody => false,
+        Turn::Claims(k, _) => same_master(m, k),
+        Turn::Owns(_, _) => false,
+    }
+}
+
+pub(crate) fn claims_at(x: u8, a: Arbitration) -> bool
+    ensures { λ r. ⌜ r ≡ claimsTurn (master x) (a .turn) ⌝ }
+{
+    claims_by(master_at(x), turn_of(a))
+}
+
+pub(crate) fn granted_at(x: u8, a: Arbitration) -> bool
+    ensures { λ r. ⌜ r ≡ ownsTurn (master x) (a .turn) ⌝ }
+{
+    owns_turn(master_at(x), turn_of(a))
+}
+
+fn partner_granted_at(x: u8, a: Arbitration) -> bool
+    ensures { λ r. ⌜ r ≡ ownsTurn (partner (master x)) (a .turn) ⌝ }
+{
+    owns_turn(partner_at(x), turn_of(a))
+}
+
+pub(crate) fn is_initialising(a: Arbitration) -> bool
+    ensures { λ r. ⌜ r ≡ isInitialising (a .switch) ⌝ }
+{
+    initialises(switch_of(a))
+}
+
+// ---- a side, and a byte that is written or read
+
+pub(crate) fn takes_bytes(s: Side) -> bool
+    ensures { λ r. ⌜ r ≡ forWriting (s .port) ⌝ }
+{
+    is_for_writing(port_of(s))
+}
+
+pub(crate) fn is_resting(s: Side) -> bool
+    ensures { λ r. ⌜ r ≡ atRest (s .port) ⌝ }
+{
+    is_at_rest(port_of(s))
+}
+
+fn leaves_turn(m: Master, request: bool, t: Turn) -> bool
+    ensures { λ r. ⌜ r ≡ leavesTurn m request t ⌝ }
+{
+    match t {
+        Turn::Nobody => !request,
+        Turn::Claims(k, _) => request | !same_master(m, k),
+        Turn::Owns(k, _) => !same_master(m, k),
+    }
+}
+
+fn byte_is_light(at: Register, m: Master, granted: bool, v: u8, t: Turn, connect: bool) -> bool
+    ensures { λ r. ⌜ r ≡ byteIsLight at m granted v t connect ⌝ }
+{
+    match at {
+        Register::Id => true,
+        Register::Contr => leaves_turn(m, bit_0(v), t),
+        Register::Status => !(granted & !connect),
+        Register::Rt => true,
+        Register::IntStatus => true,
+        Register::IntMask => true,
+        Register::MailLow => true,
+        Register::MailHigh => true,
+    }
+}
+
+fn is_connect(c: Control) -> bool
+    ensures { λ r. ⌜ r ≡ c .busconnect ⌝ }
+{
+    c.busconnect
+}
+
+// A byte of this master, whose side is s, moves neither turn nor drives.
+pub(crate) fn writes_lightly(x: u8, v: u8, a: Arbitration, s: Side) -> bool
+    ensures { λ r. ⌜ r ≡ byteIsLight (s .pointer) (master x) (ownsTurn (master x) (a .turn)) v (a .turn) (s .contr .busconnect) ⌝ }
+{
+    let granted = granted_at(x, a);
+    let connect = is_connect(s.contr);
+    byte_is_light(pointer_of(s), master_at(x), granted, v, turn_of(a), connect)
+}
+
+// The partner's side o after a byte that was written at the pointer of s.
+pub(crate) fn partner_written(v: u8, s: Side, o: Side) -> Side
+    ensures { λ r. ⌜ r ≡ mailWritten (s .pointer) v o ⌝ }
+{
+    light_partner(pointer_of(s), v, o)
+}
+
+// The byte that a READ of this master hands out; s is its side, and o is its partner's.
+pub(crate) fn byte_read(x: u8, a: Arbitration, s: Side, o: Side, b: Bus) -> u8
+    ensures { λ r. ⌜ r ≡ registerByte (s .pointer) (ownsTurn (master x) (a .turn)) (ownsTurn (partner (master x)) (a .turn)) s o b (a .initfail) ⌝ }
+{
+    let granted = granted_at(x, a);
+    let theirs = partner_granted_at(x, a);
+    byte_handed_out(granted, theirs, s, o, b, a.initfail)
+}
+
+pub(crate) fn commanded_number(c: u8) -> u8
+    ensures { λ r. ⌜ r ≡ outcomeNumber (if goodCommand c then Done else NotAcknowledged) ⌝ }
+{
+    acknowledged_number(c / 8 % 16 == 0)
+}
+
+pub(crate) fn written_number(s: Side) -> u8
+    ensures { λ r. ⌜ r ≡ outcomeNumber (if writable (s .pointer) then Done else NotAcknowledged) ⌝ }
+{
+    acknowledged_number(writable_at(pointer_of(s)))
+}
+
+// ---- LINES
+
+// The bus after these levels and part 2 of a step.
+pub(crate) fn bus_lined(r: Raw, b: Bus) -> Bus
+    ensures { λ n. ⌜ n ≡ linedBus (level (r .x)) (level (r .y)) (level (r .z)) b ⌝ }
+{
+    settled_bus(b, outside_of(r.x == 1, r.y == 1, r.z == 1, b))
+}
+
+pub(crate) fn intin_fell(r: Raw, b: Bus) -> bool
+    ensures { λ n. ⌜ n ≡ b .intin && not (level (r .z)) ⌝ }
+{
+    b.intin & !(r.z == 1)
+}
+
+// ---- the device and its answer
+
+pub(crate) fn device_of(kind: Kind, side0: Side, side1: Side, bus: Bus, arb: Arbitration) -> Device
+    ensures { λ r. ⌜ r ≡ deviceOf kind side0 side1 bus arb ⌝ }
+{
+    Device {
+        kind,
+        side0,
+        side1,
+        bus,
+        arb,
+    }
+}
+
+// With this bus its owner, if it has one, keeps the grant.
+pub(crate) fn ends_no_grant(
+    kind: Kind,
+    side0: Side,
+    side1: Side,
+    bus: Bus,
+    arb: Arbitration,
+) -> bool
+    ensures { λ r. ⌜ r ≡ noLoss (arb .turn) (deviceOf kind side0 side1 bus arb) ⌝ }
+{
+    no_loss(turn_of(arb), device_of(kind, side0, side1, bus, arb))
+}
+
+pub(crate) fn lines_shown(s0: Side, s1: Side, b: Bus) -> u8
+    ensures { λ r. ⌜ r ≡ linesShown s0 s1 b ⌝ }
+{
+    let hung = bus_hung(b);
+    let int0 = is_asserted_by(hung, s0.ints, s0.mask);
+    let int1 = is_asserted_by(hung, s1.ints, s1.mask);
+    worth_of(1, int0) + worth_of(2, int1) + worth_of(4, scl_high(b)) + worth_of(8, sda_high(b))
+}
+
+pub(crate) fn answer_kept(outcome: u8, read: u8, owner: u8, lines: u8) -> Answer
+    ensures { λ r. ⌜ r ≡ kept outcome read owner lines ⌝ }
+{
+    Answer {
+        outcome,
+        read,
+        owner,
+        lines,
+    }
+}
