@@ -16,12 +16,19 @@ pub struct Device {
 /// The device that the command line names. Messages have the command's name.
 pub fn read_device(command: &str, arguments: &Arguments) -> Result<Device, Failure> {
     let words = |name| arguments.options.get(name).map(Vec::as_slice).unwrap_or_default();
-    let read = || -> Result<Device, String> {
-        let (address, pins) = strapping(command, words("--address"), words("--pins"))?;
-        let part = part(command, words("--part"))?;
-        Ok(Device { address, pins, part })
-    };
-    read().map_err(|what| Failure::Wrong(format!("{what}; gunwaleish {command} --help tells more")))
+    device_of(command, words("--address"), words("--pins"), words("--part"))
+        .map_err(|what| Failure::Wrong(format!("{what}; gunwaleish {command} --help tells more")))
+}
+
+/// The device of the words after --address or --pins, and after --part; or what is wrong with them.
+pub fn device_of(
+    command: &str,
+    address: &[String],
+    pins: &[String],
+    part: &[String],
+) -> Result<Device, String> {
+    let (address, pins) = strapping(command, address, pins)?;
+    Ok(Device { address, pins, part: the_part(command, part)? })
 }
 
 /// The address and the pins, out of the words after --address or after --pins.
@@ -43,7 +50,7 @@ fn strapping(command: &str, address: &[String], pins: &[String]) -> Result<(u8, 
 }
 
 /// The part, which has no default.
-fn part(command: &str, words: &[String]) -> Result<Part, String> {
+fn the_part(command: &str, words: &[String]) -> Result<Part, String> {
     let either = "--part PCA9641 or --part TPT29641";
     let [name] = words else {
         return Err(format!(

@@ -39,6 +39,13 @@ impl Made {
     }
 }
 
+/// Why a text is refused, as it is told, and the line that it is about, from 1, if it is about one.
+#[derive(Clone, Debug, PartialEq, Eq)]
+pub struct Mistake {
+    pub why: String,
+    pub line: Option<usize>,
+}
+
 /// How a command goes over its inputs.
 pub struct Each<F: Fn(&Input) -> Made> {
     /// The most bytes of an input that are of use.

@@ -43,13 +43,18 @@ pub fn hint(input: &Input, wanted: Kind) -> String {
 
 /// The same of a name and what the file has.
 pub fn hint_of(name: &str, bytes: &[u8], wanted: Kind) -> String {
-    let kind = kind_of(bytes).or_else(|| kind_by_name(name));
-    let kind = kind.or_else(|| is_text(bytes).then_some(Kind::Text));
+    let kind = looks_like(name, bytes);
     kind.and_then(|kind| said(kind, wanted)).map_or(String::new(), |text| format!("; it {text}"))
 }
 
+/// What a file of this name and with these bytes looks like, if like anything.
+pub fn looks_like(name: &str, bytes: &[u8]) -> Option<Kind> {
+    let kind = kind_of(bytes).or_else(|| kind_by_name(name));
+    kind.or_else(|| is_text(bytes).then_some(Kind::Text))
+}
+
 /// What a file is and what to do with it, where another kind is wanted.
-fn said(kind: Kind, wanted: Kind) -> Option<String> {
+pub fn said(kind: Kind, wanted: Kind) -> Option<String> {
     if kind == wanted {
         return None;
     }

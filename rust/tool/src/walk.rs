@@ -28,6 +28,13 @@ pub struct Found {
 }
 
 impl Found {
+    /// Files of which the names alone are known, sorted into traces and others.
+    pub fn of_names(mut names: Vec<PathBuf>) -> Found {
+        names.sort();
+        let (files, others) = names.into_iter().partition(|name| is_trace(name));
+        Found { files, others, ..Found::default() }
+    }
+
     /// What is wrong with the folders, where each that is named is to have traces.
     pub fn failures(&self) -> impl Iterator<Item = &Failure> {
         self.empty.iter().chain(&self.unread)
@@ -65,6 +72,11 @@ impl Found {
     }
 }
 
+/// True of a name that ends in `.trace`, in any letters.
+fn is_trace(path: &Path) -> bool {
+    path.extension().is_some_and(|ending| ending.eq_ignore_ascii_case("trace"))
+}
+
 /// What one folder has.
 #[derive(Default)]
 struct Search {
@@ -99,7 +111,7 @@ impl Search {
         if kind.is_dir() {
             return Ok(Some(path));
         }
-        let trace = path.extension().is_some_and(|ending| ending.eq_ignore_ascii_case("trace"));
+        let trace = is_trace(&path);
         // A link that leads nowhere is taken, and told when it cannot be read.
         let file = kind.is_file() || kind.is_symlink() && !path.is_dir();
         match (trace && file, kind.is_symlink() && path.is_dir()) {

@@ -3,7 +3,7 @@
 use gunwaleish::{write_trace, Refusal};
 
 use super::Command;
-use crate::each::{Each, Made};
+use crate::each::{Each, Made, Mistake};
 use crate::files::Input;
 use crate::hint::{hint, Kind};
 use crate::script::{read_script, warnings, Script};
@@ -51,30 +51,32 @@ pub const COMMAND: Command = Command {
 };
 
 pub fn compose(input: &Input) -> Made {
+    composed(input).map_or_else(|mistake| Made::refused(mistake.why), Made::done)
+}
+
+/// The trace of a script, or why there is none.
+pub fn composed(input: &Input) -> Result<Vec<u8>, Mistake> {
+    let name = &input.name;
     if input.bytes.len() > MOST_TEXT {
-        return Made::refused(format!("{}: the script is longer than 16 MiB", input.name));
+        let why = format!("{name}: the script is longer than 16 MiB");
+        return Err(Mistake { why, line: None });
     }
-    let script = match read_script(&input.bytes) {
-        Ok(script) => script,
-        Err(unread) => {
-            let hint = hint(input, Kind::Script);
-            return Made::refused(format!("{}, {unread}{hint}", input.name));
-        }
-    };
-    match write_trace(script.pins, script.part, &script.events) {
-        Ok(trace) => Made::done(trace),
-        Err(refusal) => {
-            Made::refused(format!("{}{}: {refusal}", input.name, place(&script, refusal)))
-        }
-    }
+    let script = read_script(&input.bytes).map_err(|unread| {
+        let why = format!("{name}, {unread}{}", hint(input, Kind::Script));
+        Mistake { why, line: Some(unread.line) }
+    })?;
+    write_trace(script.pins, script.part, &script.events).map_err(|refusal| {
+        let line = place(&script, refusal);
+        let place = line.map_or(String::new(), |line| format!(", line {line}"));
+        Mistake { why: format!("{name}{place}: {refusal}"), line }
+    })
 }
 
 /// The line that the library's refusal is about.
-fn place(script: &Script, refusal: Refusal) -> String {
-    let line = match refusal {
+fn place(script: &Script, refusal: Refusal) -> Option<usize> {
+    match refusal {
         Refusal::NoSuchStrapping => Some(script.pins_line),
         Refusal::TooManyEvents => script.overflow_line,
         _ => None,
-    };
-    line.map_or(String::new(), |line| format!(", line {line}"))
+    }
 }

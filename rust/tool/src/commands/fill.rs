@@ -2,7 +2,7 @@
 
 use super::Command;
 use crate::arguments::Arguments;
-use crate::each::{Each, Made};
+use crate::each::{self, Each, Made};
 use crate::failure::Failure;
 use crate::files::Input;
 use crate::form::{boxes_of, read, sheet_of, Mistake};
@@ -42,23 +42,27 @@ fn run(arguments: &Arguments) -> Result<(), Failure> {
 }
 
 pub fn fill(input: &Input) -> Made {
+    filled(input).map_or_else(|mistake| Made::refused(mistake.why), Made::done)
+}
+
+/// The sheet of a text, or why there is none, with the line of the first typing error.
+pub fn filled(input: &Input) -> Result<Vec<u8>, each::Mistake> {
     let name = &input.name;
     let hint = || hint(input, Kind::SheetText);
+    let none = |why| Err(each::Mistake { why, line: None });
     if input.bytes.len() > MOST_TEXT {
-        return Made::refused(format!(
-            "{name}: it is longer than 64 KiB, and a sheet has six lines{}",
-            hint()
-        ));
+        let hint = hint();
+        return none(format!("{name}: it is longer than 64 KiB, and a sheet has six lines{hint}"));
     }
     if boxes_of(&input.bytes).is_ok() {
-        return Made::refused(format!(
+        return none(format!(
             "{name}: it is a sheet already, and no text; gunwaleish sheet shows it as text"
         ));
     }
-    match read(&input.bytes) {
-        Ok(boxes) => Made::done(sheet_of(boxes)),
-        Err(mistakes) => Made::refused(refused(name, &mistakes) + &hint()),
-    }
+    read(&input.bytes).map(|boxes| sheet_of(boxes).to_vec()).map_err(|mistakes| each::Mistake {
+        why: refused(name, &mistakes) + &hint(),
+        line: mistakes.iter().find_map(|mistake| mistake.line),
+    })
 }
 
 /// A line for each typing error, or for the first ones.

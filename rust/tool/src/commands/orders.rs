@@ -137,7 +137,12 @@ pub fn orders(script0: &Input, script1: &Input, wanted: &Wanted, how: How) -> Ma
 }
 
 /// What is made, and what is said besides.
-fn tried(script0: &Input, script1: &Input, wanted: &Wanted, how: How) -> (Made, Option<String>) {
+pub fn tried(
+    script0: &Input,
+    script1: &Input,
+    wanted: &Wanted,
+    how: How,
+) -> (Made, Option<String>) {
     let names = [script0.name.as_str(), script1.name.as_str()];
     let made = read_both(script0, script1, how).and_then(|scripts| match wanted {
         Wanted::Groups | Wanted::All | Wanted::Rows(_) => told(names, &scripts, wanted, how),

@@ -142,6 +142,9 @@ fn run_shelf(arguments: &Arguments) -> Result<(), Failure> {
     Made::done(drawn).hand_out(output.as_deref())
 }
 
+/// Why no share is drawn.
+pub const NO_TICK: &str = "there is no tick in these traces, and nothing to draw";
+
 /// Of files and folders. What cannot be read is told, and the others are counted.
 fn run_share(arguments: &Arguments) -> Result<(), Failure> {
     if arguments.files.is_empty() {
@@ -157,10 +160,10 @@ fn run_share(arguments: &Arguments) -> Result<(), Failure> {
     found.said.iter().for_each(|line| files::complain(line));
     failures.iter().for_each(|failure| failure.say());
     if counted.totals.ticks() == 0 {
-        let what = "there is no tick in these traces, and nothing to draw";
-        return Err(Failure::Refused(what.to_string()));
+        return Err(Failure::Refused(NO_TICK.to_string()));
     }
-    let drawn = picture::share::draw(&counted.totals, &named(&arguments.files));
+    let names: Vec<String> = arguments.files.iter().map(|path| files::name_of(path)).collect();
+    let drawn = picture::share::draw(&counted.totals, &named(&names));
     Made { output: Some(drawn.into()), refused: past(&counted) }.hand_out(output.as_deref())?;
     match failures.iter().map(|failure| failure.code()).max() {
         None => Ok(()),
@@ -169,9 +172,8 @@ fn run_share(arguments: &Arguments) -> Result<(), Failure> {
 }
 
 /// The names of what was counted, or the first and how many more there are.
-fn named(paths: &[PathBuf]) -> String {
-    let names: Vec<String> = paths.iter().map(|path| files::name_of(path)).collect();
-    match names.as_slice() {
+pub fn named(names: &[String]) -> String {
+    match names {
         [first, others @ ..] if others.len() > 1 => format!("{first} and {} more", others.len()),
         _ => names.join(" and "),
     }

@@ -57,7 +57,9 @@ fn run(arguments: &Arguments) -> Result<(), Failure> {
     let inputs = [script.clone(), shelf.clone()];
     let output = output_of(&inputs, wanted.ending(), arguments.output.as_deref())?;
     let read = |path| files::read(path, MOST_TEXT);
-    over(&read(shelf)?, &read(script)?, wanted).hand_out(output.as_deref())
+    let (made, warned) = told_over(&read(shelf)?, &read(script)?, wanted);
+    warned.iter().for_each(|line| files::complain(line));
+    made.hand_out(output.as_deref())
 }
 
 /// What is to be made of a run over a shelf.
@@ -92,18 +94,23 @@ fn wrong(what: &str) -> Failure {
 /// The script run over the shelf, as it is wanted. Events that the shelf or a device refuses are told as
 /// a refusal too.
 pub fn over(shelf: &Input, script: &Input, wanted: Wanted) -> Made {
+    told_over(shelf, script, wanted).0
+}
+
+/// The same, and what is worth a second look in the script.
+fn told_over(shelf: &Input, script: &Input, wanted: Wanted) -> (Made, Vec<String>) {
     let shelved = match run_both(shelf, script) {
         Ok(shelved) => shelved,
-        Err(why) => return Made::refused(why),
+        Err(why) => return (Made::refused(why), vec![]),
     };
-    warnings::tell_shelved(script, &shelved);
     let text = match (wanted.form, wanted.list) {
         (None, true) => words::listed(&shelved),
         (None, false) => words::told([&shelf.name, &script.name], &shelved),
         (Some(form), true) => rows::events(&shelved, form),
         (Some(form), false) => rows::places(&shelved, form),
     };
-    Made { output: Some(text.into()), refused: refused(&script.name, &shelved) }
+    let made = Made { output: Some(text.into()), refused: refused(&script.name, &shelved) };
+    (made, warnings::of_shelved(script, &shelved))
 }
 
 /// The run of the script over the shelf, or why there is none.
@@ -123,7 +130,7 @@ pub fn run_both(shelf: &Input, script: &Input) -> Result<Shelved, String> {
 }
 
 /// The first event that the shelf or a device refused, and how many more there are.
-fn refused(name: &str, shelved: &Shelved) -> Option<String> {
+pub fn refused(name: &str, shelved: &Shelved) -> Option<String> {
     let by_shelf = shelved.refused().map(|(number, named)| (number, named, words::why(named)));
     let by_devices = shelved.refused_by_devices();
     let by_devices =

@@ -2,7 +2,7 @@
 
 use std::collections::BTreeSet;
 use std::fs::File;
-use std::io::{self, Read as _};
+use std::io;
 use std::path::{Path, PathBuf};
 use std::time::UNIX_EPOCH;
 
@@ -34,24 +34,49 @@ pub const BOARD: &str = "board.sheet";
 pub const HOUSE: &str = "house.sheet";
 pub const STARTS: [&str; 2] = ["start0.script", "start1.script"];
 
+/// How a file is read: all of it for its size and its hash, and so many of its bytes kept, and one more.
+pub type Reading<'a> = &'a dyn Fn(&Path, usize) -> Result<Read, Failure>;
+
 /// Finds the files and reads them all. What cannot be read, or is not there and has to be, is a failure:
 /// there is no verdict over a part of a release.
 pub fn read_bundle(folder: Option<&Path>, named: &Named) -> Result<Bundle, Failure> {
     let here = folder.map_or(Ok(Here::default()), Here::look_into)?;
+    bundle_of(&here, folder, named, &read)
+}
+
+/// The same of a folder that is on no disk: the names of its files, each with the folder's before it.
+pub fn bundle_of_names(
+    folder: &Path,
+    names: Vec<PathBuf>,
+    read: Reading,
+) -> Result<Bundle, Failure> {
+    let here = Here { folder: folder.to_path_buf(), found: Found::of_names(names) };
+    bundle_of(&here, Some(folder), &Named::default(), read)
+}
+
+fn bundle_of(
+    here: &Here,
+    folder: Option<&Path>,
+    named: &Named,
+    read: Reading,
+) -> Result<Bundle, Failure> {
     let mut named = here.fill_in(named);
     let board = named.board.take().ok_or_else(|| here.lacks(BOARD, "--board"))?;
     let house = named.house.take().ok_or_else(|| here.lacks(HOUSE, "--house"))?;
     here.add_shelf(&mut named)?;
-    let [of_board, of_house] = [&board, &house].map(|sheet| here.text_of(sheet));
-    let traces = traces_of(&named.traces)?;
+    let [of_board, of_house] = [&board, &house].map(|sheet| here.text_of(sheet, read));
+    let traces = match named.traces.is_empty() {
+        true => here.found.files.clone(),
+        false => traces_of(&named.traces)?,
+    };
     let mut bundle = Bundle {
         folder: folder.map(name_of),
         // More than a sheet has, by which another file is known.
         board: read(&board, MOST_TRACE)?,
         house: read(&house, MOST_TRACE)?,
         texts: [of_board?, of_house?],
-        scripts: read_starts(&named.starts)?,
-        shelf: read_shelf(&named)?,
+        scripts: read_starts(&named.starts, read)?,
+        shelf: read_shelf(&named, read)?,
         traces: traces.iter().map(|path| read(path, MOST_TRACE)).collect::<Result<_, _>>()?,
         others: vec![],
     };
@@ -59,7 +84,7 @@ pub fn read_bundle(folder: Option<&Path>, named: &Named) -> Result<Bundle, Failu
     Ok(bundle)
 }
 
-fn read_starts(starts: &[Option<PathBuf>; 2]) -> Result<Option<[Read; 2]>, Failure> {
+fn read_starts(starts: &[Option<PathBuf>; 2], read: Reading) -> Result<Option<[Read; 2]>, Failure> {
     match starts {
         [Some(first), Some(second)] => Ok(Some([read(first, MOST_TEXT)?, read(second, MOST_TEXT)?])),
         [None, None] => Ok(None),
@@ -70,7 +95,7 @@ fn read_starts(starts: &[Option<PathBuf>; 2]) -> Result<Option<[Read; 2]>, Failu
     }
 }
 
-fn read_shelf(named: &Named) -> Result<Option<ShelfRead>, Failure> {
+fn read_shelf(named: &Named, read: Reading) -> Result<Option<ShelfRead>, Failure> {
     let read = |path: &PathBuf| read(path, MOST_TEXT);
     match &named.shelf {
         Some(shelf) => {
@@ -125,9 +150,6 @@ impl Here {
         for (start, name) in named.starts.iter_mut().zip(STARTS) {
             *start = start.take().or_else(|| self.file(name));
         }
-        if named.traces.is_empty() {
-            named.traces = self.found.files.clone();
-        }
         named
     }
 
@@ -175,7 +197,7 @@ impl Here {
     }
 
     /// The text of a sheet, if it stands beside it in the folder under the same name.
-    fn text_of(&self, sheet: &Path) -> Result<Option<Read>, Failure> {
+    fn text_of(&self, sheet: &Path, read: Reading) -> Result<Option<Read>, Failure> {
         let text = sheet.with_extension("txt");
         let is_there = self.found.others.contains(&text);
         is_there.then(|| read(&text, fill::MOST_TEXT)).transpose()
@@ -230,7 +252,7 @@ pub fn read(path: &Path, most: usize) -> Result<Read, Failure> {
     let open = || -> io::Result<Option<Read>> {
         // A pipe or a device may have no end, and nobody can look at it again.
         match path.metadata()?.is_file() {
-            true => read_whole(File::open(path)?, path, most).map(Some),
+            true => read_open(File::open(path)?, path, most).map(Some),
             false => Ok(None),
         }
     };
@@ -241,13 +263,23 @@ pub fn read(path: &Path, most: usize) -> Result<Read, Failure> {
     }
 }
 
-fn read_whole(mut file: File, path: &Path, most: usize) -> io::Result<Read> {
+fn read_open(file: File, path: &Path, most: usize) -> io::Result<Read> {
     let changed = file.metadata()?.modified().ok();
     let changed = changed.and_then(|time| time.duration_since(UNIX_EPOCH).ok());
+    read_whole(file, path, most, changed.map(|time| time.as_secs()))
+}
+
+/// The same of anything that can be read, last changed at this moment, in seconds since 1970.
+pub fn read_whole(
+    mut from: impl io::Read,
+    path: &Path,
+    most: usize,
+    changed: Option<u64>,
+) -> io::Result<Read> {
     let (mut bytes, mut size, mut hash) = (vec![], 0, Sha256::new());
     let mut piece = vec![0; PIECE];
     loop {
-        let count = match file.read(&mut piece) {
+        let count = match from.read(&mut piece) {
             Ok(0) => break,
             Ok(count) => count,
             Err(error) if error.kind() == io::ErrorKind::Interrupted => continue,
@@ -263,7 +295,7 @@ fn read_whole(mut file: File, path: &Path, most: usize) -> io::Result<Read> {
         name: name_of(path),
         bytes,
         size,
-        changed: changed.map(|time| time.as_secs()),
+        changed,
         sha256: hex(&hash.finish()),
     })
 }

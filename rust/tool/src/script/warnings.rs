@@ -17,20 +17,23 @@ use crate::words::register;
 
 /// Tells what is worth a second look in a script. Of one that cannot be read, nothing.
 pub fn tell(input: &Input) {
-    if let Ok(script) = read_script(&input.bytes) {
-        said(input, of_script(&script));
-    }
+    of_input(input).iter().for_each(|text| complain(text));
 }
 
-/// The same of a script that was run over a shelf.
-pub fn tell_shelved(input: &Input, shelved: &Shelved) {
-    if let Ok((_, written)) = read_named_bytes(&input.bytes) {
-        said(input, of_shelf(&written, shelved));
-    }
+/// What is told of a script.
+pub fn of_input(input: &Input) -> Vec<String> {
+    let script = read_script(&input.bytes);
+    script.map_or(vec![], |script| with_name(input, of_script(&script)))
 }
 
-fn said(input: &Input, warnings: Vec<String>) {
-    warnings.iter().for_each(|text| complain(&format!("{}, {text}", input.name)));
+/// What is told of a script that was run over a shelf.
+pub fn of_shelved(input: &Input, shelved: &Shelved) -> Vec<String> {
+    let read = read_named_bytes(&input.bytes);
+    read.map_or(vec![], |(_, written)| with_name(input, of_shelf(&written, shelved)))
+}
+
+fn with_name(input: &Input, warnings: Vec<String>) -> Vec<String> {
+    warnings.iter().map(|text| format!("{}, {text}", input.name)).collect()
 }
 
 pub fn of_script(script: &Script) -> Vec<String> {

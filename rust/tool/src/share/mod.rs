@@ -21,7 +21,7 @@ use gunwaleish::{Master, Refusal, Totals, MOST_TRACE};
 
 use crate::each::refused;
 use crate::failure::Failure;
-use crate::files;
+use crate::files::{self, Input};
 use progress::Progress;
 
 /// So many traces are counted, refused ones included.
@@ -112,6 +112,16 @@ pub fn of_files(
     whole.past = files.len() - from;
     unread.sort_by_key(|&(place, _)| place);
     Ok((whole, unread.into_iter().map(|(_, failure)| failure).collect()))
+}
+
+/// The totals over traces that were read already.
+pub fn of_inputs(inputs: &[Input]) -> Counted {
+    let mut whole = Counted::default();
+    for (place, input) in inputs.iter().enumerate().take(MOST_TRACES) {
+        whole.add(place, &input.bytes, |refusal| refused(input, refusal));
+    }
+    whole.past = inputs.len().saturating_sub(MOST_TRACES);
+    whole
 }
 
 /// One thread's part.

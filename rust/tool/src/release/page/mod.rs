@@ -17,7 +17,7 @@ pub mod statements;
 mod style;
 pub mod time;
 mod verdict;
-mod waits;
+pub mod waits;
 
 use super::Examined;
 use crate::svg::escaped;

@@ -63,7 +63,7 @@ fn row(table: &mut Table, waiting: &Waiting) {
 }
 
 /// What proves a wait of this grade.
-fn proved_by(wait: Wait) -> &'static [&'static Statement] {
+pub fn proved_by(wait: Wait) -> &'static [&'static Statement] {
     match wait {
         Wait::Live { .. } => &[&statements::SHEETS_GUARANTEE, &statements::STARTS_GUARANTEE],
         Wait::Silent { .. } => &[
