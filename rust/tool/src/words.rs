@@ -40,7 +40,7 @@ pub fn register(pointer: u8) -> &'static str {
 
 /// The bits of a byte at a register that are 1, by their names; of INT_MSK those that are 0, since
 /// these let an interrupt through.
-fn bits(pointer: u8, value: u8) -> Option<String> {
+pub fn bits(pointer: u8, value: u8) -> Option<String> {
     let (names, ones) = match pointer {
         1 => (CONTR_BITS, value),
         2 => (STATUS_BITS, value),

@@ -129,15 +129,21 @@ pub fn explain_within(input: &Input, width: usize) -> Made {
 }
 
 fn told(name: &str, story: &Story, width: usize) -> String {
-    let head = format!(
-        "{name}: {} at address {:02X}h, pins {}, {}",
+    let [device, part] = heads(story);
+    let (head, part) = (paragraph(&format!("{name}: {device}"), width), paragraph(&part, width));
+    format!("{head}{part}\n{}", body_within(story, width))
+}
+
+/// What stands before the lines: the device, and what is to be known of its part.
+pub fn heads(story: &Story) -> [String; 2] {
+    let device = format!(
+        "{} at address {:02X}h, pins {}, {}",
         story.part,
         story.address,
         story.pins,
         words::count(story.steps.len(), "event")
     );
-    let (head, part) = (paragraph(&head, width), paragraph(&words::part(story.part), width));
-    format!("{head}{part}\n{}", body_within(story, width))
+    [device, words::part(story.part)]
 }
 
 /// The lines of a run, and its totals.
@@ -155,12 +161,17 @@ fn body_within(story: &Story, width: usize) -> String {
 }
 
 fn lines(story: &Story) -> Vec<Line> {
+    folded(story).filter_map(line).collect()
+}
+
+/// The steps of each line.
+pub fn folded(story: &Story) -> impl Iterator<Item = &[Step]> {
     let alike = |a: &Step, b: &Step| a.is_quiet_tick() && b.is_quiet_tick();
-    story.steps.chunk_by(alike).filter_map(line).collect()
+    story.steps.chunk_by(alike)
 }
 
 /// One event, or several ticks in which nothing changes.
-fn line(steps: &[Step]) -> Option<Line> {
+pub fn line(steps: &[Step]) -> Option<Line> {
     let (first, last) = (steps.first()?, steps.last()?);
     let range = |from: usize, to: usize| match from == to {
         true => from.to_string(),
@@ -184,13 +195,19 @@ fn line(steps: &[Step]) -> Option<Line> {
 }
 
 /// What the byte's bits are called, in brackets, that it is dropped, and what changed.
-fn remarks(step: &Step) -> Vec<String> {
+pub fn remarks(step: &Step) -> Vec<String> {
     let names = words::meaning(step).map(|names| format!("({names})"));
     let byte = names.into_iter().chain(words::dropped(step));
     byte.chain(step.changes.iter().map(words::change)).collect()
 }
 
 fn totals(story: &Story, width: usize) -> String {
+    let lines = ends(story).into_iter().map(|line| paragraph(&line, width));
+    format!("\n{}", lines.collect::<String>())
+}
+
+/// What stands after the lines: the totals, and why one still waits.
+pub fn ends(story: &Story) -> Vec<String> {
     let refused = story.steps.iter().filter(|step| step.answer.outcome.is_refused()).count();
     let ticks = story.ticks();
     let all = format!(
@@ -198,9 +215,6 @@ fn totals(story: &Story, width: usize) -> String {
         words::count(ticks, "tick"),
         words::count(story.steps.len() - ticks, "other event"),
     );
-    let mut text = format!("\n{}", paragraph(&all, width));
-    for line in summary::in_words(story).into_iter().chain(stuck::in_words(story)) {
-        text.push_str(&paragraph(&line, width));
-    }
-    text
+    let all = [all].into_iter().chain(summary::in_words(story));
+    all.chain(stuck::in_words(story)).collect()
 }

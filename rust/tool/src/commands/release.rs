@@ -120,8 +120,13 @@ fn wrong(what: &str) -> Failure {
 
 fn asked(arguments: &Arguments) -> Result<Asked, Failure> {
     let word = |name| arguments.options.get(name).and_then(|words| words.first());
-    let most = word("--most").map(|word| milliseconds(word)).transpose()?;
-    let without_limit = match word("--without-limit").map(String::as_str) {
+    asked_by(word("--most").map(String::as_str), word("--without-limit").map(String::as_str))
+}
+
+/// What is asked for by the words after --most and --without-limit.
+pub fn asked_by(most: Option<&str>, without_limit: Option<&str>) -> Result<Asked, Failure> {
+    let most = most.map(milliseconds).transpose()?;
+    let without_limit = match without_limit {
         None => [false, false],
         Some("0") => [true, false],
         Some("1") => [false, true],

@@ -22,8 +22,8 @@ mod values;
 mod writing;
 
 pub use reading::{begins_with_box, read, Mistake};
-pub use values::written;
-pub use writing::write;
+pub use values::{written, EMPTY, WITHOUT_LIMIT};
+pub use writing::{choices, write, RESERVES};
 
 use gunwaleish::{Refusal, SHEET_LENGTH};
 

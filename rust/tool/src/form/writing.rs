@@ -2,7 +2,7 @@
 
 use gunwaleish::{Master, Section};
 
-use super::values::written;
+use super::values::{written, WITHOUT_LIMIT};
 use super::Boxes;
 use crate::order::words::idle_limits;
 use crate::order::BoxName;
@@ -11,6 +11,9 @@ const HEAD: &str = "\
 # One order sheet as text; gunwaleish fill makes the same sheet of it. No pair is judged here: gunwaleish sheet BOARD HOUSE does that.
 # Each box has its line. empty: nothing is ordered there, and it is left to the other sheet.
 ";
+
+/// The reserves that have an end, in ms.
+pub const RESERVES: &str = "1 to 255";
 
 /// The text of a sheet. Reading it gives the same boxes again.
 ///
@@ -29,15 +32,22 @@ pub fn write(boxes: Boxes) -> String {
 
 /// What the values of a section mean.
 fn meaning(section: Section) -> String {
+    let said = choices(section).map(|(value, says)| format!("{value}: {says}."));
+    said.join(" ")
+}
+
+/// The two values, or ranges of values, of a section's boxes, and what each means.
+pub fn choices(section: Section) -> [(&'static str, String); 2] {
+    let said = |zero: &str, one: &str| [("0", zero.to_string()), ("1", one.to_string())];
     match section {
-        Section::Reserve => String::from(
-            "1 to 255: held for so many ticks of 1 ms, then until the bus is idle. without limit: held until the \
-             controller lets go.",
-        ),
-        Section::Priority => "0: it asks without priority. 1: it asks with priority.".to_string(),
-        Section::Idle => format!(
-            "0: off. 1: on; an idle bus then ends a grant without limit too, {}.",
-            idle_limits()
-        ),
+        Section::Reserve => [
+            (RESERVES, "held for so many ticks of 1 ms, then until the bus is idle".to_string()),
+            (WITHOUT_LIMIT, "held until the controller lets go".to_string()),
+        ],
+        Section::Priority => said("it asks without priority", "it asks with priority"),
+        Section::Idle => {
+            let on = "on; an idle bus then ends a grant without limit too";
+            said("off", &format!("{on}, {}", idle_limits()))
+        }
     }
 }

@@ -34,15 +34,22 @@ fn from(entry: &Entry) -> String {
     entry.found.map_or("neither".to_string(), |found| found.sheet.to_string())
 }
 
+const EMPTY: &str = "empty on both sheets";
+
 /// An empty box in words.
 pub fn empty(name: BoxName) -> String {
-    format!("{name}: empty on both sheets")
+    format!("{name}: {EMPTY}")
 }
 
 fn in_words(order: &Order, entry: &Entry) -> String {
+    format!("{}: {}", entry.name, meaning(order, entry))
+}
+
+/// What a box orders, in words.
+pub fn meaning(order: &Order, entry: &Entry) -> String {
     let name = entry.name;
     let Some(found) = entry.found else {
-        return empty(name);
+        return EMPTY.to_string();
     };
     let meaning = match name.section {
         Section::Reserve => reserve(found.value, order.value(Section::Idle, name.controller)),
@@ -54,7 +61,7 @@ fn in_words(order: &Order, entry: &Entry) -> String {
         Some(value) => format!(" (over {value} on the house sheet)"),
         None => String::new(),
     };
-    format!("{name}: {meaning}{over}")
+    format!("{meaning}{over}")
 }
 
 /// A reserve, beside the same controller's idle timer. Document 01: with reserve 00h a grant is lost

@@ -1,25 +1,13 @@
 //! Scripts: a trace as plain text, one event a line.
 //!
-//! | line | event |
-//! |---|---|
-//! | `pins 0 0 0 1` | the codes of AD3 to AD0; once, before the first event |
-//! | `part PCA9641` | the part, or `part TPT29641`; once, before the first event |
-//! | `command 0 03` | COMMAND of controller 0 with 03h |
-//! | `write 0 32` | WRITE of 32h |
-//! | `read 0`, `stop 0` | READ, STOP |
-//! | `pair 01 81` | PAIR: 01h of controller 0 and 81h of controller 1 |
-//! | `lines 1 0 1` | LINES: SCL, SDA and INT_IN |
-//! | `tick`, `tick 50` | one TICK, fifty of them |
-//! | `pulse 0` | PULSE with this level of SDA |
-//! | `reset` | RESET |
-//! | `general 0 06` | GENERAL CALL of controller 0 with 06h |
-//! | `raw FF 00 00 00` | four bytes as they are |
+//! `forms` has the lines, each with an example.
 //!
 //! Bytes are in hex, and may say so or be in decimal (`bytes`); the count of ticks is in decimal, and what
 //! stands after `#` is a comment. Pins and part have no default. In a script for a shelf an event has a
 //! name before it (`named`). What is worth a second look is in `warnings`.
 
 pub mod bytes;
+pub mod forms;
 pub mod named;
 pub mod warnings;
 mod words;
@@ -159,7 +147,7 @@ pub fn line_of(event: Event, times: usize) -> String {
 }
 
 /// The same, with the registers that its bytes are for. A reserve is written in ms.
-fn line_at(event: Event, times: usize, at: Option<[u8; 2]>) -> String {
+pub fn line_at(event: Event, times: usize, at: Option<[u8; 2]>) -> String {
     let level = u8::from;
     let byte = |master: Master, value: u8| match (at.map(|both| both[master as usize]), value) {
         // 00h is no time of 0 ms: it holds until let go.

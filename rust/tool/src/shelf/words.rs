@@ -42,17 +42,22 @@ fn heading(place: usize, slot: &Slot) -> String {
 
 /// How a device stands at the end.
 fn at_the_end(story: &Story, shown: &Answer) -> String {
+    let (waits, hung) =
+        story.steps.last().map_or(([false; 2], false), |step| (step.scene.waits, step.scene.hung));
+    stands(shown, waits, hung)
+}
+
+/// How a device stands: whose the bus is, who waits, and whether it is hung.
+pub fn stands(shown: &Answer, waits: [bool; 2], hung: bool) -> String {
     let owner = match (shown.owner, shown.connected) {
         (None, _) => "nobody owns the bus".to_string(),
         (Some(m), Some(_)) => format!("controller {m} owns the bus and is connected"),
         (Some(m), None) => format!("controller {m} owns the bus"),
     };
     let mut said = vec![owner];
-    if let Some(step) = story.steps.last() {
-        let waits = Master::BOTH.into_iter().filter(|m| step.scene.waits[*m as usize]);
-        said.extend(waits.map(|m| format!("controller {m} waits")));
-        said.extend(step.scene.hung.then(|| "the bus is hung".to_string()));
-    }
+    let waits = Master::BOTH.into_iter().filter(|m| waits[*m as usize]);
+    said.extend(waits.map(|m| format!("controller {m} waits")));
+    said.extend(hung.then(|| "the bus is hung".to_string()));
     said.join("; ")
 }
 
@@ -123,7 +128,7 @@ pub fn listed(shelved: &Shelved) -> String {
 }
 
 /// The four bytes of an answer, in hex.
-fn digits(answer: &Answer) -> String {
+pub fn digits(answer: &Answer) -> String {
     let who = |master: Option<Master>| master.map_or(0, |m| m.number() + 1);
     let bits =
         |flags: &[bool]| flags.iter().rev().fold(0, |byte, &flag| byte << 1 | u8::from(flag));
