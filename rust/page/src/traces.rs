@@ -1,0 +1,194 @@
+//! Traces and scripts: written, listed, told, drawn, held against each other, imported.
+
+use gunwaleish::{MOST_SAMPLES, MOST_TRACE};
+use gunwaleish_tool::commands::compose::{composed, MOST_TEXT};
+use gunwaleish_tool::commands::picture::{picture_of, Window};
+use gunwaleish_tool::commands::{convert, decompose, diff, explain, import, list, wave};
+use gunwaleish_tool::diff::{words, Difference};
+use gunwaleish_tool::each::{refused, Made};
+use gunwaleish_tool::files::Input;
+use gunwaleish_tool::hint::{hint_of, looks_like, Kind};
+use gunwaleish_tool::json::Value;
+use gunwaleish_tool::script::{read_script, warnings};
+use gunwaleish_tool::story::{follow, Story};
+use gunwaleish_tool::table::Form;
+use gunwaleish_tool::{device, summary, wrap};
+
+use crate::fields::{Answer, Request};
+
+/// The tool's words about a file without a name: each line begins with what follows the name.
+pub fn unnamed(name: &str, text: &str) -> String {
+    if !name.is_empty() {
+        return text.to_string();
+    }
+    let bare = |line: &str| {
+        let rest = line.strip_prefix(", ").or(line.strip_prefix(": "));
+        rest.unwrap_or(line).to_string()
+    };
+    text.split('\n').map(bare).collect::<Vec<_>>().join("\n")
+}
+
+/// What a command of the tool made of a file.
+pub fn answer(name: &str, made: Made) -> Answer {
+    let refused = made.refused.map(|why| (unnamed(name, &why), None));
+    Answer { refused, results: made.output.into_iter().collect() }
+}
+
+/// The request's first argument as a trace, with the name at this place.
+fn trace(request: &Request, name: usize) -> Input {
+    request.input(0, request.text(name), MOST_TRACE)
+}
+
+/// The story of the request's trace, or the answer that refuses it.
+pub fn story(request: &Request, name: usize) -> Result<Story, Answer> {
+    let input = trace(request, name);
+    follow(&input.bytes)
+        .map_err(|refusal| Answer::refused(unnamed(&input.name, &refused(&input, refusal))))
+}
+
+/// What a file is, in a word, and what is done with it.
+pub fn what(request: &Request) -> Answer {
+    let (name, bytes) = (request.text(0), crate::fields::cut(request.bytes(1), MOST_TEXT));
+    let kind = looks_like(&name, bytes);
+    let hint = match kind {
+        // What is old is told with its refusal alone.
+        Some(Kind::OldTrace) => gunwaleish::run(bytes).err().map_or(String::new(), |refusal| {
+            let input = Input { name: String::new(), bytes: bytes.to_vec() };
+            unnamed("", &refused(&input, refusal))
+        }),
+        kind => {
+            let other = if kind == Some(Kind::Empty) { Kind::Trace } else { Kind::Empty };
+            let hint = hint_of(&name, bytes, other);
+            hint.strip_prefix("; ").unwrap_or(&hint).to_string()
+        }
+    };
+    Answer::ok(kind.map_or("unknown", word)).and(hint)
+}
+
+fn word(kind: Kind) -> &'static str {
+    match kind {
+        Kind::Empty => "empty",
+        Kind::Trace => "trace",
+        Kind::OldTrace => "old trace",
+        Kind::Stream => "stream",
+        Kind::Script => "script",
+        Kind::ShelfScript => "shelf script",
+        Kind::Shelf => "shelf",
+        Kind::Sheet => "sheet",
+        Kind::SheetText => "sheet text",
+        Kind::Capture => "capture",
+        Kind::Totals => "totals",
+        Kind::Listing => "listing",
+        Kind::Zip => "zip",
+        Kind::Gzip => "gzip",
+        Kind::Vcd => "vcd",
+        Kind::Csv => "csv",
+        Kind::Picture => "picture",
+        Kind::Utf16 => "utf16",
+        Kind::Text => "text",
+    }
+}
+
+/// A trace, the warnings, and the line of each event.
+pub fn compose(request: &Request) -> Answer {
+    let input = request.input(0, request.text(1), MOST_TEXT);
+    match composed(&input) {
+        Err(mistake) => {
+            let why = unnamed(&input.name, &mistake.why);
+            Answer { refused: Some((why, mistake.line)), results: vec![] }
+        }
+        Ok(trace) => {
+            let lines = read_script(&input.bytes).map_or(vec![], |script| script.lines);
+            let warned = unnamed(&input.name, &warnings::of_input(&input).join("\n"));
+            Answer::ok(trace).and(warned).and(Value::from(lines).to_string())
+        }
+    }
+}
+
+pub fn script(request: &Request) -> Answer {
+    let input = trace(request, 1);
+    answer(&input.name, decompose::decompose(&input))
+}
+
+pub fn listing(request: &Request) -> Answer {
+    let input = trace(request, 1);
+    answer(&input.name, list::list(&input))
+}
+
+/// In lines of a width, 160 letters unless another is asked for.
+pub fn explained(request: &Request) -> Answer {
+    let input = trace(request, 1);
+    let width = request.text(2).parse().unwrap_or(wrap::WIDTH).clamp(80, 1000);
+    let mut answer = answer(&input.name, explain::explain_within(&input, width));
+    if input.name.is_empty() {
+        // The first line alone has the name.
+        answer.results.iter_mut().for_each(|text| _ = text.drain(..2.min(text.len())));
+    }
+    answer
+}
+
+/// The same as rows for other programs.
+pub fn rows(request: &Request) -> Answer {
+    let input = trace(request, 2);
+    let form = if request.bytes(1) == b"csv" { Form::Csv } else { Form::Json };
+    answer(&input.name, explain::explain_as(&input, form))
+}
+
+/// The picture, and what is told of the run.
+pub fn picture(request: &Request) -> Answer {
+    let input = request.input(0, request.text_or(1, "trace"), MOST_TRACE);
+    let tick = |place| request.text(place).parse().ok();
+    let made = picture_of(&input, Window { from: tick(2), to: tick(3) });
+    let told = follow(&input.bytes).map_or(vec![], |story| summary::in_words(&story));
+    let answer = answer(&input.name, made);
+    if answer.refused.is_some() {
+        return answer;
+    }
+    answer.and(told.join("\n"))
+}
+
+pub fn vcd(request: &Request) -> Answer {
+    let input = trace(request, 1);
+    answer(&input.name, wave::wave(&input))
+}
+
+pub fn converted(request: &Request) -> Answer {
+    let input = trace(request, 1);
+    answer(&input.name, convert::convert(&input))
+}
+
+/// Two runs, each a trace or a script: in words, and whether they are alike.
+pub fn compared(request: &Request) -> Answer {
+    let side = |bytes, name, other: &str| {
+        diff::side(&request.input(bytes, request.text_or(name, other), MOST_TEXT))
+    };
+    let (a, b) = match (side(0, 1, "A"), side(2, 3, "B")) {
+        (Ok(a), Ok(b)) => (a, b),
+        (Err(why), _) | (_, Err(why)) => return Answer::refused(why),
+    };
+    let difference = Difference::between(&a, &b);
+    let alike = if difference.is_none() { "alike" } else { "not alike" };
+    Answer::ok(words::told(&a, &b, &difference, wrap::WIDTH)).and(alike)
+}
+
+/// A capture: its trace, what was seen in it, and its script.
+pub fn imported(request: &Request) -> Answer {
+    let named = |place| match request.text(place) {
+        word if word.is_empty() => vec![],
+        word => vec![word],
+    };
+    let device = match device::device_of(import::COMMAND.name, &named(1), &[], &named(2)) {
+        Ok(device) => device,
+        Err(why) => return Answer::refused(why),
+    };
+    let input = request.input(0, request.text(3), MOST_SAMPLES);
+    let wanted = import::Wanted { device, script: false, empty: false };
+    let (made, seen) = import::import(&input, wanted);
+    let answer = answer(&input.name, made);
+    if answer.refused.is_some() {
+        return answer;
+    }
+    let (script, _) = import::import(&input, import::Wanted { script: true, ..wanted });
+    let seen = unnamed(&input.name, &seen.unwrap_or_default());
+    answer.and(seen).and(script.output.unwrap_or_default())
+}
