@@ -20,16 +20,16 @@ impl<'a> Request<'a> {
         self.arguments.get(place).copied().unwrap_or_default()
     }
 
-    /// An argument as text.
+    /// An argument as text: a word, or a name.
     pub fn text(&self, place: usize) -> String {
-        String::from_utf8_lossy(self.bytes(place)).into_owned()
+        named(self.bytes(place))
     }
 
     /// The same, or this if it is empty.
     pub fn text_or(&self, place: usize, other: &str) -> String {
         match self.bytes(place) {
             [] => other.to_string(),
-            bytes => String::from_utf8_lossy(bytes).into_owned(),
+            bytes => named(bytes),
         }
     }
 
@@ -38,6 +38,14 @@ impl<'a> Request<'a> {
     pub fn input(&self, bytes: usize, name: String, most: usize) -> Input {
         Input { name, bytes: cut(self.bytes(bytes), most).to_vec() }
     }
+}
+
+/// The most letters of a name that are shown: no path has more.
+const MOST_NAME: usize = 4096;
+
+/// Bytes as a name.
+pub fn named(bytes: &[u8]) -> String {
+    String::from_utf8_lossy(cut(bytes, MOST_NAME)).into_owned()
 }
 
 /// So many bytes and one more.

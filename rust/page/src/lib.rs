@@ -21,6 +21,7 @@ mod wasm;
 use gunwaleish::library_identity;
 use gunwaleish_tool::json::{object, Value};
 use gunwaleish_tool::script::forms::{Argument, Form, FORMS};
+use gunwaleish_tool::script::shown;
 
 use fields::{Answer, Request};
 
@@ -28,7 +29,7 @@ use fields::{Answer, Request};
 type Answers = fn(&Request) -> Answer;
 
 /// Every request by its name.
-pub const REQUESTS: [(&str, Answers); 28] = [
+pub const REQUESTS: [(&str, Answers); 29] = [
     ("identity", identity),
     ("what", traces::what),
     ("compose", traces::compose),
@@ -38,6 +39,7 @@ pub const REQUESTS: [(&str, Answers); 28] = [
     ("rows", traces::rows),
     ("story", told::told),
     ("picture", traces::picture),
+    ("sketch", traces::sketch),
     ("vcd", traces::vcd),
     ("state", state::state),
     ("states", state::states),
@@ -67,8 +69,8 @@ pub fn ask(request: &[u8]) -> Vec<u8> {
     match REQUESTS.iter().find(|(name, _)| name.as_bytes() == request.name) {
         Some((_, answers)) => answers(&request).to_bytes(),
         None => {
-            let name = String::from_utf8_lossy(fields::cut(request.name, 40));
-            Answer::refused(format!("there is no request '{}'", name.escape_debug())).to_bytes()
+            let name = shown(&fields::named(request.name));
+            Answer::refused(format!("there is no request '{name}'")).to_bytes()
         }
     }
 }

@@ -12,7 +12,7 @@ use gunwaleish_tool::script::warnings;
 use gunwaleish_tool::share::{of_inputs, words as shares};
 use gunwaleish_tool::shelf::words;
 
-use crate::fields::{cut, Answer, Request};
+use crate::fields::{self, cut, Answer, Request};
 
 /// Two texts, with their names at places 2 and 3.
 fn two(request: &Request, others: [&str; 2]) -> [Input; 2] {
@@ -86,7 +86,7 @@ pub fn order(request: &Request) -> Answer {
 /// The two lines, the table, the picture if there is a tick, and what is said of refused traces.
 pub fn share(request: &Request) -> Answer {
     let input = |pair: &[&[u8]]| Input {
-        name: String::from_utf8_lossy(pair[0]).into_owned(),
+        name: fields::named(pair[0]),
         bytes: cut(pair.get(1).copied().unwrap_or_default(), MOST_TRACE).to_vec(),
     };
     let inputs: Vec<Input> = request.arguments.chunks(2).map(input).collect();

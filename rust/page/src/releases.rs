@@ -12,7 +12,7 @@ use gunwaleish_tool::release::judge::examine;
 use gunwaleish_tool::release::page::page;
 use gunwaleish_tool::release::{words, Bench, Examined, Rank, Read, Reason};
 
-use crate::fields::{Answer, Request};
+use crate::fields::{named, Answer, Request};
 use crate::sheets::as_json;
 
 /// The folder that files without one are said to be in.
@@ -30,10 +30,9 @@ impl<'a> Given<'a> {
         let mut given = Given::default();
         let mut last = PathBuf::new();
         for pair in request.arguments.chunks(2) {
-            let (name, bytes) =
-                (String::from_utf8_lossy(pair[0]), pair.get(1).copied().unwrap_or_default());
-            let text = || String::from_utf8_lossy(bytes).into_owned();
-            match name.as_ref() {
+            let (name, bytes) = (named(pair[0]), pair.get(1).copied().unwrap_or_default());
+            let text = || named(bytes);
+            match name.as_str() {
                 "--changed" => {
                     // Of the file before it.
                     if let Some(file) = given.files.get_mut(&last) {

@@ -1,6 +1,7 @@
 //! The samples that are built in, so that a page has something to show before a file is dropped.
 
 use gunwaleish_tool::json::{object, Value};
+use gunwaleish_tool::script::shown;
 
 use crate::fields::{Answer, Request};
 
@@ -125,6 +126,6 @@ pub fn bytes(request: &Request) -> Answer {
     let file = first.and_then(|sample| sample.files.first()).copied().unwrap_or(&name);
     match FILES.iter().find(|(name, _)| *name == file) {
         Some((_, bytes)) => Answer::ok(*bytes),
-        None => Answer::refused(format!("there is no sample '{}'", name.escape_debug())),
+        None => Answer::refused(format!("there is no sample '{}'", shown(&name))),
     }
 }

@@ -9,7 +9,7 @@ use std::fmt::Write;
 use gunwaleish::{Device, Master, Register};
 use gunwaleish_tool::commands::explain::remarks;
 use gunwaleish_tool::json::{object, Value};
-use gunwaleish_tool::script::line_at;
+use gunwaleish_tool::script::{line_at, shown};
 use gunwaleish_tool::shelf::words::{digits, stands};
 use gunwaleish_tool::story::{Scene, Step, Story};
 use gunwaleish_tool::words;
@@ -41,7 +41,7 @@ pub fn state(request: &Request) -> Answer {
         let events = words::count(story.steps.len(), "event");
         return Answer::refused(format!(
             "there is no event '{}': the trace has {events}",
-            word.escape_debug()
+            shown(&word)
         ));
     };
     let mut device = Device::fresh(story.part);
@@ -192,23 +192,60 @@ pub fn states(request: &Request) -> Answer {
     Answer::ok(text)
 }
 
-/// A number, or null, after a name.
+/// The fields of an entry, put together by hand: there are a hundred thousand of them in a long trace.
 struct Fields<'a>(&'a mut String);
 
 impl Fields<'_> {
-    fn put(&mut self, name: &str, value: impl Into<Option<u16>>) {
-        match value.into() {
-            Some(value) => _ = write!(self.0, "\"{name}\":{value},"),
-            None => _ = write!(self.0, "\"{name}\":null,"),
+    fn name(&mut self, name: &str) {
+        self.0.push('"');
+        self.0.push_str(name);
+        self.0.push_str("\":");
+    }
+
+    fn digits(&mut self, value: u16) {
+        let mut rest = value;
+        let mut digits = [b'0'; 5];
+        let mut from = digits.len();
+        while from == digits.len() || rest > 0 {
+            from -= 1;
+            digits[from] += (rest % 10) as u8;
+            rest /= 10;
         }
+        digits[from..].iter().for_each(|&digit| self.0.push(digit.into()));
     }
 
-    fn pair(&mut self, name: &str, [first, second]: [u16; 2]) {
-        let _ = write!(self.0, "\"{name}\":[{first},{second}],");
+    /// A number, or null, after a name.
+    fn put(&mut self, name: &str, value: impl Into<Option<u16>>) {
+        self.name(name);
+        match value.into() {
+            Some(value) => self.digits(value),
+            None => self.0.push_str("null"),
+        }
+        self.0.push(',');
     }
 
-    fn words(&mut self, name: &str, words: String) {
-        let _ = write!(self.0, "\"{name}\":{},", Value::from(words));
+    fn list(&mut self, values: impl IntoIterator<Item = u16>) {
+        let mut before = '[';
+        for value in values {
+            self.0.push(before);
+            self.digits(value);
+            before = ',';
+        }
+        self.0.push(']');
+    }
+
+    fn pair(&mut self, name: &str, values: [u16; 2]) {
+        self.name(name);
+        self.list(values);
+        self.0.push(',');
+    }
+
+    /// Words without a quote or a backslash.
+    fn words(&mut self, name: &str, words: &str) {
+        self.name(name);
+        self.0.push('"');
+        self.0.push_str(words);
+        self.0.push_str("\",");
     }
 }
 
@@ -220,10 +257,10 @@ fn entry(text: &mut String, device: &Device, step: Option<&Step>) {
     let mut fields = Fields(text);
     fields.put("event", step.map_or(0, |step| step.number as u16));
     fields.put("tick", step.map_or(0, |step| step.tick as u16));
-    fields.words("script", step.map_or(String::new(), in_script));
+    fields.words("script", &step.map_or(String::new(), in_script));
     fields.put("refused", step.map_or(0, |step| u16::from(step.answer.outcome.is_refused())));
     fields.put("outcome", step.map(|step| u16::from(step.answer.outcome.number())));
-    fields.words("answer", step.map_or(String::new(), |step| digits(&step.answer)));
+    fields.words("answer", &step.map_or(String::new(), |step| digits(&step.answer)));
     fields.put("owner", number(answer.owner));
     fields.put("claimant", number(scene.and_then(|scene| scene.claimant)));
     fields.put("ground", answer.ground.map(|ground| u16::from(ground.number())));
@@ -236,7 +273,12 @@ fn entry(text: &mut String, device: &Device, step: Option<&Step>) {
     fields.put("sda", u16::from(answer.sda));
     fields.put("hung", u16::from(scene.is_some_and(|scene| scene.hung)));
     numbers(&mut fields, device);
-    bytes(text, device);
+    fields.name("registers");
+    for (m, before) in Master::BOTH.into_iter().zip(['[', ',']) {
+        fields.0.push(before);
+        fields.list(Register::ALL.map(|register| device.read(m, register).into()));
+    }
+    text.push_str("]}");
 }
 
 /// What the image has.
@@ -259,18 +301,4 @@ fn numbers(fields: &mut Fields, device: &Device) {
         ("mail_full", image::MAIL_FULL),
     ];
     each.into_iter().for_each(|(name, of)| fields.pair(name, of.map(|field| field.of(device))));
-}
-
-/// The registers of both, and the end.
-fn bytes(text: &mut String, device: &Device) {
-    text.push_str("\"registers\":[");
-    for m in Master::BOTH {
-        text.push_str(if m == Master::Zero { "[" } else { ",[" });
-        for register in Register::ALL {
-            let comma = if register == Register::Id { "" } else { "," };
-            let _ = write!(text, "{comma}{}", device.read(m, register));
-        }
-        text.push(']');
-    }
-    text.push_str("]}");
 }

@@ -1,15 +1,16 @@
 //! Traces and scripts: written, listed, told, drawn, held against each other, imported.
 
 use gunwaleish::{MOST_SAMPLES, MOST_TRACE};
-use gunwaleish_tool::commands::compose::{composed, MOST_TEXT};
-use gunwaleish_tool::commands::picture::{picture_of, Window};
+use gunwaleish_tool::commands::compose::{composed_of, MOST_TEXT};
+use gunwaleish_tool::commands::picture::{drawn, Window};
 use gunwaleish_tool::commands::{convert, decompose, diff, explain, import, list, wave};
 use gunwaleish_tool::diff::{words, Difference};
 use gunwaleish_tool::each::{refused, Made};
 use gunwaleish_tool::files::Input;
 use gunwaleish_tool::hint::{hint_of, looks_like, Kind};
 use gunwaleish_tool::json::Value;
-use gunwaleish_tool::script::{read_script, warnings};
+use gunwaleish_tool::picture::{drawn_in_page, style_in_page, Spots};
+use gunwaleish_tool::script::warnings;
 use gunwaleish_tool::story::{follow, Story};
 use gunwaleish_tool::table::Form;
 use gunwaleish_tool::{device, summary, wrap};
@@ -92,15 +93,18 @@ fn word(kind: Kind) -> &'static str {
 /// A trace, the warnings, and the line of each event.
 pub fn compose(request: &Request) -> Answer {
     let input = request.input(0, request.text(1), MOST_TEXT);
-    match composed(&input) {
+    match composed_of(&input) {
         Err(mistake) => {
             let why = unnamed(&input.name, &mistake.why);
             Answer { refused: Some((why, mistake.line)), results: vec![] }
         }
-        Ok(trace) => {
-            let lines = read_script(&input.bytes).map_or(vec![], |script| script.lines);
-            let warned = unnamed(&input.name, &warnings::of_input(&input).join("\n"));
-            Answer::ok(trace).and(warned).and(Value::from(lines).to_string())
+        Ok((script, trace)) => {
+            let name =
+                if input.name.is_empty() { String::new() } else { format!("{}, ", input.name) };
+            let warned =
+                warnings::of_script(&script).into_iter().map(|text| format!("{name}{text}"));
+            let warned = warned.collect::<Vec<_>>().join("\n");
+            Answer::ok(trace).and(warned).and(Value::from(script.lines).to_string())
         }
     }
 }
@@ -134,17 +138,44 @@ pub fn rows(request: &Request) -> Answer {
     answer(&input.name, explain::explain_as(&input, form))
 }
 
-/// The picture, and what is told of the run.
+/// The picture, what is told of the run, and where each event stands in the picture.
 pub fn picture(request: &Request) -> Answer {
     let input = request.input(0, request.text_or(1, "trace"), MOST_TRACE);
     let tick = |place| request.text(place).parse().ok();
-    let made = picture_of(&input, Window { from: tick(2), to: tick(3) });
-    let told = follow(&input.bytes).map_or(vec![], |story| summary::in_words(&story));
-    let answer = answer(&input.name, made);
-    if answer.refused.is_some() {
-        return answer;
+    match drawn(&input, Window { from: tick(2), to: tick(3) }) {
+        Err(why) => Answer::refused(why),
+        Ok((story, picture, spots)) => {
+            let told = summary::in_words(&story).join("\n");
+            Answer::ok(picture).and(told).and(in_numbers(&spots))
+        }
     }
-    answer.and(told.join("\n"))
+}
+
+/// The same without its words, as the page of a release has it: three strips at the most. Then the style of such pictures.
+pub fn sketch(request: &Request) -> Answer {
+    let story = match story(request, 2) {
+        Ok(story) => story,
+        Err(refused) => return refused,
+    };
+    let (picture, spots) = drawn_in_page(&story, &request.text(1));
+    let told = summary::in_words(&story).join("\n");
+    Answer::ok(picture).and(told).and(in_numbers(&spots)).and(style_in_page())
+}
+
+/// Where each event stands: x, top and foot, in the picture's units; null if it is not shown.
+fn in_numbers(spots: &Spots) -> String {
+    let one = |spot: &Option<[f64; 3]>| match spot {
+        Some(place) => {
+            let [x, top, foot] = place.map(|number| (10.0 * number).round() as u64);
+            format!("[{},{},{}]", tenths(x), tenths(top), tenths(foot))
+        }
+        None => "null".to_string(),
+    };
+    format!("[{}]", spots.iter().map(one).collect::<Vec<_>>().join(","))
+}
+
+fn tenths(number: u64) -> String {
+    format!("{}.{}", number / 10, number % 10)
 }
 
 pub fn vcd(request: &Request) -> Answer {

@@ -1,6 +1,24 @@
 //! The few shapes of SVG that the picture needs.
 
-use std::fmt::Write;
+use std::fmt::{self, Write};
+
+/// A number with one digit behind its point. A long picture has a hundred thousand of them, and the standard library takes
+/// its time to be exact.
+struct Tenths(f64);
+
+impl fmt::Display for Tenths {
+    fn fmt(&self, f: &mut fmt::Formatter) -> fmt::Result {
+        let tenths = self.0 * 10.0;
+        let below = tenths.floor();
+        // Where it is near to the middle between two tenths, the standard library knows which one it is.
+        let middle = (tenths - below - 0.5).abs() < 1e-3;
+        if middle || !(0.0..1e9).contains(&self.0) {
+            return write!(f, "{:.1}", self.0);
+        }
+        let whole = below as u64 + u64::from(tenths - below > 0.5);
+        write!(f, "{}.{}", whole / 10, whole % 10)
+    }
+}
 
 /// A picture that grows. Later shapes lie over earlier ones.
 #[derive(Default)]
@@ -11,41 +29,44 @@ pub struct Drawing {
 impl Drawing {
     /// A box. `class` names its look in the style sheet, and `tip` is shown under the pointer.
     pub fn rect(&mut self, class: &str, [x, y, width, height]: [f64; 4], tip: &str) {
+        let [x, y, width, height] = [x, y, width.max(0.0), height].map(Tenths);
         let _ = write!(
             self.shapes,
-            "<rect class=\"{class}\" x=\"{x:.1}\" y=\"{y:.1}\" width=\"{:.1}\" height=\"{height:.1}\"",
-            width.max(0.0)
+            "<rect class=\"{class}\" x=\"{x}\" y=\"{y}\" width=\"{width}\" height=\"{height}\""
         );
         self.close("rect", &title(tip));
     }
 
     pub fn line(&mut self, class: &str, from: [f64; 2], to: [f64; 2]) {
+        let [x1, y1, x2, y2] = [from[0], from[1], to[0], to[1]].map(Tenths);
         let _ = writeln!(
             self.shapes,
-            "<line class=\"{class}\" x1=\"{:.1}\" y1=\"{:.1}\" x2=\"{:.1}\" y2=\"{:.1}\"/>",
-            from[0], from[1], to[0], to[1]
+            "<line class=\"{class}\" x1=\"{x1}\" y1=\"{y1}\" x2=\"{x2}\" y2=\"{y2}\"/>"
         );
     }
 
     /// A line through these points.
     pub fn path(&mut self, class: &str, points: &[[f64; 2]]) {
         let mut path = String::new();
-        for (place, [x, y]) in points.iter().enumerate() {
-            let _ = write!(path, "{}{x:.1} {y:.1}", if place == 0 { "M" } else { " L" });
+        for (place, point) in points.iter().enumerate() {
+            let [x, y] = point.map(Tenths);
+            let _ = write!(path, "{}{x} {y}", if place == 0 { "M" } else { " L" });
         }
         let _ = writeln!(self.shapes, "<path class=\"{class}\" d=\"{path}\"/>");
     }
 
-    pub fn text(&mut self, class: &str, [x, y]: [f64; 2], words: &str) {
-        let _ = write!(self.shapes, "<text class=\"{class}\" x=\"{x:.1}\" y=\"{y:.1}\"");
+    pub fn text(&mut self, class: &str, place: [f64; 2], words: &str) {
+        let [x, y] = place.map(Tenths);
+        let _ = write!(self.shapes, "<text class=\"{class}\" x=\"{x}\" y=\"{y}\"");
         self.close("text", &escaped(words));
     }
 
     /// Text that reads upwards from its point.
-    pub fn upward_text(&mut self, class: &str, [x, y]: [f64; 2], words: &str, tip: &str) {
+    pub fn upward_text(&mut self, class: &str, place: [f64; 2], words: &str, tip: &str) {
+        let [x, y] = place.map(Tenths);
         let _ = write!(
             self.shapes,
-            "<text class=\"{class}\" transform=\"translate({x:.1} {y:.1}) rotate(-90)\""
+            "<text class=\"{class}\" transform=\"translate({x} {y}) rotate(-90)\""
         );
         self.close("text", &(title(tip) + &escaped(words)));
     }
@@ -112,4 +133,20 @@ pub fn escaped(words: &str) -> String {
         }
     }
     text
+}
+
+#[cfg(test)]
+mod tests {
+    use super::Tenths;
+
+    /// Every number is as the standard library writes it, those in the middle of two tenths too.
+    #[test]
+    fn tenths_are_exact() {
+        let middles = (0..4000).map(|n| f64::from(n) * 0.05);
+        let others = (0..40_000).map(|n| f64::from(n) * 0.037_123);
+        let odd = [-0.0, -1.25, 0.05, 1e12, f64::INFINITY, 0.949_999_999_999, 99.95];
+        for number in middles.chain(others).chain(odd) {
+            assert_eq!(Tenths(number).to_string(), format!("{number:.1}"));
+        }
+    }
 }

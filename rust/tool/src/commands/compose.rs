@@ -56,6 +56,11 @@ pub fn compose(input: &Input) -> Made {
 
 /// The trace of a script, or why there is none.
 pub fn composed(input: &Input) -> Result<Vec<u8>, Mistake> {
+    composed_of(input).map(|(_, trace)| trace)
+}
+
+/// The same with the script that was read.
+pub fn composed_of(input: &Input) -> Result<(Script, Vec<u8>), Mistake> {
     let name = &input.name;
     if input.bytes.len() > MOST_TEXT {
         let why = format!("{name}: the script is longer than 16 MiB");
@@ -65,11 +70,12 @@ pub fn composed(input: &Input) -> Result<Vec<u8>, Mistake> {
         let why = format!("{name}, {unread}{}", hint(input, Kind::Script));
         Mistake { why, line: Some(unread.line) }
     })?;
-    write_trace(script.pins, script.part, &script.events).map_err(|refusal| {
+    let trace = write_trace(script.pins, script.part, &script.events).map_err(|refusal| {
         let line = place(&script, refusal);
         let place = line.map_or(String::new(), |line| format!(", line {line}"));
         Mistake { why: format!("{name}{place}: {refusal}"), line }
-    })
+    })?;
+    Ok((script, trace))
 }
 
 /// The line that the library's refusal is about.

@@ -13,7 +13,7 @@ use crate::each::{output_of, refused, Each, Made};
 use crate::failure::Failure;
 use crate::files::{self, is_standard, Input};
 use crate::many::cores;
-use crate::picture::{self, draw, Source};
+use crate::picture::{self, draw, Source, Spots};
 use crate::share::of_files;
 use crate::share::progress::Progress;
 use crate::share::words::past;
@@ -108,17 +108,23 @@ pub fn picture(input: &Input) -> Made {
 }
 
 pub fn picture_of(input: &Input, window: Window) -> Made {
-    let story = match follow(&input.bytes) {
-        Err(refusal) => return Made::refused(refused(input, refusal)),
-        Ok(story) => story,
-    };
+    match drawn(input, window) {
+        Ok((_, picture, _)) => Made::done(picture),
+        Err(why) => Made::refused(why),
+    }
+}
+
+/// The run, its picture, and where the steps stand in it; or why there is none.
+pub fn drawn(input: &Input, window: Window) -> Result<(Story, String, Spots), String> {
+    let story = follow(&input.bytes).map_err(|refusal| refused(input, refusal))?;
     let steps = window.steps(&story);
     if steps.is_empty() && window != Window::default() {
         let (name, ticks) = (&input.name, story.ticks());
-        return Made::refused(format!("{name}: nothing to show there; the run has {ticks} ticks"));
+        return Err(format!("{name}: nothing to show there; the run has {ticks} ticks"));
     }
     let source = Source { name: input.name.clone(), size: input.bytes.len() };
-    Made::done(draw(&story, &source, steps))
+    let (picture, spots) = draw(&story, &source, steps);
+    Ok((story, picture, spots))
 }
 
 fn run_shelf(arguments: &Arguments) -> Result<(), Failure> {

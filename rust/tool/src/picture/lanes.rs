@@ -39,23 +39,23 @@ impl Lane {
     }
 
     /// The room above for the words of the events.
-    fn head(self, story: &Story, places: &Places) -> f64 {
+    pub fn head(self, story: &Story, places: &Places) -> f64 {
         let shown = story.steps[places.shown.clone()].iter();
         let own = shown.filter(|step| places.wordy && self.shows(step.event));
         let longest = own.map(|step| self.short(step).len()).max().unwrap_or(0);
         22.0 + LETTER * longest as f64
     }
 
-    pub fn height(self, story: &Story, places: &Places) -> f64 {
-        let below = match self {
+    /// Its height below a head.
+    pub fn body(self) -> f64 {
+        match self {
             Lane::Controller(_) => BAR + INT + 12.0,
             Lane::Bus => 2.0 * (LEVEL + 8.0) + 2.0 * (BAND + 2.0) + 8.0,
-        };
-        self.head(story, places) + below
+        }
     }
 
-    pub fn draw(self, drawing: &mut Drawing, story: &Story, on: Strip, top: f64) {
-        let y = top + self.head(story, on.0);
+    pub fn draw(self, drawing: &mut Drawing, story: &Story, on: Strip, [top, head]: [f64; 2]) {
+        let y = top + head;
         self.events(drawing, story, on, y - 6.0);
         match self {
             Lane::Controller(master) => controller(drawing, story, on, master, y),
@@ -66,9 +66,9 @@ impl Lane {
     /// A mark for each event, with its words if there is room, a cross if it is refused, and a triangle if
     /// its byte is dropped.
     fn events(self, drawing: &mut Drawing, story: &Story, (places, strip): Strip, y: f64) {
-        for step in &story.steps[places.shown.clone()] {
-            let (here, x) = places.point(places.at[step.number - 1]);
-            if here != strip || !self.shows(step.event) {
+        for step in &story.steps[places.on_strip(strip)] {
+            let (_, x) = places.point(places.at[step.number - 1]);
+            if !self.shows(step.event) {
                 continue;
             }
             if places.marked {

@@ -51,35 +51,40 @@ pub struct Source {
     pub size: usize,
 }
 
-/// The picture of a run, or of these steps of it, as a file of SVG.
-pub fn draw(story: &Story, source: &Source, shown: Range<usize>) -> String {
+/// Where each step of a run stands in a picture: x, and the top and the foot of its strip, in the picture's units; nothing of
+/// one that is not shown.
+pub type Spots = Vec<Option<[f64; 3]>>;
+
+/// The picture of a run, or of these steps of it, as a file of SVG, and where the steps stand in it.
+pub fn draw(story: &Story, source: &Source, shown: Range<usize>) -> (String, Spots) {
     let lines = summary::in_words(story);
     let (totals, verdicts) = lines.split_at(lines.len().min(2));
     let places = Places::new(&Moment::all(story), shown, WORDS, FILE);
     let mut paper = Paper::new(places.strips() > 1);
     paper.title(&title(story, file_name(&source.name), &places));
     verdicts.iter().for_each(|verdict| paper.lines("verdict", verdict));
-    for strip in 0..places.strips() {
-        draw_strip(&mut paper, story, &places, strip);
-    }
+    let spots = draw_strips(&mut paper, story, &places);
     paper.legend(&LOOKS);
     paper.y += 6.0;
     totals.iter().for_each(|line| paper.lines("line", line));
     paper.lines("small", summary::HOW_COUNTED);
     paper.foot(&[(file_name(&source.name), source.size)]);
-    paper.finish()
+    (paper.finish(), spots)
 }
 
 /// The lanes, the ticks and what the signs mean, for a page of HTML that says the rest. `label` tells the
 /// picture to those who do not see it.
 pub fn draw_in_page(story: &Story, label: &str) -> String {
+    drawn_in_page(story, label).0
+}
+
+/// The same, and where the steps stand in it.
+pub fn drawn_in_page(story: &Story, label: &str) -> (String, Spots) {
     let places = Places::new(&Moment::all(story), 0..story.steps.len(), WORDS, PAGE);
     let mut paper = Paper::in_page();
-    for strip in 0..places.strips() {
-        draw_strip(&mut paper, story, &places, strip);
-    }
+    let spots = draw_strips(&mut paper, story, &places);
     paper.legend(&LOOKS);
-    paper.finish_in_page(label)
+    (paper.finish_in_page(label), spots)
 }
 
 fn title(story: &Story, file: &str, places: &Places) -> String {
@@ -95,23 +100,44 @@ fn title(story: &Story, file: &str, places: &Places) -> String {
     format!("{file}: {part} at address {address:02X}h, {events}, {ticks}{shown}")
 }
 
-fn draw_strip(paper: &mut Paper, story: &Story, places: &Places, strip: usize) {
+/// All strips below each other.
+fn draw_strips(paper: &mut Paper, story: &Story, places: &Places) -> Spots {
     let lanes = [Lane::Controller(Master::Zero), Lane::Controller(Master::One), Lane::Bus];
-    let height = lanes.iter().map(|lane| lane.height(story, places)).sum::<f64>();
+    let heads = lanes.map(|lane| (lane, lane.head(story, places)));
+    let mut spots = vec![None; story.steps.len()];
+    for strip in 0..places.strips() {
+        let [top, height] = draw_strip(paper, story, (places, strip), heads);
+        for step in places.on_strip(strip) {
+            let (_, x) = places.point(places.at[step]);
+            spots[step] = Some([x, top, top + height]);
+        }
+    }
+    spots
+}
+
+/// One strip, with the room for words above each lane. Gives its top and the height of its lanes.
+fn draw_strip(
+    paper: &mut Paper,
+    story: &Story,
+    (places, strip): (&Places, usize),
+    lanes: [(Lane, f64); 3],
+) -> [f64; 2] {
+    let height = lanes.iter().map(|(lane, head)| head + lane.body()).sum::<f64>();
     let top = paper.block(height + AXIS);
     let drawing = &mut paper.drawing;
     ground(drawing, places, strip, [top, height]);
     let mut y = top;
-    for lane in lanes {
+    for (lane, head) in lanes {
         drawing.line("paper-line", [LEFT, y], [places.right(strip), y]);
-        lane.draw(drawing, story, (places, strip), y);
-        y += lane.height(story, places);
+        lane.draw(drawing, story, (places, strip), [y, head]);
+        y += head + lane.body();
     }
     let ends = places.shown.end == story.steps.len();
     marks(drawing, places, (strip, ends), [top, height]);
     let ticks = story.steps.iter().filter(|step| step.event == Event::Tick);
     let ticks: Vec<(usize, usize)> = ticks.map(|step| (step.number, step.tick)).collect();
     axis(drawing, places, strip, &ticks, y);
+    [top, height]
 }
 
 /// The ground of a strip, and on it the events that take no time.

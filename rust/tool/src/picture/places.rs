@@ -229,9 +229,17 @@ impl Places {
 
     /// The strip and the x of a place on the line. Where a strip ends and the next begins, it is the end.
     pub fn point(&self, at: f64) -> (usize, f64) {
-        let strip = (0..self.strips()).find(|&strip| at <= self.end_of(strip));
-        let strip = strip.unwrap_or(self.strips() - 1);
+        // The strip after the last one that begins before it; at its own beginning a strip is not.
+        let strip = self.strips.partition_point(|start| *start < at).saturating_sub(1);
         (strip, LEFT + at - self.strips[strip])
+    }
+
+    /// The steps whose places are on a strip, among those that are shown.
+    pub fn on_strip(&self, strip: usize) -> Range<usize> {
+        let from = self.shown.start;
+        let at = &self.at[self.shown.clone()];
+        let before = |strip: usize| from + at.partition_point(|&at| self.point(at).0 < strip);
+        before(strip)..before(strip + 1)
     }
 
     /// A stretch of the line in its strips.
@@ -241,7 +249,8 @@ impl Places {
             let (from, to) = (from.max(start), to.min(self.end_of(strip)));
             (to > from).then_some(Piece { strip, x: LEFT + from - start, width: to - from })
         };
-        (0..self.strips()).filter_map(piece).collect()
+        let (first, last) = (self.point(from).0, self.point(to).0);
+        (first..=last).filter_map(piece).collect()
     }
 
     /// The place of a step of a story; past its last one, the end.
