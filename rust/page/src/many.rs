@@ -55,7 +55,7 @@ pub fn orders(request: &Request) -> Answer {
         Err(why) => return Answer::refused(why),
     };
     let (made, said) = tried(&first, &second, &Wanted::Groups, how);
-    let warned = [&first, &second].map(|input| warnings::of_input(input)).concat().join("\n");
+    let warned = [&first, &second].map(warnings::of_input).concat().join("\n");
     let refused = made.refused.map(|why| (why, None));
     match made.output {
         Some(text) => {

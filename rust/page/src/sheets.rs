@@ -156,7 +156,7 @@ fn form_of(name: BoxName, number: usize) -> Value {
         ("controller", name.controller.number().into()),
         ("kind", if ms { "ms" } else { "choice" }.into()),
         ("unit", if ms { "ms" } else { "" }.into()),
-        ("range", ms.then_some(RESERVES).unwrap_or_default().into()),
+        ("range", if ms { RESERVES } else { "" }.into()),
         ("choices", single.into()),
         ("empty", EMPTY.into()),
         ("help", help.join(" ").into()),

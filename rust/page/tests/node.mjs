@@ -83,7 +83,8 @@ function refuses() {
 
 /** A script of 4,096 events in which both controllers are busy. */
 function longScript() {
-  const lines = ['pins 0 0 0 1', 'part PCA9641', 'command 0 03', 'write 0 50ms', 'stop 0', 'command 0 01', 'write 0 05', 'stop 0', 'command 1 01', 'write 1 05', 'stop 1'];
+  const lines = ['pins 0 0 0 1', 'part PCA9641', 'command 0 03', 'write 0 50ms', 'stop 0', 'command 0 01', 'write 0 05', 'stop 0'];
+  lines.push('command 1 01', 'write 1 05', 'stop 1');
   const more = ['command 0 02', 'read 0', 'stop 0', 'tick', 'lines 1 0 1', 'tick', 'lines 1 1 1', 'command 1 82', 'read 1', 'stop 1'];
   while (lines.length < 4096 + 2) lines.push(more[lines.length % more.length]);
   return lines.join('\n');
