@@ -1,0 +1,109 @@
+// Files that are dropped or chosen: their names and bytes.
+
+/** @typedef {{name: string, bytes: Uint8Array}} Given */
+
+/** Nothing that is read here is longer; of a longer file so much is looked at that the module can say so. */
+const MOST_BYTES = 16 * 1024 * 1024 + 1;
+
+/** So many files of a folder are read, and no more. */
+const MOST_FILES = 1000;
+
+/**
+ * @param {File} file
+ * @param {string} name
+ * @returns {Promise<Given>}
+ */
+async function readFile(file, name) {
+  const part = file.size > MOST_BYTES ? file.slice(0, MOST_BYTES) : file;
+  return { name, bytes: new Uint8Array(await part.arrayBuffer()) };
+}
+
+/**
+ * Files that were chosen; of a folder with their paths in it.
+ * @param {FileList} files
+ * @returns {Promise<Given[]>}
+ */
+function readChosen(files) {
+  const few = [...files].slice(0, MOST_FILES);
+  return Promise.all(few.map((file) => readFile(file, withoutFolder(file.webkitRelativePath) || file.name)));
+}
+
+/**
+ * A path without the folder that was chosen.
+ * @param {string} path
+ * @returns {string}
+ */
+function withoutFolder(path) {
+  return path.slice(path.indexOf('/') + 1);
+}
+
+/**
+ * Files that were dropped, those of folders with their paths.
+ * @param {DataTransfer} dropped
+ * @returns {Promise<Given[]>}
+ */
+async function readDropped(dropped) {
+  const entries = [...dropped.items].filter((item) => item.kind === 'file').map((item) => item.webkitGetAsEntry?.() ?? null);
+  if (entries.length === 0 || entries.includes(null)) return readChosen(dropped.files);
+  /** @type {Given[]} */
+  const found = [];
+  for (const entry of entries) await walk(/** @type {any} */ (entry), '', found);
+  return found;
+}
+
+/**
+ * @param {any} entry
+ * @param {string} path the folders on the way, without the one that was dropped
+ * @param {Given[]} found
+ */
+async function walk(entry, path, found) {
+  if (found.length >= MOST_FILES) return;
+  if (entry.isFile) {
+    const file = await new Promise((done, failed) => entry.file(done, failed));
+    found.push(await readFile(file, path + entry.name));
+    return;
+  }
+  const inside = entry.fullPath.split('/').length > 2 ? `${path}${entry.name}/` : path;
+  const reader = entry.createReader();
+  for (;;) {
+    const some = await new Promise((done, failed) => reader.readEntries(done, failed));
+    if (some.length === 0) return;
+    for (const one of some) await walk(one, inside, found);
+  }
+}
+
+/**
+ * Has a part of the page take files: dropped on it, or chosen by an input.
+ * @param {HTMLElement} place
+ * @param {HTMLInputElement[]} inputs
+ * @param {(files: Given[]) => void} take
+ */
+function takeFiles(place, inputs, take) {
+  const failed = (/** @type {unknown} */ why) => say(`A file could not be read: ${why}`);
+  place.addEventListener('dragover', (event) => {
+    event.preventDefault();
+    place.classList.add('over');
+  });
+  place.addEventListener('dragleave', () => place.classList.remove('over'));
+  place.addEventListener('drop', (event) => {
+    event.preventDefault();
+    place.classList.remove('over');
+    if (event.dataTransfer) readDropped(event.dataTransfer).then(take, failed);
+  });
+  for (const input of inputs) {
+    input.addEventListener('change', () => {
+      if (input.files?.length) readChosen(input.files).then(take, failed);
+      input.value = '';
+    });
+  }
+}
+
+/**
+ * What a file is, by its bytes, and what the tool says of it.
+ * @param {Given} file
+ * @returns {{kind: string, says: string}}
+ */
+function whatIs(file) {
+  const answer = ask('what', file.name, file.bytes);
+  return answer.ok ? { kind: textOf(answer, 0), says: textOf(answer, 1) } : { kind: 'unknown', says: textOf(answer) };
+}

@@ -1,0 +1,91 @@
+// The lessons: box 14 in five steps with a live picture, the auditor's questions beside runs that show the answers, the samples.
+
+/** @type {{step: number, reserve: number}} */
+const learn = { step: 0, reserve: 0 };
+
+/** @param {number} step */
+function showStep(step) {
+  learn.step = step;
+  learn.reserve = STEPS[step].reserve;
+  const { title, text } = STEPS[step];
+  byId('step-head').textContent = `${step + 1}. ${title}`;
+  put(byId('step-text'), ...text.map((words) => make('p', {}, words)));
+  byId('step-less').disabled = step === 0;
+  byId('step-more').disabled = step === STEPS.length - 1;
+  [...byId('steps').querySelectorAll('button')].forEach((one, place) => {
+    if (place === step) one.setAttribute('aria-current', 'step');
+    else one.removeAttribute('aria-current');
+  });
+  drawStep();
+}
+
+/** Draws the run of the step with the reserve that the slider says. */
+function drawStep() {
+  const { step, reserve } = learn;
+  const slider = byId('learn-range');
+  slider.value = String(reserve);
+  slider.setAttribute('aria-valuetext', reserveWords(reserve));
+  byId('learn-said').textContent = reserveWords(reserve);
+  const answer = ask('compose', stepScript());
+  if (!answer.ok) return put(byId('learn-told'), textOf(answer));
+  byId('learn-told').textContent = drawTrace(byId('learn-picture'), answer.fields[0], `step ${step + 1}`);
+}
+
+/** @returns {string} */
+function stepScript() {
+  return withReserve(STEPS[learn.step].script, learn.reserve);
+}
+
+/**
+ * A question with its answer, and beside it a run that shows it.
+ * @param {Question} one
+ * @param {number} number
+ * @returns {HTMLElement}
+ */
+function showQuestion(one, number) {
+  const picture = makePicture(`Picture: ${one.shows}`);
+  const answer = ask('compose', one.script);
+  const told = answer.ok ? drawTrace(picture, answer.fields[0], `question ${number + 1}`) : textOf(answer);
+  const statements = one.statements.flatMap((name, place) => [place ? ', ' : '', make('code', {}, name)]);
+  return make(
+    'section',
+    { class: 'question', 'aria-labelledby': `question-${number}` },
+    make('h3', { id: `question-${number}` }, `${number + 1}. ${one.question}`),
+    make('p', {}, make('b', {}, one.answer), one.answer.endsWith('.') ? ' ' : ', ', one.more, one.more.endsWith('.') ? '' : '.'),
+    make('p', { class: 'hint' }, 'Proved: ', ...statements),
+    make('p', {}, one.shows),
+    picture,
+    make('p', {}, told),
+    button('Open this run on the bench', () => toBench(one.script, `question-${number + 1}`)),
+  );
+}
+
+/** @param {{name: string, file: string, kind: string, says: string}[]} samples */
+function showSamples(samples) {
+  const open = (/** @type {any} */ sample) => () => {
+    const file = { name: sample.file, bytes: ask('sample', sample.name).fields[0] };
+    if (sample.kind === 'script') return toBench(decoder.decode(file.bytes), sample.file);
+    takeField([file]);
+    openUse('field');
+    byId('tab-field').focus();
+  };
+  const line = (/** @type {any} */ sample) => make('li', {}, button(sample.name, open(sample)), ` ${sample.says}`);
+  put(byId('samples'), ...samples.map(line));
+}
+
+function startLearn() {
+  const step = (/** @type {Step} */ { title }, /** @type {number} */ place) => make('li', {}, button(title, () => showStep(place)));
+  put(byId('steps'), ...STEPS.map(step));
+  byId('step-less').addEventListener('click', () => showStep(learn.step - 1));
+  byId('step-more').addEventListener('click', () => showStep(learn.step + 1));
+  byId('step-bench').addEventListener('click', () => toBench(stepScript(), `box14-step${learn.step + 1}`));
+  byId('learn-range').addEventListener('input', () => {
+    learn.reserve = Number(byId('learn-range').value);
+    drawStep();
+  });
+  whenShown.learn = () => {
+    if (byId('questions').childElementCount) return;
+    showStep(0);
+    put(byId('questions'), ...QUESTIONS.map(showQuestion));
+  };
+}
