@@ -5,6 +5,7 @@
 const bench = { trace: null, lines: [], at: 0, name: 'bench', given: '', kept: null };
 
 const sayError = rested(900, () => say(byId('script-told').textContent));
+const sayRun = rested(500, () => say(byId('bench-told').innerText));
 const noteScript = rested(400, () => noteAddress());
 
 /**
@@ -40,7 +41,7 @@ function scriptChanged() {
   const refused = !answer.ok;
   byId('script-told').textContent = refused ? textOf(answer, 0) : '';
   byId('script').setAttribute('aria-invalid', String(refused));
-  byId('panel-bench').classList.toggle('stale', refused);
+  byId('stale').hidden = !refused || bench.trace === null;
   markLines({ wrong: refused ? Number(textOf(answer, 1)) || 0 : 0 });
   const warnings = refused ? '' : textOf(answer, 1);
   put(byId('script-warnings'), ...warnings.split('\n').filter(Boolean).map((words) => make('li', {}, words)));
@@ -58,7 +59,8 @@ function drawBench() {
   const trace = /** @type {Uint8Array} */ (bench.trace);
   const events = bench.lines.length;
   byId('at').max = String(events);
-  drawTrace(byId('bench-picture'), trace, bench.name);
+  const told = drawTrace(byId('bench-picture'), trace, bench.name);
+  put(byId('bench-told'), ...told.split('\n').filter(Boolean).map((words) => make('li', {}, words)));
   showStory(byId('story'), trace, (event) => goTo(event, true));
   byId('answers').textContent = textOf(ask('listing', trace));
   goTo(Math.min(bench.at, events), false);
@@ -83,6 +85,7 @@ function goTo(event, seen = true) {
   markLines({ now: event > 0 ? bench.lines[event - 1] : 0 });
   if (seen) showLine(editor.now);
   markStory(byId('story'), event);
+  markPicture(byId('bench-picture'), event);
 }
 
 /**
@@ -104,8 +107,7 @@ function setReserve(reserve) {
   const area = byId('script');
   area.value = withReserve(area.value, reserve);
   scriptChanged();
-  const told = byId('bench-picture').shadowRoot?.querySelector('svg')?.getAttribute('aria-label');
-  if (told) say(told);
+  sayRun();
 }
 
 /** @param {string} form */

@@ -28,7 +28,7 @@ function drawStep() {
   byId('learn-said').textContent = reserveWords(reserve);
   const answer = ask('compose', stepScript());
   if (!answer.ok) return put(byId('learn-told'), textOf(answer));
-  byId('learn-told').textContent = drawTrace(byId('learn-picture'), answer.fields[0], `step ${step + 1}`);
+  byId('learn-told').textContent = drawTrace(byId('learn-picture'), answer.fields[0], `step ${step + 1}`).replaceAll('\n', '; ');
 }
 
 /** @returns {string} */
@@ -55,7 +55,7 @@ function showQuestion(one, number) {
     make('p', { class: 'hint' }, 'Proved: ', ...statements),
     make('p', {}, one.shows),
     picture,
-    make('p', {}, told),
+    make('p', {}, told.replaceAll('\n', '; ')),
     button('Open this run on the bench', () => toBench(one.script, `question-${number + 1}`)),
   );
 }

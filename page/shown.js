@@ -39,7 +39,7 @@ function showTrace(body, file) {
   const told = drawTrace(picture, file.bytes, file.name);
   put(
     body,
-    make('p', { role: 'status' }, told),
+    make('p', { role: 'status' }, told.replaceAll('\n', '; ')),
     make('p', { class: 'row' }, button('Open on the bench', () => toBench(textOf(script), file.name)), ...savesOf(file)),
     picture,
     make('details', {}, make('summary', {}, 'The story'), story),
