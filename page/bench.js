@@ -50,7 +50,7 @@ function scriptChanged() {
   noteScript();
   if (refused) return;
   bench.trace = answer.fields[0];
-  bench.lines = valueOf(answer, 2) ?? [];
+  bench.lines = jsonOf(answer, 2) ?? [];
   drawBench();
 }
 

@@ -72,15 +72,14 @@ function takeTexts(files, alone) {
 }
 
 /**
- * A pair of sheets among the samples.
- * @param {string} folder
+ * A bundle among the samples, in the place of what is there.
+ * @param {Given[]} files
  */
-function takeSamplePair(folder) {
+function takeSampleBundle(files) {
   keepBundle();
   const { kept } = release;
   release.others = [];
-  const read = (/** @type {string} */ which) => ({ name: `${which}.sheet`, bytes: ask('sample', `${folder}/${which}.sheet`).fields[0] });
-  takeBundle([read('board'), read('house')]);
+  takeBundle(files);
   release.kept = kept;
 }
 
@@ -116,7 +115,7 @@ function saveText(which) {
 }
 
 function startRelease() {
-  forms.boxes = valueOf(ask('boxes'));
+  forms.boxes = jsonOf(ask('boxes'));
   Object.assign(release, { board: emptySheet(), house: emptySheet() });
   buildForm((which, place, word) => {
     release[which].words[place] = word;
@@ -125,8 +124,8 @@ function startRelease() {
   byId('form').addEventListener('submit', (/** @type {Event} */ event) => event.preventDefault());
   for (const id of ['most', 'limit-0', 'limit-1']) byId(id).addEventListener('input', judge);
   takeFiles(byId('panel-release'), [byId('release-files'), byId('release-folder')], takeBundle);
-  byId('release-incident').addEventListener('click', () => takeSamplePair('releases/incident'));
-  byId('release-safe').addEventListener('click', () => takeSamplePair('releases/safe'));
+  byId('release-incident').addEventListener('click', () => takeSampleBundle(filesOf('releases/incident')));
+  byId('release-safe').addEventListener('click', () => takeSampleBundle(filesOf('releases/safe')));
   byId('release-back').addEventListener('click', bringBackBundle);
   byId('release-clear').addEventListener('click', () => {
     keepBundle();

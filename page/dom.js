@@ -24,7 +24,7 @@ function make(tag, attributes = {}, ...inside) {
     if (name.startsWith('on')) element.addEventListener(name.slice(2), value);
     else if (value !== false && value !== null) element.setAttribute(name, value === true ? '' : String(value));
   }
-  element.append(...inside.filter((one) => one !== null));
+  put(element, ...inside);
   return element;
 }
 
@@ -34,7 +34,7 @@ function make(tag, attributes = {}, ...inside) {
  * @param {...(Node | string | null)} inside
  */
 function put(element, ...inside) {
-  element.replaceChildren(...inside.filter((one) => one !== null));
+  element.replaceChildren(...inside.flatMap((one) => (one === null ? [] : [one])));
 }
 
 /**

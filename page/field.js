@@ -19,7 +19,7 @@ function drawField(fresh) {
   const place = byId('field-files-shown');
   const kept = [...place.querySelectorAll(':scope > .file:not(.shelf)')].filter((old) => field.files.slice(fresh).some(({ file }) => file.name === old.getAttribute('aria-label')));
   const made = field.files.slice(0, fresh).map(({ file, kind, says }) => showFile(file, kind, says));
-  put(place, ...shelves(), ...made, ...kept);
+  put(place, ...shelves(), ...orders(), ...made, ...kept);
 }
 
 /**
@@ -40,13 +40,31 @@ function shelves() {
  * @returns {HTMLElement}
  */
 function showShelf(shelf, script) {
-  const answer = ask('shelf', shelf.bytes, script.bytes);
+  const answer = ask('shelf', shelf.bytes, script.bytes, shelf.name, script.name);
   const title = `${shelf.name}, run by ${script.name}`;
-  const head = make('h3', {}, title);
-  if (!answer.ok) return make('section', { class: 'file shelf', 'aria-label': title }, head, make('p', { class: 'bad', role: 'status' }, textOf(answer)));
+  const made = answer.ok ? answer.fields : answer.fields.slice(2);
+  const refused = answer.ok ? null : make('p', { class: 'bad', role: 'status' }, textOf(answer));
+  const place = make('section', { class: 'file shelf', 'aria-label': title }, make('h3', {}, title), refused);
+  if (made.length === 0) return place;
   const picture = makePicture(`Picture of ${title}`);
-  showPicture(picture, textOf(answer, 1), title);
-  return make('section', { class: 'file shelf', 'aria-label': title }, head, picture, make('pre', { tabindex: '0', role: 'region', 'aria-label': `What happened: ${title}` }, textOf(answer, 0)));
+  const told = decoder.decode(made[0]);
+  showPicture(picture, decoder.decode(made[1]), `${title}. ${told}`);
+  place.append(picture, make('pre', { tabindex: '0', role: 'region', 'aria-label': `What happened: ${title}` }, told));
+  return place;
+}
+
+/**
+ * Two start-up scripts tried in all orders, once both are there by their names.
+ * @returns {HTMLElement[]}
+ */
+function orders() {
+  const named = (/** @type {number} */ controller) => field.files.find(({ kind, file }) => kind === 'script' && new RegExp(`start${controller}`, 'i').test(file.name))?.file;
+  const [first, second] = [named(0), named(1)];
+  if (!first || !second) return [];
+  const answer = ask('orders', first.bytes, second.bytes, first.name, second.name);
+  const title = `${first.name} and ${second.name} in all orders`;
+  const told = answer.ok ? textOf(answer) : [...answer.fields.slice(2, 3).map((text) => decoder.decode(text)), textOf(answer)].join('\n');
+  return [make('section', { class: 'file shelf', 'aria-label': title }, make('h3', {}, title), make('pre', { tabindex: '0', role: 'region', 'aria-label': title }, told))];
 }
 
 function startField() {

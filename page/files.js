@@ -1,6 +1,6 @@
 // Files that are dropped or chosen: their names and bytes.
 
-/** @typedef {{name: string, bytes: Uint8Array}} Given */
+/** @typedef {{name: string, bytes: Uint8Array, changed?: number}} Given its last change in seconds since 1970, if it is known */
 
 /** Nothing that is read here is longer; of a longer file so much is looked at that the module can say so. */
 const MOST_BYTES = 16 * 1024 * 1024 + 1;
@@ -15,7 +15,7 @@ const MOST_FILES = 1000;
  */
 async function readFile(file, name) {
   const part = file.size > MOST_BYTES ? file.slice(0, MOST_BYTES) : file;
-  return { name, bytes: new Uint8Array(await part.arrayBuffer()) };
+  return { name, bytes: new Uint8Array(await part.arrayBuffer()), changed: Math.floor(file.lastModified / 1000) };
 }
 
 /**

@@ -60,17 +60,9 @@ function showQuestion(one, number) {
   );
 }
 
-/** @param {{name: string, file: string, kind: string, says: string}[]} samples */
-function showSamples(samples) {
-  const open = (/** @type {any} */ sample) => () => {
-    const file = { name: sample.file, bytes: ask('sample', sample.name).fields[0] };
-    if (sample.kind === 'script') return toBench(decoder.decode(file.bytes), sample.file);
-    takeField([file]);
-    openUse('field');
-    byId('tab-field').focus();
-  };
-  const line = (/** @type {any} */ sample) => make('li', {}, button(sample.name, open(sample)), ` ${sample.says}`);
-  put(byId('samples'), ...samples.map(line));
+/** Every sample, with a button that opens it where it belongs. */
+function showSamples() {
+  put(byId('samples'), ...samples.all.map((sample) => make('li', {}, button(sample.name, () => openSample(sample)), ` ${sample.says}`)));
 }
 
 function startLearn() {

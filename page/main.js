@@ -3,35 +3,20 @@
 /** What a fresh bench has. */
 const FIRST_SAMPLE = 'box14-rt00';
 
-/**
- * The samples to choose from.
- * @param {HTMLSelectElement} select
- * @param {{name: string, says: string}[]} samples
- * @param {(name: string) => void} take
- */
-function offerSamples(select, samples, take) {
-  select.append(...samples.map(({ name, says }) => make('option', { value: name, title: says }, name)));
-  select.addEventListener('change', () => {
-    if (select.value) take(select.value);
-    select.value = '';
-  });
-}
-
 function startUses() {
-  const samples = valueOf(ask('samples'));
-  const bytes = (/** @type {string} */ name) => ask('sample', name).fields[0];
-  offers.words = valueOf(ask('words')) ?? [];
+  samples.all = jsonOf(ask('samples'));
+  offers.words = jsonOf(ask('words')) ?? [];
   byId('identity').textContent = textOf(ask('identity'));
   startTabs();
   startRelease();
   startBench();
   startField();
   startLearn();
-  showSamples(samples);
-  const scripts = samples.filter((/** @type {any} */ { kind }) => kind === 'script');
-  offerSamples(byId('bench-sample'), scripts, (name) => putScript(decoder.decode(bytes(name)), name));
-  offerSamples(byId('field-sample'), samples, (name) => takeField([{ name: samples.find((/** @type {any} */ one) => one.name === name).file, bytes: bytes(name) }]));
-  putScript(decoder.decode(bytes(FIRST_SAMPLE)), FIRST_SAMPLE);
+  showSamples();
+  const toScript = (/** @type {string} */ name) => putScript(decoder.decode(filesOf(name)[0].bytes), name);
+  offerSamples(byId('bench-sample'), ['script'], toScript);
+  offerSamples(byId('field-sample'), ['script', 'trace', 'capture', 'shelf', 'orders'], (name) => takeField(filesOf(name)));
+  toScript(FIRST_SAMPLE);
 }
 
 /** A file that misses its place is not opened by the browser in the place of this page. */

@@ -3,7 +3,7 @@
 /** @typedef {{ok: boolean, fields: Uint8Array[]}} Answer */
 
 /** @type {{code: WebAssembly.Module | null, exports: any}} */
-const module = { code: null, exports: null };
+const engine = { code: null, exports: null };
 
 const encoder = new TextEncoder();
 const decoder = new TextDecoder();
@@ -19,15 +19,15 @@ async function startModule() {
     const plain = new Blob([bytes]).stream().pipeThrough(new DecompressionStream('gzip'));
     bytes = new Uint8Array(await new Response(plain).arrayBuffer());
   }
-  module.code = await WebAssembly.compile(bytes);
+  engine.code = await WebAssembly.compile(bytes);
   await startAnew();
   holder.remove();
 }
 
 /** A module with fresh memory: at the start, and after it has stopped. */
 async function startAnew() {
-  const instance = await WebAssembly.instantiate(/** @type {WebAssembly.Module} */ (module.code), {});
-  module.exports = instance.exports;
+  const instance = await WebAssembly.instantiate(/** @type {WebAssembly.Module} */ (engine.code), {});
+  engine.exports = instance.exports;
 }
 
 /**
@@ -41,7 +41,7 @@ function ask(name, ...given) {
   try {
     return readAnswer(exchange(packed(request)));
   } catch (stopped) {
-    module.exports = new WebAssembly.Instance(/** @type {WebAssembly.Module} */ (module.code), {}).exports;
+    engine.exports = new WebAssembly.Instance(/** @type {WebAssembly.Module} */ (engine.code), {}).exports;
     return { ok: false, fields: [encoder.encode(`the module stopped at '${name}' (${stopped}); it is started anew, and nothing was judged`)] };
   }
 }
@@ -68,7 +68,7 @@ function packed(fields) {
  * @returns {Uint8Array}
  */
 function exchange(request) {
-  const { input, ask: answer, output, memory } = module.exports;
+  const { input, ask: answer, output, memory } = engine.exports;
   const room = input(request.length) >>> 0;
   new Uint8Array(memory.buffer).set(request, room);
   const length = answer(request.length) >>> 0;
@@ -107,6 +107,6 @@ function textOf(answer, place = 0) {
  * @param {number} [place]
  * @returns {any}
  */
-function valueOf(answer, place = 0) {
+function jsonOf(answer, place = 0) {
   return JSON.parse(textOf(answer, place) || 'null');
 }

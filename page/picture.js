@@ -54,7 +54,7 @@ function drawTrace(host, trace, title) {
   const answer = ask('sketch', trace, title);
   const told = answer.ok ? textOf(answer, 1) : textOf(answer);
   const drawn = showPicture(host, answer.ok ? textOf(answer, 0) : '', told.replaceAll('\n', '; '), textOf(answer, 3));
-  const places = answer.ok ? valueOf(answer, 2) : null;
+  const places = answer.ok ? jsonOf(answer, 2) : null;
   pictures.delete(host);
   if (drawn && places) {
     const line = document.createElementNS('http://www.w3.org/2000/svg', 'line');

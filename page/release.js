@@ -16,8 +16,10 @@ function judge() {
   showOthers();
   if (!board.ok || !house.ok) return showUnjudged(board.ok ? textOf(house) : textOf(board));
   showOrder(ask('sheet', board.fields[0], house.fields[0]));
+  /** @type {Given[]} */
   const files = [{ name: 'board.sheet', bytes: board.fields[0] }, { name: 'house.sheet', bytes: house.fields[0] }, ...release.others];
-  showJudged(ask('release', ...files.flatMap(({ name, bytes }) => [name, bytes]), ...asked()));
+  const named = files.flatMap(({ name, bytes, changed }) => [name, bytes, ...(changed ? ['--changed', String(changed)] : [])]);
+  showJudged(ask('release', ...named, ...asked(), '--at', String(Math.floor(Date.now() / 1000))));
 }
 
 /** @returns {string[]} what is asked of the release, as the tool's options */
@@ -45,7 +47,7 @@ function showUnjudged(why) {
 /** @param {Answer} answer */
 function showJudged(answer) {
   if (!answer.ok) return showUnjudged(textOf(answer));
-  const judged = valueOf(answer, 1);
+  const judged = jsonOf(answer, 1);
   release.text = textOf(answer, 0);
   release.report = answer.fields[2];
   const verdict = byId('verdict');
@@ -69,15 +71,15 @@ function showSaves() {
  * @param {Answer} answer
  */
 function showOrder(answer) {
-  const order = answer.ok ? valueOf(answer, 1) : null;
+  const order = answer.ok ? jsonOf(answer, 1) : null;
   showOrdered(order?.boxes ?? []);
   const waits = order?.waits ?? [];
   if (waits.length === 0) return put(byId('waits'));
   const row = (/** @type {any} */ wait) => [
     `Controller ${wait.controller}`,
     wait.words,
-    wait.ticks.map(([part, ticks]) => `${part}: ${ticks}`).join(', '),
-    make('span', {}, make('code', {}, wait.statement), wait.says ? ` ${wait.says}` : ''),
+    wait.ticks.map((/** @type {string[]} */ [part, ticks]) => `${part}: ${ticks}`).join(', '),
+    make('ul', {}, ...wait.statements.map((/** @type {any} */ { name, says }) => make('li', {}, make('code', {}, name), `: ${says}`))),
   ];
   const caption = 'How long each can wait for the bus after the start, at every handover';
   put(

@@ -43,7 +43,7 @@ function showTrace(body, file) {
     make('p', { class: 'row' }, button('Open on the bench', () => toBench(textOf(script), file.name)), ...savesOf(file)),
     picture,
     make('details', {}, make('summary', {}, 'The story'), story),
-    make('details', {}, make('summary', {}, 'How the bus was shared'), make('pre', { tabindex: '0' }, textOf(ask('share', file.bytes)))),
+    make('details', {}, make('summary', {}, 'How the bus was shared'), make('pre', { tabindex: '0' }, textOf(ask('share', file.name, file.bytes), 1))),
   );
   showStory(story, file.bytes, (event) => {
     toBench(textOf(script), file.name);

@@ -25,7 +25,7 @@
  */
 function stateAt(trace, event) {
   const answer = ask('state', trace, String(event));
-  return answer.ok ? valueOf(answer) : null;
+  return answer.ok ? jsonOf(answer) : null;
 }
 
 /**

@@ -24,7 +24,7 @@ function showStory(place, trace, go) {
   }
   const first = stories.get(place)?.first ?? 0;
   /** @type {Story} */
-  const story = valueOf(answer);
+  const story = jsonOf(answer);
   stories.set(place, { story, first: first < story.rows.length ? first : 0, go });
   drawStory(place);
 }
