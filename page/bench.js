@@ -62,7 +62,7 @@ function drawBench() {
   const told = drawTrace(byId('bench-picture'), trace, bench.name);
   put(byId('bench-told'), ...told.split('\n').filter(Boolean).map((words) => make('li', {}, words)));
   showStory(byId('story'), trace, (event) => goTo(event, true));
-  byId('answers').textContent = textOf(ask('listing', trace));
+  showAnswers(trace);
   goTo(Math.min(bench.at, events), false);
 }
 
@@ -86,6 +86,7 @@ function goTo(event, seen = true) {
   if (seen) showLine(editor.now);
   markStory(byId('story'), event);
   markPicture(byId('bench-picture'), event);
+  markAnswers(event);
 }
 
 /**
@@ -116,6 +117,7 @@ function saveBench(form) {
   const { name, trace } = bench;
   if (form === 'trace') save(`${name}.trace`, trace, 'application/octet-stream');
   else if (form === 'script') save(`${name}.script`, byId('script').value, 'text/plain');
+  else if (form === 'listing') save(`${name}.listing`, textOf(ask('listing', trace)), 'text/plain');
   else if (form === 'vcd') save(`${name}.vcd`, textOf(ask('vcd', trace)), 'text/plain');
   else save(`${name}.svg`, textOf(ask('picture', trace, name, '', '')), 'image/svg+xml');
 }
@@ -155,5 +157,5 @@ function startBench() {
     one.addEventListener('click', () => saveBench(/** @type {HTMLElement} */ (one).dataset.save ?? ''));
   }
   takeFiles(byId('panel-bench'), [byId('bench-file')], openOnBench);
-  whenShown.bench = () => placeMarks();
+  whenShown.bench = layEditor;
 }

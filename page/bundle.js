@@ -7,9 +7,8 @@
 function takeBundle(files) {
   keepBundle();
   const kinds = files.map((file) => ({ file, ...whatIs(file) }));
-  const named = (/** @type {string} */ ending) => (/** @type {{file: Given, kind: string}} */ { file, kind }) => kind === ending || file.name.endsWith(`.${ending}`);
-  const sheets = kinds.filter(named('sheet'));
-  const texts = kinds.filter(({ kind }) => kind === 'sheet text');
+  const sheets = kinds.filter(({ file, kind }) => kind === 'sheet' || file.name.endsWith('.sheet'));
+  const texts = kinds.filter((one) => one.kind === 'sheet text' && !sheets.includes(one));
   const told = takeSheets(sheets.map(({ file }) => file));
   told.push(...takeTexts(texts.map(({ file }) => file), sheets.length === 0));
   const taken = ['trace', 'old trace', 'script', 'shelf script', 'shelf'];

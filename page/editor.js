@@ -1,20 +1,18 @@
 // The script's text area: the numbers of its lines, the line that cannot be read, the line of the event that one looks at.
+// What is measured is kept: to ask anew at every key would have the browser lay out the whole page between two changes.
 
-/** @type {{lines: number, wrong: number, now: number, height: number, letter: number}} */
-const editor = { lines: 0, wrong: 0, now: 0, height: 0, letter: 0 };
+/** A line's height and a letter's width, the padding above and beside, how far it is scrolled and how much is in sight, in pixels. */
+const editor = { lines: 0, wrong: 0, now: 0, height: 0, letter: 0, top: 0, left: 0, scrolled: 0, sight: 0 };
 
-/**
- * How high a line is and how wide a letter.
- * @param {HTMLTextAreaElement} area
- */
-function measureLetters(area) {
+/** @param {HTMLTextAreaElement} area */
+function measureEditor(area) {
   const style = getComputedStyle(area);
   const probe = make('span', { style: 'position:absolute;visibility:hidden;white-space:pre' }, 'M'.repeat(100));
   probe.style.font = style.font;
   area.parentElement?.append(probe);
-  editor.height = parseFloat(style.lineHeight);
-  editor.letter = probe.getBoundingClientRect().width / 100;
+  const letter = probe.getBoundingClientRect().width / 100;
   probe.remove();
+  Object.assign(editor, { letter, height: parseFloat(style.lineHeight), top: parseFloat(style.paddingTop), left: parseFloat(style.paddingLeft), sight: area.clientHeight });
 }
 
 /** The numbers of the lines, as many as there are. */
@@ -31,21 +29,27 @@ function numberLines() {
  */
 function markLines(marks) {
   Object.assign(editor, marks);
-  placeMarks();
-}
-
-/** Lays the marks behind their lines, and the numbers beside them. */
-function placeMarks() {
-  const area = byId('script');
-  if (!editor.height && area.offsetParent) measureLetters(area);
-  const top = parseFloat(getComputedStyle(area).paddingTop);
   for (const [id, line] of /** @type {[string, number][]} */ ([['mark-wrong', editor.wrong], ['mark-now', editor.now]])) {
     const mark = byId(id);
     mark.hidden = line === 0;
-    mark.style.top = `${top + (line - 1) * editor.height - area.scrollTop}px`;
+    mark.style.top = `${editor.top + (line - 1) * editor.height}px`;
     mark.style.height = `${editor.height}px`;
   }
-  byId('gutter').style.transform = `translateY(${-area.scrollTop}px)`;
+}
+
+/** Lays numbers and marks where the text has been scrolled to. */
+function followScroll() {
+  editor.scrolled = byId('script').scrollTop;
+  byId('under').style.transform = `translateY(${-editor.scrolled}px)`;
+}
+
+/** Measures anew and lays everything in its place: when the bench is shown, and when the window changes. */
+function layEditor() {
+  const area = byId('script');
+  if (!area.checkVisibility()) return;
+  measureEditor(area);
+  followScroll();
+  markLines({});
 }
 
 /**
@@ -55,12 +59,9 @@ function placeMarks() {
  * @param {number} place
  */
 function placeAtCaret(element, area, place) {
-  if (!editor.height) measureLetters(area);
-  const style = getComputedStyle(area);
   const before = area.value.slice(0, place).split('\n');
-  const column = before[before.length - 1].length;
-  const left = parseFloat(style.paddingLeft) + column * editor.letter - area.scrollLeft;
-  element.style.top = `${parseFloat(style.paddingTop) + before.length * editor.height - area.scrollTop}px`;
+  const left = editor.left + before[before.length - 1].length * editor.letter - area.scrollLeft;
+  element.style.top = `${editor.top + before.length * editor.height - area.scrollTop}px`;
   element.style.left = `${Math.max(0, Math.min(left, area.clientWidth - 200))}px`;
 }
 
@@ -69,9 +70,9 @@ function placeAtCaret(element, area, place) {
  * @param {number} line
  */
 function showLine(line) {
-  const area = byId('script');
   const top = (line - 1) * editor.height;
-  if (line > 0 && (top < area.scrollTop || top > area.scrollTop + area.clientHeight - 2 * editor.height)) area.scrollTop = top - area.clientHeight / 2;
+  const inSight = editor.scrolled <= top && top <= editor.scrolled + editor.sight - 2 * editor.height;
+  if (line > 0 && !inSight) byId('script').scrollTop = top - editor.sight / 2;
 }
 
 /** @param {() => void} changed */
@@ -84,11 +85,8 @@ function startEditor(changed) {
   area.addEventListener('keydown', (/** @type {KeyboardEvent} */ event) => {
     if (offerKey(event, area)) event.preventDefault();
   });
-  area.addEventListener('scroll', placeMarks);
+  area.addEventListener('scroll', followScroll);
   area.addEventListener('blur', () => closeOffers(area));
   area.addEventListener('click', () => closeOffers(area));
-  addEventListener('resize', () => {
-    editor.height = 0;
-    placeMarks();
-  });
+  new ResizeObserver(layEditor).observe(area);
 }

@@ -38,37 +38,55 @@ function withoutFolder(path) {
 }
 
 /**
- * Files that were dropped, those of folders with their paths.
+ * Files that were dropped, those of folders with their paths in it. What an item holds has to be asked for at once, in the drop itself.
  * @param {DataTransfer} dropped
  * @returns {Promise<Given[]>}
  */
 async function readDropped(dropped) {
-  const entries = [...dropped.items].filter((item) => item.kind === 'file').map((item) => item.webkitGetAsEntry?.() ?? null);
-  if (entries.length === 0 || entries.includes(null)) return readChosen(dropped.files);
+  const items = [...dropped.items].filter((item) => item.kind === 'file');
+  const held = items.map((/** @type {any} */ item) => {
+    const entry = item.webkitGetAsEntry?.() ?? null;
+    return { file: item.getAsFile(), entry, handle: entry?.isDirectory ? item.getAsFileSystemHandle?.() : null };
+  });
   /** @type {Given[]} */
   const found = [];
-  for (const entry of entries) await walk(/** @type {any} */ (entry), '', found);
+  for (const { file, entry, handle } of held) {
+    if (!entry?.isDirectory) found.push(await readFile(file, file.name));
+    else if (handle) await walkHandle(await handle, '', found);
+    else await walkEntry(entry, '', found);
+  }
   return found;
 }
 
 /**
- * @param {any} entry
- * @param {string} path the folders on the way, without the one that was dropped
+ * The files of a folder by its handle, which Chromium gives to a page that was opened from disk; of an entry it reads nothing there.
+ * @param {any} folder
+ * @param {string} path
  * @param {Given[]} found
  */
-async function walk(entry, path, found) {
-  if (found.length >= MOST_FILES) return;
-  if (entry.isFile) {
-    const file = await new Promise((done, failed) => entry.file(done, failed));
-    found.push(await readFile(file, path + entry.name));
-    return;
+async function walkHandle(folder, path, found) {
+  for await (const one of folder.values()) {
+    if (found.length >= MOST_FILES) return;
+    if (one.kind === 'file') found.push(await readFile(await one.getFile(), path + one.name));
+    else await walkHandle(one, `${path}${one.name}/`, found);
   }
-  const inside = entry.fullPath.split('/').length > 2 ? `${path}${entry.name}/` : path;
-  const reader = entry.createReader();
+}
+
+/**
+ * The same by its entry, where there are no handles.
+ * @param {any} folder
+ * @param {string} path
+ * @param {Given[]} found
+ */
+async function walkEntry(folder, path, found) {
+  const reader = folder.createReader();
   for (;;) {
     const some = await new Promise((done, failed) => reader.readEntries(done, failed));
-    if (some.length === 0) return;
-    for (const one of some) await walk(one, inside, found);
+    if (some.length === 0 || found.length >= MOST_FILES) return;
+    for (const one of some) {
+      if (one.isFile) found.push(await readFile(await new Promise((done, failed) => one.file(done, failed)), path + one.name));
+      else await walkEntry(one, `${path}${one.name}/`, found);
+    }
   }
 }
 

@@ -70,6 +70,7 @@ function packed(fields) {
 function exchange(request) {
   const { input, ask: answer, output, memory } = engine.exports;
   const room = input(request.length) >>> 0;
+  if (room === 0) throw new Error('there is no room for so much');
   new Uint8Array(memory.buffer).set(request, room);
   const length = answer(request.length) >>> 0;
   const from = output() >>> 0;

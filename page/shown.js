@@ -13,7 +13,7 @@ function showFile(file, kind, says) {
   const what = make('p', { class: 'what' }, kindWords(kind), says ? `: ${says}` : '');
   const body = make('div', {});
   put(place, head, what, body);
-  const show = { trace: showTrace, 'old trace': showOldTrace, script: showScript, capture: showCapture, sheet: offerSheet, 'sheet text': offerSheet }[kind];
+  const show = { trace: showTrace, 'old trace': showTrace, script: showScript, capture: showCapture, sheet: offerSheet, 'sheet text': offerSheet }[kind];
   show?.(body, file);
   return place;
 }
@@ -33,9 +33,8 @@ function kindWords(kind) {
 function showTrace(body, file) {
   const story = make('div', {});
   const picture = makePicture(`Picture of ${file.name}`);
-  put(body);
   const script = ask('script', file.bytes);
-  if (!script.ok) return put(body, make('p', { class: 'bad', role: 'status' }, textOf(script)));
+  if (!script.ok) return showRefusedTrace(body, file, textOf(script));
   const told = drawTrace(picture, file.bytes, file.name);
   put(
     body,
@@ -74,16 +73,15 @@ function toBench(script, name) {
 }
 
 /**
+ * A trace that is refused. One from before the kind of part is converted, if that is wanted: which part it was of, nobody guesses.
  * @param {HTMLElement} body
  * @param {Given} file
+ * @param {string} why
  */
-function showOldTrace(body, file) {
-  const convert = () => {
-    const answer = ask('convert', file.bytes);
-    if (!answer.ok) return put(body, make('p', { class: 'bad', role: 'status' }, textOf(answer)));
-    showTrace(body, { name: file.name, bytes: answer.fields[0] });
-  };
-  put(body, make('p', {}, 'It names no part. Converted, it names the PCA9641, the only part there was then.'), button('Convert it', convert));
+function showRefusedTrace(body, file, why) {
+  const converted = ask('convert', file.bytes);
+  put(body, make('p', { class: 'bad', role: 'status' }, why));
+  if (converted.ok) body.append(button('Convert it to a trace of a PCA9641', () => showTrace(body, { name: file.name, bytes: converted.fields[0] })));
 }
 
 /**

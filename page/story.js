@@ -4,7 +4,7 @@
 /** @typedef {{head: string[], rows: Row[], end: string[]}} Story */
 
 /** So many rows stand in the page at once. */
-const ROWS_SHOWN = 60;
+const ROWS_SHOWN = 40;
 
 /** @type {WeakMap<HTMLElement, {story: Story, first: number, go: (event: number) => void}>} */
 const stories = new WeakMap();

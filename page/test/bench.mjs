@@ -42,8 +42,11 @@ export const tests = {
     assert.equal(await tab.see("document.querySelector('#story tr.now') !== null"), true);
     await tab.key('Home');
     assert.match(await tab.text('at-said'), /event 0 of 320/);
-    const listing = text('traces/box14-rt50.listing').trim();
-    assert.equal((await tab.text('answers')).trim(), listing);
+    const [head, ...listed] = text('traces/box14-rt50.listing').trim().split('\n');
+    const shown = await tab.see("[...document.querySelectorAll('#answers span')].map((one) => one.textContent)");
+    assert.deepEqual(shown, [head, ...listed.slice(0, 96)]);
+    await tab.press('[data-save="listing"]');
+    assert.equal((await tab.saved('box14-rt00.listing')).toString(), text('traces/box14-rt50.listing'));
   },
 
   'bench: a wrong word is told at its line while typing, and is gone when mended': async (open) => {
@@ -101,7 +104,7 @@ export const tests = {
     assert.equal(await told(tab), '');
     assert.equal(await tab.see("document.getElementById('at').max"), '4096');
     await tab.write('script', `${HEAD}tick 4000\ntick 96\nstop 0\n`);
-    assert.match(await told(tab), /4096/);
+    assert.match(await told(tab), /line 5: refusal 6: there are more than 4,096 events/);
     assert.equal(await tab.see('editor.wrong'), 5);
   },
 

@@ -32,7 +32,7 @@ export const tests = {
     await tab.choose('field-files', [at('traces/recovery.trace'), file('old.trace', bytes('crates/convert/stdin')), at('traces/refused-cut.trace'), at('traces/refused-strap.trace')]);
     await tab.until("document.querySelectorAll('.file').length === 4");
     assert.equal(await tab.see("document.querySelectorAll('.file .picture').length"), 1);
-    await tab.see("[...document.querySelectorAll('.file button')].find((one) => one.textContent === 'Convert it').click()");
+    await tab.see("[...document.querySelectorAll('.file button')].find((one) => one.textContent.startsWith('Convert it')).click()");
     assert.equal(await tab.see("document.querySelectorAll('.file .picture').length"), 2);
     assert.match(await tab.see("document.querySelectorAll('.file')[0].textContent"), /controller 1/);
   },
