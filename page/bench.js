@@ -61,7 +61,7 @@ function drawBench() {
   byId('at').max = String(events);
   const told = drawTrace(byId('bench-picture'), trace, bench.name);
   put(byId('bench-told'), ...told.split('\n').filter(Boolean).map((words) => make('li', {}, words)));
-  showStory(byId('story'), trace, (event) => goTo(event, true));
+  showStory(byId('story'), trace, (event) => goTo(event, true), Math.min(bench.at, events));
   showAnswers(trace);
   goTo(Math.min(bench.at, events), false);
 }
@@ -82,11 +82,21 @@ function goTo(event, seen = true) {
   slider.setAttribute('aria-valuetext', `${words}; ${state.stands}`);
   put(byId('at-said'), make('b', { class: state.refused ? 'refused' : null }, words), ` ${[state.stands, ...state.changed].filter(Boolean).join('; ')}`);
   showState(byId('state'), state, event > 0 ? stateAt(bench.trace, event - 1) : null);
-  markLines({ now: event > 0 ? bench.lines[event - 1] : 0 });
-  if (seen) showLine(editor.now);
-  markStory(byId('story'), event);
   markPicture(byId('bench-picture'), event);
-  markAnswers(event);
+  markLines({ now: event > 0 ? bench.lines[event - 1] : 0 });
+  if (seen) followHand();
+  else followEvent();
+}
+
+/** What follows the slider at the next frame, once however often it moved: the line of the script, the row of the story, the answer. */
+const followHand = onceAFrame(() => {
+  showLine(editor.now);
+  followEvent();
+});
+
+function followEvent() {
+  markStory(byId('story'), bench.at);
+  markAnswers(bench.at);
 }
 
 /**

@@ -86,6 +86,23 @@ function save(name, data, type) {
 }
 
 /**
+ * Does something at the next frame, once.
+ * @param {() => void} what
+ * @returns {() => void}
+ */
+function onceAFrame(what) {
+  let waiting = false;
+  return () => {
+    if (waiting) return;
+    waiting = true;
+    requestAnimationFrame(() => {
+      waiting = false;
+      what();
+    });
+  };
+}
+
+/**
  * Does something once the hand has rested so long.
  * @param {number} milliseconds
  * @param {() => void} what

@@ -75,20 +75,25 @@ function showOrder(answer) {
   showOrdered(order?.boxes ?? []);
   const waits = order?.waits ?? [];
   if (waits.length === 0) return put(byId('waits'));
-  const row = (/** @type {any} */ wait) => [
-    `Controller ${wait.controller}`,
-    wait.words,
-    wait.ticks.map((/** @type {string[]} */ [part, ticks]) => `${part}: ${ticks}`).join(', '),
-    make('ul', {}, ...wait.statements.map((/** @type {any} */ { name, says }) => make('li', {}, make('code', {}, name), `: ${says}`))),
-  ];
-  const caption = 'How long each can wait for the bus after the start, at every handover';
   put(
     byId('waits'),
-    make('h3', {}, 'The promised waits'),
+    make('h3', {}, 'How long each can wait for the bus after the start, at every handover'),
     ...order.warnings.map((/** @type {string} */ words) => make('p', { class: 'warning' }, words)),
-    make('div', { class: 'scroll', role: 'region', 'aria-label': caption, tabindex: '0' }, table(caption, ['Who waits', 'What is promised', 'Ticks', 'Proved by'], waits.map(row))),
+    make('div', { class: 'waits' }, ...waits.map(showWait)),
     order.holds ? make('p', {}, order.holds) : null,
+    ...[order.lasting ?? []].flat().map((/** @type {string} */ words) => make('p', {}, words)),
   );
+}
+
+/**
+ * A promised wait, and the statements that prove it.
+ * @param {{words: string, ticks: string[][], statements: {name: string, says: string}[]}} wait
+ * @returns {HTMLElement}
+ */
+function showWait({ words, ticks, statements }) {
+  const proved = statements.map(({ name, says }) => make('li', {}, make('code', {}, name), `: ${says}`));
+  const figures = ticks.map(([part, figure]) => `${part}: ${figure}`).join(', ');
+  return make('section', { class: 'wait' }, make('h4', {}, words), make('p', {}, `In ticks of 1 ms: ${figures}. Proved by:`), make('ul', {}, ...proved));
 }
 
 /** What the bundle has besides the sheets. */

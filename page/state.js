@@ -17,6 +17,10 @@
  * @property {string[][]} shared name and value
  */
 
+/** States that were asked for, of one trace. */
+/** @type {{trace: Uint8Array | null, known: Map<number, State>}} */
+const lastStates = { trace: null, known: new Map() };
+
 /**
  * The state after so many events; null if the module refuses.
  * @param {Uint8Array} trace
@@ -24,8 +28,14 @@
  * @returns {State | null}
  */
 function stateAt(trace, event) {
+  if (lastStates.trace !== trace) Object.assign(lastStates, { trace, known: new Map() });
+  const known = lastStates.known.get(event);
+  if (known) return known;
   const answer = ask('state', trace, String(event));
-  return answer.ok ? jsonOf(answer) : null;
+  if (!answer.ok) return null;
+  if (lastStates.known.size > 100) lastStates.known.clear();
+  lastStates.known.set(event, jsonOf(answer));
+  return lastStates.known.get(event) ?? null;
 }
 
 /**

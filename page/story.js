@@ -1,31 +1,40 @@
 // The story of a run, a row an event; ticks in which nothing changes share one. Of a long story a part is shown, around the event that one looks at.
 
 /** @typedef {{from: number, to: number, tick: number, came: string, outcome: string, refused: boolean, after: string, more: string}} Row */
-/** @typedef {{head: string[], rows: Row[], end: string[]}} Story */
+/** @typedef {{head: string[], rows: Row[], end: string[], first: number, count: number}} Story `first` rows stand before those that are there, of `count` */
 
 /** So many rows stand in the page at once. */
 const ROWS_SHOWN = 40;
 
-/** @type {WeakMap<HTMLElement, {story: Story, first: number, go: (event: number) => void}>} */
+/** @type {WeakMap<HTMLElement, {trace: Uint8Array, story: Story, go: (event: number) => void}>} */
 const stories = new WeakMap();
 
 /**
- * Shows the story of a trace. `go` is called with the event of a row that is pressed.
+ * Shows the story of a trace, from the row on that was the first before. `go` is called with the event of a row that is pressed.
  * @param {HTMLElement} place
  * @param {Uint8Array} trace
  * @param {(event: number) => void} go
+ * @param {number} [event] whose row is to be among those that are shown
  */
-function showStory(place, trace, go) {
-  const answer = ask('story', trace);
+function showStory(place, trace, go, event) {
+  askStory(place, trace, go, stories.get(place)?.story.first ?? 0, event);
+}
+
+/**
+ * @param {HTMLElement} place
+ * @param {Uint8Array} trace
+ * @param {(event: number) => void} go
+ * @param {number} first
+ * @param {number} [event]
+ */
+function askStory(place, trace, go, first, event) {
+  const answer = ask('story', trace, '', String(Math.max(0, first)), String(ROWS_SHOWN), event ? String(event) : '');
   if (!answer.ok) {
     put(place, make('p', { class: 'told' }, textOf(answer)));
     stories.delete(place);
     return;
   }
-  const first = stories.get(place)?.first ?? 0;
-  /** @type {Story} */
-  const story = jsonOf(answer);
-  stories.set(place, { story, first: first < story.rows.length ? first : 0, go });
+  stories.set(place, { trace, story: jsonOf(answer), go });
   drawStory(place);
 }
 
@@ -33,30 +42,20 @@ function showStory(place, trace, go) {
 function drawStory(place) {
   const shown = stories.get(place);
   if (!shown) return;
-  const { story, first } = shown;
-  const last = Math.min(first + ROWS_SHOWN, story.rows.length);
-  const lines = story.rows.slice(first, last).map((row) => storyRow(row, shown.go));
+  const { trace, story, go } = shown;
+  const { first, count } = story;
+  const last = first + story.rows.length;
   const heads = ['Event', 'Tick', 'What came', 'What was answered, and who has the bus then'];
   const head = make('tr', {}, ...heads.map((words) => make('th', { scope: 'col' }, words)));
+  const turn = (/** @type {string} */ words, /** @type {number} */ to) => button(words, () => askStory(place, trace, go, to));
   put(
     place,
     ...story.head.map((words) => make('p', {}, words)),
-    first > 0 ? button(`Rows before these (${first})`, () => turnStory(place, first - ROWS_SHOWN)) : null,
-    make('table', { class: 'story' }, make('thead', {}, head), make('tbody', {}, ...lines)),
-    last < story.rows.length ? button(`Rows after these (${story.rows.length - last})`, () => turnStory(place, last)) : null,
+    first > 0 ? turn(`Rows before these (${first})`, first - ROWS_SHOWN) : null,
+    make('table', { class: 'story' }, make('thead', {}, head), make('tbody', {}, ...story.rows.map((row) => storyRow(row, go)))),
+    last < count ? turn(`Rows after these (${count - last})`, last) : null,
     make('ul', { class: 'end' }, ...story.end.map((words) => make('li', {}, words))),
   );
-}
-
-/**
- * @param {HTMLElement} place
- * @param {number} first
- */
-function turnStory(place, first) {
-  const shown = stories.get(place);
-  if (!shown) return;
-  shown.first = Math.max(0, first);
-  drawStory(place);
 }
 
 /**
@@ -86,8 +85,9 @@ function storyRow(row, go) {
 function markStory(place, event) {
   const shown = stories.get(place);
   if (!shown) return;
-  const at = shown.story.rows.findIndex((row) => row.from <= event && event <= row.to);
-  if (at >= 0 && (at < shown.first || at >= shown.first + ROWS_SHOWN)) turnStory(place, at - ROWS_SHOWN / 2);
+  const { rows, first } = shown.story;
+  const inside = event === 0 || (rows.length > 0 && rows[0].from <= event && event <= rows[rows.length - 1].to);
+  if (!inside) askStory(place, shown.trace, shown.go, first, event);
   for (const row of place.querySelectorAll('tr[data-from]')) {
     const { from, to } = /** @type {HTMLElement} */ (row).dataset;
     row.classList.toggle('now', Number(from) <= event && event <= Number(to));

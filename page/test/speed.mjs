@@ -70,8 +70,9 @@ export const tests = {
     await tab.write('script', scripts.transfers);
     const spent = await mainThread(tab);
     const before = spent?.() ?? 0;
-    const times = await tab.see(`(() => { const all = []; const slider = document.getElementById('at');
-      for (let event = 0; event <= 4096; event += 37) { slider.value = String(event); const from = performance.now(); slider.dispatchEvent(new Event('input')); document.body.offsetHeight; all.push(performance.now() - from); }
+    const times = await tab.see(`(async () => { const all = []; const slider = document.getElementById('at');
+      for (let event = 0; event <= 4096; event += 64) { slider.value = String(event); const from = performance.now(); slider.dispatchEvent(new Event('input'));
+        await new Promise((done) => requestAnimationFrame(() => setTimeout(done))); all.push(performance.now() - from); }
       return all; })()`);
     const processor = ((spent?.() ?? 0) - before) / times.length;
     const said = `a step ${middle(times).toFixed(1)} ms, of the processor ${processor.toFixed(1)} ms`;
