@@ -28,17 +28,20 @@ async function start() {
   keepPage();
   try {
     await startModule();
+    byId('main').hidden = false;
     startUses();
   } catch (why) {
+    byId('main').hidden = true;
     const line = byId('stopped');
     line.textContent = `Nothing can be judged here: ${why instanceof Error ? why.message : why}. Every answer of this page comes from its WebAssembly module; a current Chromium or Firefox runs it.`;
     line.hidden = false;
-    byId('main').hidden = true;
+    byId('starting').hidden = true;
     document.querySelector('.tabs')?.setAttribute('hidden', '');
     return;
   }
   addEventListener('hashchange', followAddress);
   await followAddress();
+  byId('starting').hidden = true;
   document.documentElement.dataset.ready = 'yes';
 }
 
