@@ -54,24 +54,36 @@ function scriptChanged() {
   drawBench();
 }
 
+/** A run of more events is drawn a frame later, so that its state and story do not wait for the picture. */
+const LONG_RUN = 600;
+
 /** Shows the trace: what moves with the slider, and what does not. */
 function drawBench() {
   const trace = /** @type {Uint8Array} */ (bench.trace);
   const events = bench.lines.length;
   byId('at').max = String(events);
-  const told = drawTrace(byId('bench-picture'), trace, bench.name);
-  put(byId('bench-told'), ...told.split('\n').filter(Boolean).map((words) => make('li', {}, words)));
-  showStory(byId('story'), trace, (event) => goTo(event, true), Math.min(bench.at, events));
+  if (events > LONG_RUN) drawNextFrame();
+  else drawPicture();
+  showStory(byId('story'), trace, goTo, Math.min(bench.at, events));
   showAnswers(trace);
-  goTo(Math.min(bench.at, events), false);
+  goTo(Math.min(bench.at, events));
+}
+
+const drawNextFrame = onceAFrame(() => setTimeout(drawPicture));
+
+/** Draws the run, and says what is told of it. */
+function drawPicture() {
+  if (!bench.trace) return;
+  const told = drawTrace(byId('bench-picture'), bench.trace, bench.name);
+  put(byId('bench-told'), ...told.split('\n').filter(Boolean).map((words) => make('li', {}, words)));
+  markPicture(byId('bench-picture'), bench.at);
 }
 
 /**
- * Looks at the state after an event.
+ * Looks at the state after an event. What is slower follows when the hand rests: what is new in it, its line, its row, its answer.
  * @param {number} event
- * @param {boolean} [seen] whether its line is brought into sight
  */
-function goTo(event, seen = true) {
+function goTo(event) {
   if (!bench.trace) return;
   const state = stateAt(bench.trace, event);
   if (!state) return;
@@ -81,23 +93,21 @@ function goTo(event, seen = true) {
   if (slider.value !== String(event)) slider.value = String(event);
   slider.setAttribute('aria-valuetext', `${words}; ${state.stands}`);
   put(byId('at-said'), make('b', { class: state.refused ? 'refused' : null }, words), ` ${[state.stands, ...state.changed].filter(Boolean).join('; ')}`);
-  showState(byId('state'), state, event > 0 ? stateAt(bench.trace, event - 1) : null);
+  showState(byId('state'), state, null);
   markPicture(byId('bench-picture'), event);
   markLines({ now: event > 0 ? bench.lines[event - 1] : 0 });
-  if (seen) followHand();
-  else followEvent();
+  followHand();
 }
 
-/** What follows the slider at the next frame, once however often it moved: the line of the script, the row of the story, the answer. */
-const followHand = onceAFrame(() => {
-  showLine(editor.now);
-  followEvent();
+const followHand = rested(80, () => {
+  const { trace, at } = bench;
+  if (!trace) return;
+  const state = stateAt(trace, at);
+  if (state && at > 0) showState(byId('state'), state, stateAt(trace, at - 1));
+  if (document.activeElement !== byId('script')) showLine(editor.now);
+  markStory(byId('story'), at);
+  markAnswers(at);
 });
-
-function followEvent() {
-  markStory(byId('story'), bench.at);
-  markAnswers(bench.at);
-}
 
 /**
  * Shows box 14, if the script writes controller 0's reserve.
@@ -149,8 +159,12 @@ function openOnBench([file]) {
 async function copyLink() {
   await noteAddress();
   const done = await navigator.clipboard?.writeText(location.href).then(() => true, () => false);
-  say(done ? 'The link is copied' : 'The link stands in the address');
-  byId('copy-link').textContent = done ? 'The link is copied' : 'The link stands in the address';
+  const words = done ? 'The link is copied' : 'The link stands in the address';
+  const press = byId('copy-link');
+  const before = press.textContent;
+  say(words);
+  press.textContent = words;
+  setTimeout(() => (press.textContent = before), 3000);
 }
 
 function startBench() {

@@ -3,6 +3,8 @@
 /** @type {{step: number, reserve: number}} */
 const learn = { step: 0, reserve: 0 };
 
+const sayStep = rested(500, () => say(byId('learn-told').textContent));
+
 /** @param {number} step */
 function showStep(step) {
   learn.step = step;
@@ -74,6 +76,7 @@ function startLearn() {
   byId('learn-range').addEventListener('input', () => {
     learn.reserve = Number(byId('learn-range').value);
     drawStep();
+    sayStep();
   });
   whenShown.learn = () => {
     if (byId('questions').childElementCount) return;

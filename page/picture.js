@@ -54,7 +54,7 @@ function drawTrace(host, trace, title) {
   const answer = ask('sketch', trace, title);
   const told = answer.ok ? textOf(answer, 1) : textOf(answer);
   const drawn = showPicture(host, answer.ok ? textOf(answer, 0) : '', told.replaceAll('\n', '; '), textOf(answer, 3));
-  const places = answer.ok ? jsonOf(answer, 2) : null;
+  const places = answer.ok ? placesOf(jsonOf(answer, 2)) : null;
   pictures.delete(host);
   if (drawn && places) {
     const line = document.createElementNS('http://www.w3.org/2000/svg', 'line');
@@ -63,6 +63,16 @@ function drawTrace(host, trace, title) {
     pictures.set(host, { places, line });
   }
   return told;
+}
+
+/**
+ * The places of the events in a picture: x, top and foot. They may come as tenths, which are whole numbers.
+ * @param {number[][] | {tenths: number[][]} | null} places
+ * @returns {number[][] | null}
+ */
+function placesOf(places) {
+  if (places === null || Array.isArray(places)) return places;
+  return places.tenths.map((place) => place && place.map((number) => number / 10));
 }
 
 /**

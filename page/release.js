@@ -102,7 +102,7 @@ function showOthers() {
     release.others = release.others.filter((one) => one !== file);
     judge();
   };
-  const lines = release.others.map((file) => make('li', {}, `${file.name} `, button('Take it out', remove(file))));
+  const lines = release.others.map((file) => make('li', {}, `${file.name} `, button(`Take ${file.name} out`, remove(file))));
   const damaged = /** @type {const} */ (['board', 'house']).filter((which) => release[which].damaged).map((which) => make('li', { class: 'bad' }, `The ${which} sheet: ${release[which].told} `, button('Fill it in by hand', () => {
     release[which] = emptySheet();
     judge();

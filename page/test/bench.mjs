@@ -39,9 +39,10 @@ export const tests = {
     assert.match(await shared(tab, 'owner'), /controller 1/);
     assert.match(await tab.see("document.getElementById('at').getAttribute('aria-valuetext')"), /controller 1 owns the bus/);
     assert.equal(await tab.see("document.querySelectorAll('#state table')[0].tBodies[0].rows.length"), 8);
-    assert.equal(await tab.see("document.querySelector('#story tr.now') !== null"), true);
+    await tab.until("document.querySelector('#story tr.now')?.dataset.from === '64' && document.querySelector('#answers .now')");
     await tab.key('Home');
     assert.match(await tab.text('at-said'), /event 0 of 320/);
+    await tab.until("document.querySelector('#answers .now') === null");
     const [head, ...listed] = text('traces/box14-rt50.listing').trim().split('\n');
     const shown = await tab.see("[...document.querySelectorAll('#answers span')].map((one) => one.textContent)");
     assert.deepEqual(shown, [head, ...listed.slice(0, 96)]);
@@ -90,7 +91,7 @@ export const tests = {
     const tab = await open('bench');
     const script = `${HEAD}# Grüße, 50 %\ncommand 0 03\nwrite 0 50ms\nstop 0\n`;
     await tab.write('script', script);
-    await tab.until("location.hash.length > 20 && location.hash === address.noted");
+    await tab.until("location.hash === '#bench=' + window.packed", 30, `packScript(${JSON.stringify(script)}).then((words) => (window.packed = words))`);
     const hash = await tab.see('location.hash.slice(1)');
     const other = await open(hash);
     assert.equal(await other.see("document.getElementById('script').value"), script);

@@ -57,7 +57,8 @@ export class Tab {
   }
 
   /** Waits until an expression is true. */
-  async until(expression, seconds = 20) {
+  async until(expression, seconds = 20, before = '0') {
+    await this.see(before);
     const end = Date.now() + 1000 * seconds;
     while (!(await this.see(`Boolean(${expression})`))) {
       if (Date.now() > end) throw new Error(`not within ${seconds} s: ${expression}`);
