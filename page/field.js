@@ -8,7 +8,7 @@ function takeField(files) {
   const seen = files.map((file) => ({ file, ...whatIs(file) }));
   field.files = [...seen, ...field.files.filter((old) => !seen.some((one) => one.file.name === old.file.name))];
   drawField(seen.length);
-  const words = seen.map(({ file, kind, says }) => `${file.name}: ${kind}${says ? `, ${says}` : ''}`);
+  const words = seen.map(({ file, kind, says }) => `${file.name}: ${KINDS[kind] ?? (says || UNKNOWN)}`);
   say(words.join('; '));
 }
 

@@ -48,7 +48,7 @@ const STEPS = [
   {
     title: 'The box is filled in',
     text: [
-      'Now move the slider from 0 to 50. One byte is another, and the waiting ends: at the 50th tick the reserve has run out, and controller 1 owns the bus in that very event.',
+      'The box says 50. One byte is another, and the waiting ends: at the 50th tick the reserve has run out, and controller 1 owns the bus in that very event. Move the slider to 0 and back to see both.',
       'That is proved of every run, not of this one alone: by its sheets a controller waits at most the other\'s reserve and one tick.',
     ],
     script: TAKES + STALLS + ASKS + WAITS,

@@ -1,5 +1,13 @@
 // One file from the field, by what it is: told, drawn, and handed on to where more is done with it.
 
+/** What can be done something with here; of all else the tool's own words are shown. */
+/** @type {Record<string, string>} */
+const KINDS = {
+  trace: 'a trace', 'old trace': 'a trace from before the kind of part', script: 'a script', capture: 'a capture of both upstream buses', sheet: 'an order sheet',
+  'sheet text': 'the text of an order sheet', shelf: 'a shelf file', 'shelf script': 'a script for a shelf',
+};
+const UNKNOWN = 'nothing that is read here, neither trace nor script, sheet, shelf or capture';
+
 /**
  * What is shown of a file.
  * @param {Given} file
@@ -10,20 +18,12 @@
 function showFile(file, kind, says) {
   const place = make('section', { class: 'file', 'aria-label': file.name });
   const head = make('h3', {}, file.name);
-  const what = make('p', { class: 'what' }, kindWords(kind), says ? `: ${says}` : '');
+  const what = make('p', { class: 'what' }, `Seen from its bytes: ${KINDS[kind] ?? (says || UNKNOWN)}.`);
   const body = make('div', {});
   put(place, head, what, body);
   const show = { trace: showTrace, 'old trace': showTrace, script: showScript, capture: showCapture, sheet: offerSheet, 'sheet text': offerSheet }[kind];
   show?.(body, file);
   return place;
-}
-
-/**
- * @param {string} kind
- * @returns {string}
- */
-function kindWords(kind) {
-  return kind === 'unknown' ? 'Nothing that is read here' : kind === 'empty' ? 'An empty file' : `Seen from its bytes: ${kind}`;
 }
 
 /**
