@@ -54,7 +54,7 @@ function scriptChanged() {
   drawBench();
 }
 
-/** A run of more events is drawn a frame later, so that its state and story do not wait for the picture. */
+/** Of a run of more events story and picture follow a frame later, so that the key and the state do not wait for them. */
 const LONG_RUN = 600;
 
 /** Shows the trace: what moves with the slider, and what does not. */
@@ -62,18 +62,19 @@ function drawBench() {
   const trace = /** @type {Uint8Array} */ (bench.trace);
   const events = bench.lines.length;
   byId('at').max = String(events);
+  bench.at = Math.min(bench.at, events);
   if (events > LONG_RUN) drawNextFrame();
-  else drawPicture();
-  showStory(byId('story'), trace, goTo, Math.min(bench.at, events));
+  else drawRun();
   showAnswers(trace);
-  goTo(Math.min(bench.at, events));
+  goTo(bench.at);
 }
 
-const drawNextFrame = onceAFrame(() => setTimeout(drawPicture));
+const drawNextFrame = onceAFrame(() => setTimeout(drawRun));
 
-/** Draws the run, and says what is told of it. */
-function drawPicture() {
+/** Draws the run, and tells it. */
+function drawRun() {
   if (!bench.trace) return;
+  showStory(byId('story'), bench.trace, goTo, bench.at);
   const told = drawTrace(byId('bench-picture'), bench.trace, bench.name);
   put(byId('bench-told'), ...told.split('\n').filter(Boolean).map((words) => make('li', {}, words)));
   markPicture(byId('bench-picture'), bench.at);

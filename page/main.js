@@ -19,6 +19,19 @@ function startUses() {
   toScript(FIRST_SAMPLE);
 }
 
+/**
+ * Asks what a key asks, in idle moments: the browser compiles a module's functions well only once they were called often.
+ * @param {number} rounds
+ */
+function warmUp(rounds) {
+  if (rounds === 0 || !('requestIdleCallback' in window)) return;
+  requestIdleCallback(() => {
+    const trace = ask('compose', filesOf(FIRST_SAMPLE)[0].bytes).fields[0];
+    for (const name of ['sketch', 'story', 'state', 'listing']) ask(name, trace, name === 'state' ? '1' : '');
+    warmUp(rounds - 1);
+  });
+}
+
 /** A file that misses its place is not opened by the browser in the place of this page. */
 function keepPage() {
   for (const kind of ['dragover', 'drop']) addEventListener(kind, (event) => event.preventDefault());
@@ -43,6 +56,7 @@ async function start() {
   await followAddress();
   byId('starting').hidden = true;
   document.documentElement.dataset.ready = 'yes';
+  warmUp(40);
 }
 
 start();

@@ -4,7 +4,7 @@
 /** @typedef {{head: string[], rows: Row[], end: string[], first: number, count: number}} Story `first` rows stand before those that are there, of `count` */
 
 /** So many rows stand in the page at once. */
-const ROWS_SHOWN = 40;
+const ROWS_SHOWN = 24;
 
 /** @type {WeakMap<HTMLElement, {trace: Uint8Array, story: Story, go: (event: number) => void}>} */
 const stories = new WeakMap();

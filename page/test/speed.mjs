@@ -29,38 +29,45 @@ async function mainThread(tab) {
   return own === undefined ? null : () => spent(own);
 }
 
-/** In the page: from the key until what it changed is drawn. */
-const WATCH = `(() => { const area = document.getElementById('script'); window.keys = [];
-  area.addEventListener('keydown', () => { const from = performance.now();
-    requestAnimationFrame(() => { const drawn = new MessageChannel(); drawn.port1.onmessage = () => window.keys.push(performance.now() - from); drawn.port2.postMessage(0); }); }); })()`;
+/** In the page: the next key. `told` is kept when the state is drawn, at the next frame, `picture` when the story and the picture of a long run are, at the one after. */
+const NEXT_KEY = `(() => { const area = document.getElementById('script');
+  const frame = (then) => requestAnimationFrame(() => { const drawn = new MessageChannel(); drawn.port1.onmessage = then; drawn.port2.postMessage(0); });
+  const since = (done) => () => done(performance.now() - window.pressed);
+  area.addEventListener('keydown', () => (window.pressed = performance.now()), { once: true });
+  window.told = new Promise((done) => area.addEventListener('input', () => frame(since(done)), { once: true }));
+  window.picture = window.told.then(() => new Promise((done) => frame(since(done)))); })()`;
 
+/** Types the last of the four pins anew, so that the whole trace is another: the hand's times, and the processor's. */
 async function typeKeys(tab, script) {
-  await tab.write('script', `${script}# `);
-  await tab.see("(() => { const area = document.getElementById('script'); area.focus(); area.setSelectionRange(area.value.length, area.value.length); window.keys = []; })()");
+  await tab.write('script', script);
   const spent = await mainThread(tab);
-  const processor = [];
+  const all = [];
   for (let key = 0; key < KEYS; key += 1) {
+    const last = script.indexOf('\n');
+    await tab.see(`(() => { const area = document.getElementById('script'); area.focus(); area.setSelectionRange(${last - 1}, ${last}); })()`);
     // The address is noted when the hand rests, which is not the key's own work.
-    await new Promise((done) => setTimeout(done, 700));
-    const before = spent?.();
-    await tab.key('x');
-    await tab.until(`window.keys.length > ${key}`);
-    if (spent) processor.push(spent() - before);
+    await new Promise((done) => setTimeout(done, 900));
+    await tab.see(NEXT_KEY);
+    const before = spent?.() ?? 0;
+    const since = () => (spent ? spent() - before : null);
+    const drawn = ['told', 'picture'].map((what) => tab.see(`window.${what}`).then((hand) => ({ hand, processor: since() })));
+    await tab.key(key % 2 ? '1' : '0');
+    const [told, picture] = await Promise.all(drawn);
+    all.push({ told: told.hand, picture: picture.hand, processor: told.processor, both: picture.processor });
   }
-  return { hand: (await tab.see('window.keys')).slice(2), processor: processor.slice(2) };
+  return all.slice(2);
 }
 
 export const tests = {
-  'speed: 4,096 events are drawn anew within 50 ms of a key': async (open) => {
+  'speed: 4,096 events: the state within 50 ms of a key, story and picture a frame later': async (open) => {
     const tab = await open('bench');
-    await tab.see(WATCH);
     const said = [];
     for (const [name, script] of Object.entries(scripts)) {
-      const { hand, processor } = await typeKeys(tab, script);
+      const all = await typeKeys(tab, script);
       assert.equal(await tab.see("document.getElementById('at').max"), '4096', name);
-      const [judged, figure] = processor.length ? [middle(processor), `${middle(processor).toFixed(0)} ms of the processor, `] : [Math.min(...hand), ''];
-      said.push(`${name} ${figure}${Math.min(...hand).toFixed(0)} to ${Math.max(...hand).toFixed(0)} ms to the hand`);
-      assert.ok(judged < MOST, said.join('; '));
+      const [told, picture, processor, both] = ['told', 'picture', 'processor', 'both'].map((what) => middle(all.map((one) => one[what])));
+      said.push(`${name} ${told.toFixed(0)} ms, with the picture ${picture.toFixed(0)}` + (processor === null ? '' : `; of the processor ${processor.toFixed(0)} ms, with the picture ${both.toFixed(0)}`));
+      assert.ok((processor ?? told) < MOST, said.join('; '));
     }
     return said.join('; ');
   },
@@ -68,6 +75,7 @@ export const tests = {
   'speed: the slider follows the hand': async (open) => {
     const tab = await open('bench');
     await tab.write('script', scripts.transfers);
+    await new Promise((done) => setTimeout(done, 2000));
     const spent = await mainThread(tab);
     const before = spent?.() ?? 0;
     const times = await tab.see(`(async () => { const all = []; const slider = document.getElementById('at');
