@@ -38,6 +38,8 @@
 //! - `shelves`, `shelf_sights`: random shelves and runs on them, and what is seen in them.
 //! - `shares`: random totals and traces to add, and what is seen in them.
 //! - `advances`: random devices to advance, and what is seen when they are.
+//! - `wire`: both upstream buses line by line: a chip played on them, right or not, captures of it, and
+//!   a listener (`wire::listen`).
 //! - `stored`: the traces that the repository keeps as one set.
 //! - `stored_share`: the inputs of the bus share report that it keeps.
 
@@ -87,6 +89,7 @@ pub mod traces;
 pub mod wait_of;
 pub mod wait_sights;
 pub mod waits;
+pub mod wire;
 pub mod writer;
 
 pub use advance::{image_advance, Advanced};

@@ -1,0 +1,72 @@
+//! The captures of `wire` as sigrok's decoder of the I2C bus reads them, which is not ours: where
+//! sigrok-cli is installed, the STARTs, bytes and STOPs that it finds on each bus are those that were
+//! played, also those for other devices.
+
+use std::fs;
+use std::path::Path;
+use std::process::Command;
+
+use model::wire::play::play;
+use model::wire::random::{scene, Sort};
+use model::wire::stories::stories;
+use model::wire::{Flaw, Played, Sign};
+use model::Kind;
+
+/// What sigrok finds on a bus: a START or STOP at its sample, a byte at its ninth clock.
+fn found(file: &Path, bus: usize) -> Vec<(u64, Sign)> {
+    let (scl, sda) = (2 * bus, 2 * bus + 1);
+    let output = Command::new("sigrok-cli")
+        .args(["-I", "binary:numchannels=8:samplerate=1000000", "-i"])
+        .arg(file)
+        .args(["-P", &format!("i2c:scl={scl}:sda={sda}:address_format=unshifted")])
+        .args(["-A", "i2c=addr-data", "--protocol-decoder-samplenum"])
+        .output()
+        .unwrap();
+    assert!(output.status.success(), "{}", String::from_utf8_lossy(&output.stderr));
+    let mut signs = vec![];
+    let mut byte = None;
+    for line in String::from_utf8(output.stdout).unwrap().lines() {
+        let (place, words) = line.split_once(" i2c-1: ").expect(line);
+        let sample = place.split('-').next().unwrap().parse().expect(line);
+        match words {
+            "Start" | "Start repeat" => signs.push((sample, Sign::Start)),
+            "Stop" => signs.push((sample, Sign::Stop)),
+            "ACK" | "NACK" => signs.extend(byte.take().map(|byte| (sample, Sign::Byte(byte)))),
+            _ => byte = words.split_once(": ").map(|(_, hex)| u8::from_str_radix(hex, 16).unwrap()),
+        }
+    }
+    signs
+}
+
+/// The stories and some random captures, with reads apart and overlapping.
+fn captures() -> Vec<Played> {
+    let short = stories().into_iter().filter(|story| story.name != "hung");
+    let mut all: Vec<Played> =
+        short.map(|story| play(&story.scene(Kind::Pca9641, Flaw::None, 104))).collect();
+    for seed in 0..10 {
+        all.extend([Sort::Apart, Sort::Overlapping].map(|sort| play(&scene(sort, seed))));
+    }
+    all
+}
+
+#[test]
+fn sigrok_finds_what_was_played() {
+    if Command::new("sigrok-cli").arg("--version").output().is_err() {
+        return println!("skipped: sigrok-cli is not installed");
+    }
+    let folder = std::env::temp_dir().join(format!("gunwaleish-wire-{}", std::process::id()));
+    fs::create_dir_all(&folder).unwrap();
+    let file = folder.join("a.capture");
+    let (mut captures_read, mut signs) = (0, 0);
+    for played in captures() {
+        fs::write(&file, &played.samples).unwrap();
+        for bus in [0, 1] {
+            assert_eq!(found(&file, bus), played.signs[bus], "{:?} bus {bus}", played.setting);
+            signs += played.signs[bus].len();
+        }
+        captures_read += 1;
+    }
+    fs::remove_dir_all(&folder).unwrap();
+    println!("sigrok agrees on {signs} STARTs, bytes and STOPs of {captures_read} captures");
+    assert!(signs > 4000, "{signs}");
+}
