@@ -1,6 +1,7 @@
 //! The captures that the program `wire_captures` writes, each with its name and what is true of it.
 
 use super::chip::{flaws, Flaw};
+use super::lists::reread;
 use super::play::play;
 use super::random::{scene, Sort};
 use super::stories::{stories, Story};
@@ -56,7 +57,9 @@ fn erring(flaw: Flaw, seed: u64) -> Vec<Named> {
     BOTH_KINDS.map(shown).into_iter().collect()
 }
 
-/// One of each sort: right ones with reads apart and overlapping, noisy ones, and one cut anywhere.
+/// One of each sort: right ones with reads apart and overlapping, a noisy one, one whose milliseconds
+/// are its own, one cut anywhere, one with glitches, in which a right chip may be heard wrongly, and
+/// one of a chip that errs.
 fn random(seed: u64) -> Vec<Named> {
     let mut rng = Rng::new(seed);
     let apart = play(&scene(Sort::Apart, seed));
@@ -69,18 +72,19 @@ fn random(seed: u64) -> Vec<Named> {
         named(format!("random-{seed}"), apart),
         named(format!("overlapping-{seed}"), play(&scene(Sort::Overlapping, seed))),
         named(format!("noisy-{seed}"), play(&scene(Sort::Noisy, seed))),
+        named(format!("phased-{seed}"), play(&scene(Sort::Phased, seed))),
         named(format!("cut-{seed}"), cut),
+        named(format!("glitched-{seed}"), glitched(seed)),
         named(format!("random-{seed}-{}", flaw.name()), erring),
     ]
 }
 
 /// A capture with glitches, of which nobody meant what it says: it is read list by list.
-pub fn glitched(seed: u64) -> (Played, Vec<u8>) {
+pub fn glitched(seed: u64) -> Played {
     let mut rng = Rng::new(seed);
     let played = play(&scene(Sort::Apart, seed));
     let glitches = rng.between(1, 20) as usize;
-    let noisy = noise::glitched(&mut rng, &played.samples, glitches);
-    (played, noisy)
+    reread(played.setting, &noise::glitched(&mut rng, &played.samples, glitches))
 }
 
 /// What is true of a capture, a line a thing: the setting, each event, READ and fault, and the first
@@ -88,11 +92,12 @@ pub fn glitched(seed: u64) -> (Played, Vec<u8>) {
 pub fn truth(played: &Played) -> String {
     let setting = played.setting;
     let mut text = format!(
-        "address {:02X} part {} samples-per-tick {}\nchip {}\nsamples {}\n",
+        "address {:02X} part {} samples-per-tick {}\nchip {} phase {}\nsamples {}\n",
         setting.address,
         part(setting.kind).to_uppercase(),
         setting.samples_per_tick,
         played.flaw.name(),
+        played.phase,
         played.samples.len()
     );
     let mut reads = played.reads.iter();

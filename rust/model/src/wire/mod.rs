@@ -19,12 +19,14 @@
 //!   of the capture that comes of it.
 //! - `stories`, `random`, `noise`, `catalogue`: the captures there are, by hand and by seed.
 //! - `listen`: the listener, which has samples and nothing else.
+//! - `lists`: a second reader, which goes by the importer of #104, for samples that nobody meant.
 //! - `formats`: a capture as raw bytes, VCD and CSV.
 
 pub mod catalogue;
 pub mod chip;
 pub mod formats;
 pub mod listen;
+pub mod lists;
 pub mod moves;
 pub mod noise;
 pub mod plan;
@@ -95,6 +97,8 @@ impl ReadByte {
 pub struct Played {
     pub setting: Setting,
     pub flaw: Flaw,
+    /// So many samples after each TICK the chip's own millisecond ended.
+    pub phase: u64,
     pub samples: Vec<u8>,
     /// Each event with its sample, in the order in which they stand.
     pub events: Vec<(u64, [u8; 4])>,

@@ -2,9 +2,6 @@
 //! other devices, general calls, a bus that is held low. And damage to a capture that is there.
 
 use super::script::{Item, Script};
-use super::{Fault, Setting};
-use crate::capture::{bus_events, transfers};
-use crate::event::make::*;
 use crate::rng::Rng;
 
 /// Something that a capture would be refused for, or that says nothing.
@@ -55,54 +52,4 @@ pub fn glitched(rng: &mut Rng, samples: &[u8], glitches: usize) -> Vec<u8> {
         noisy[place..end].iter_mut().for_each(|sample| *sample ^= line);
     }
     noisy
-}
-
-/// The events of any samples, read list by list with the importer's parts (`capture`), and the lines
-/// and ticks beside them: a second reader for what nobody meant. And the conditions inside a byte.
-pub fn by_lists(setting: Setting, samples: &[u8]) -> (Vec<(u64, [u8; 4])>, Vec<Fault>) {
-    let buses = [transfers(samples, 0), transfers(samples, 1)];
-    let mut faults = vec![];
-    let mut upstream = vec![];
-    for (bus, found) in buses.iter().enumerate() {
-        upstream.extend(bus_events(found, bus as u8, setting.address));
-        let broken = found.iter().filter(|transfer| transfer.breaks_a_byte());
-        let ends = broken.filter_map(|transfer| transfer.end);
-        faults.extend(ends.map(|(sample, _)| Fault { sample: sample as u64, bus }));
-    }
-    faults.sort_by_key(|fault| (fault.sample, fault.bus));
-    let mut all: Vec<(u64, u8, [u8; 4])> = downstream(samples);
-    all.extend(upstream.iter().map(|(sample, event)| (*sample as u64, 1, *event)));
-    let ticks = (1..samples.len() as u64).filter(|at| at % setting.samples_per_tick == 0);
-    all.extend(ticks.map(|at| (at, 2, tick())));
-    // Master 0 was listed first, and a sort keeps what is equal in its order.
-    all.sort_by_key(|(sample, part, _)| (*sample, *part));
-    (paired(&all), faults)
-}
-
-/// LINES where one of the three lines changes, from three that are high.
-fn downstream(samples: &[u8]) -> Vec<(u64, u8, [u8; 4])> {
-    let levels = |sample: u8| [4, 5, 6].map(|place| sample >> place & 1);
-    let before = [super::LINES].into_iter().chain(samples.iter().copied());
-    let changes =
-        before.zip(samples).zip(0..).filter(|((was, is), _)| levels(*was) != levels(**is));
-    changes
-        .map(|((_, is), at)| {
-            let [scl, sda, int_in] = levels(*is);
-            (at, 0, lines(scl, sda, int_in))
-        })
-        .collect()
-}
-
-/// Two WRITEs of one sample as PAIR.
-fn paired(all: &[(u64, u8, [u8; 4])]) -> Vec<(u64, [u8; 4])> {
-    let mut events: Vec<(u64, [u8; 4])> = vec![];
-    for &(sample, _, event) in all {
-        match (events.last_mut(), event) {
-            (Some((at, before @ [1, 0, ..])), [1, 1, second, _]) if *at == sample => {
-                *before = pair(before[2], second);
-            }
-            _ => events.push((sample, event)),
-        }
-    }
-    events
 }

@@ -23,6 +23,8 @@ pub struct Scene {
     pub seed: u64,
     /// The samples after the last move.
     pub tail: u64,
+    /// So many samples after each TICK the chip's own millisecond ends. 0 is where the TICK is.
+    pub phase: u64,
 }
 
 /// One bus: its levels, for how long they last, and what comes then.
@@ -76,6 +78,7 @@ impl Stage {
         let made = Played {
             setting: scene.setting,
             flaw: scene.flaw,
+            phase: scene.phase,
             samples: vec![],
             events: vec![],
             reads: vec![],
@@ -117,7 +120,16 @@ impl Stage {
         if self.is_tick() {
             self.step(tick());
         }
+        self.late_tick();
         self.at += 1;
+    }
+
+    /// The chip's own millisecond ends, where that is not at the TICK.
+    fn late_tick(&mut self) {
+        let (phase, of_tick) = (self.scene.phase, self.scene.setting.samples_per_tick);
+        if phase > 0 && self.at > of_tick && self.at % of_tick == phase {
+            self.chip.step(tick());
+        }
     }
 
     /// The downstream lines: the world's, and low where the chip pulls. Under a lock they stay.
@@ -236,7 +248,9 @@ impl Stage {
 
     fn step(&mut self, event: [u8; 4]) {
         let expected = self.right.step(event)[1];
-        self.chip.step(event);
+        if event != tick() || self.scene.phase == 0 {
+            self.chip.step(event);
+        }
         self.made.events.push((self.at, event));
         if event[0] == 2 {
             let master = usize::from(event[1]);

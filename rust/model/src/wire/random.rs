@@ -18,6 +18,9 @@ pub enum Sort {
     Overlapping,
     /// As `Apart`, with what a bus may have on it besides.
     Noisy,
+    /// As `Apart`, but the chip's milliseconds are not the listener's. On a real bus nothing makes
+    /// them so: a right chip may be heard to answer by a tick that is still to come for it.
+    Phased,
 }
 
 /// A scene of this sort with a right chip.
@@ -48,7 +51,9 @@ pub fn scene(sort: Sort, seed: u64) -> Scene {
     };
     let world = world(&mut rng, setting);
     let tail = rng.below(2 * samples_per_tick);
+    let phase = if sort == Sort::Phased { rng.between(1, samples_per_tick - 1) } else { 0 };
     Scene {
+        phase,
         setting,
         flaw: Flaw::None,
         scripts,

@@ -29,6 +29,7 @@ impl Story {
             manner: Manner { slowest: 3, ..PLAIN },
             seed,
             tail: 10,
+            phase: 0,
         }
     }
 }
