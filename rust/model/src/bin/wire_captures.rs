@@ -2,6 +2,7 @@
 //! upstream buses with the lines around them into a folder, each as NAME.capture, one byte a sample,
 //! with NAME.truth, what is true of it. No file that is there is written over.
 
+use std::io::Write;
 use std::path::{Path, PathBuf};
 use std::process::exit;
 use std::{env, fs, io};
@@ -60,7 +61,9 @@ fn main() {
         let (played, first) = (&one.played, one.played.first_wrong());
         let wrong = first.map_or("none wrong".to_string(), |at| format!("first wrong at {at}"));
         let (samples, events) = (played.samples.len(), played.events.len());
-        println!(
+        // Whoever reads this may go away; the files are written all the same.
+        let _ = writeln!(
+            io::stdout(),
             "{}: {samples} samples, {events} events, {} READ, {wrong}",
             one.name,
             played.reads.len()

@@ -18,7 +18,8 @@ pub struct Named {
 /// ones of each sort, from this seed on.
 pub fn catalogue(seed: u64, count: u64) -> Vec<Named> {
     let mut all = right_stories(seed);
-    all.extend(flaws().into_iter().flat_map(|flaw| erring(flaw, seed)));
+    let stories = by_length(seed);
+    all.extend(flaws().into_iter().flat_map(|flaw| erring(flaw, &stories, seed)));
     all.extend((seed..seed + count).flat_map(random));
     all
 }
@@ -38,21 +39,23 @@ fn right_stories(seed: u64) -> Vec<Named> {
     stories().iter().flat_map(|story| BOTH_KINDS.map(|kind| played(story, kind))).collect()
 }
 
+/// The stories, the shortest capture first.
+fn by_length(seed: u64) -> Vec<Story> {
+    let mut all = stories();
+    let length = |story: &Story| play(&story.scene(Kind::Pca9641, Flaw::None, seed)).samples.len();
+    all.sort_by_cached_key(length);
+    all
+}
+
 /// A chip that errs, said to be of each kind, in the shortest story in which it shows. One that never
-/// shows is told in the story about registers.
-fn erring(flaw: Flaw, seed: u64) -> Vec<Named> {
+/// shows is told in the shortest of all.
+fn erring(flaw: Flaw, stories: &[Story], seed: u64) -> Vec<Named> {
     let shown = |kind: Kind| {
-        let mut all: Vec<(&str, Played)> = stories()
-            .iter()
-            .map(|story| (story.name, play(&story.scene(kind, flaw, seed))))
-            .collect();
-        all.sort_by_key(|(_, played)| (played.first_wrong().is_none(), played.samples.len()));
-        let shows = |(name, played): &(&str, Played)| {
-            played.first_wrong().is_some() || *name == "registers"
-        };
-        let (story, played) =
-            all.into_iter().find(shows).expect("there is a story about registers");
-        Named { name: format!("flaw-{}-{}-{story}", flaw.name(), part(kind)), played }
+        let mut told = stories.iter().map(|story| (story, play(&story.scene(kind, flaw, seed))));
+        let shows =
+            |(_, played): &(&Story, Played)| played.first_wrong().is_some() || flaw.never_shows();
+        let (story, played) = told.find(shows).expect("a chip that can show does in some story");
+        Named { name: format!("flaw-{}-{}-{}", flaw.name(), part(kind), story.name), played }
     };
     BOTH_KINDS.map(shown).into_iter().collect()
 }

@@ -53,7 +53,7 @@ pub struct Setting {
     pub address: u8,
     /// The part that is said to be fitted.
     pub kind: Kind,
-    /// The samples of one millisecond.
+    /// The samples of one millisecond, at least 1.
     pub samples_per_tick: u64,
 }
 
