@@ -67,7 +67,7 @@ impl Seen {
 #[test]
 fn the_listener_hears_what_was_played() {
     let mut seen = Seen::default();
-    for seed in 0..300 {
+    for seed in 0..150 {
         for sort in SORTS {
             let played = play(&scene(sort, seed));
             let heard = assert_heard(&played, &format!("{sort:?} {seed}"));
@@ -88,7 +88,7 @@ fn the_listener_hears_what_was_played() {
 #[test]
 fn the_importer_takes_the_same_events() {
     let mut imported = 0;
-    for seed in 0..200 {
+    for seed in 0..100 {
         let played = play(&scene(Sort::Apart, seed));
         if played.samples.len() > 32_768 {
             continue;
@@ -99,13 +99,13 @@ fn the_importer_takes_the_same_events() {
         assert_eq!(events_of(&played.samples, played.setting.address), Ok(events), "{seed}");
         imported += 1;
     }
-    assert!(imported > 100, "{imported} of 200 are short enough");
+    assert!(imported > 50, "{imported} of 100 are short enough");
 }
 
 /// The samples come in chunks of any size, empty ones too.
 #[test]
 fn chunks_do_not_matter() {
-    for seed in 0..60 {
+    for seed in 0..30 {
         for sort in SORTS {
             let played = play(&scene(sort, seed));
             let whole = listen(played.setting, &played.samples);
@@ -146,7 +146,7 @@ fn cut_anywhere() {
 /// The second reader, which goes list by list, finds all that was played.
 #[test]
 fn the_second_reader_finds_what_was_played() {
-    for seed in 0..100 {
+    for seed in 0..50 {
         for sort in SORTS {
             let played = play(&scene(sort, seed));
             assert_eq!(reread(played.setting, &played.samples), played, "{sort:?} {seed}");
@@ -157,7 +157,7 @@ fn the_second_reader_finds_what_was_played() {
 #[test]
 fn glitches_are_heard_as_the_second_reader_finds_them() {
     let (mut faults, mut wrong, mut overtaken) = (0, 0, 0);
-    for seed in 0..300 {
+    for seed in 0..150 {
         let noisy = glitched(seed);
         assert_heard(&noisy, &format!("{seed}"));
         faults += noisy.faults.len();
@@ -186,7 +186,7 @@ fn stray(rng: &mut Rng, way: u64, sample: u8) -> u8 {
 fn any_samples_are_heard_as_the_second_reader_finds_them() {
     let mut found = [0; 10];
     let mut faults = 0;
-    for seed in 0..300 {
+    for seed in 0..150 {
         let mut rng = Rng::new(seed);
         let address = rng.between(0x08, 0x77) as u8;
         let samples_per_tick = rng.between(1, 50);
@@ -200,7 +200,7 @@ fn any_samples_are_heard_as_the_second_reader_finds_them() {
         faults += heard.faults.len();
     }
     println!("kinds of event found: {found:?}; {faults} faults");
-    assert!([0, 1, 2, 3, 5, 6, 9].iter().all(|kind| found[*kind] > 20), "{found:?}");
+    assert!([0, 1, 2, 3, 5, 6, 9].iter().all(|kind| found[*kind] > 10), "{found:?}");
     assert!(faults > 1000, "{faults} faults");
 }
 
@@ -227,7 +227,7 @@ fn a_right_chip_with_its_own_milliseconds() {
 fn chips_that_err_are_found_in_random_captures() {
     let all = flaws();
     let (mut shown, mut hidden) = (0, 0);
-    for seed in 0..300 {
+    for seed in 0..200 {
         let flaw = all[seed as usize % all.len()];
         for sort in SORTS {
             let played = play(&Scene { flaw, ..scene(sort, seed) });
@@ -240,5 +240,5 @@ fn chips_that_err_are_found_in_random_captures() {
         }
     }
     println!("{shown} shown, {hidden} hidden");
-    assert!(shown > 300 && hidden > 50, "{shown} shown, {hidden} hidden");
+    assert!(shown > 200 && hidden > 50, "{shown} shown, {hidden} hidden");
 }

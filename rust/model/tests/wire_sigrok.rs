@@ -44,7 +44,7 @@ fn captures() -> Vec<Played> {
     let short = stories().into_iter().filter(|story| story.name != "hung");
     let mut all: Vec<Played> =
         short.map(|story| play(&story.scene(Kind::Pca9641, Flaw::None, 104))).collect();
-    for seed in 0..10 {
+    for seed in 0..5 {
         all.extend([Sort::Apart, Sort::Overlapping].map(|sort| play(&scene(sort, seed))));
     }
     all
@@ -74,7 +74,7 @@ fn sigrok_finds_what_was_played() {
     }
     fs::remove_dir_all(&folder).unwrap();
     println!("sigrok agrees on {signs} STARTs, bytes and STOPs of {captures_read} captures");
-    assert!(signs > 4000, "{signs}");
+    assert!(signs > 3000, "{signs}");
 }
 
 /// A VCD in microseconds has a sample each; one in nanoseconds has so many a sample, and sigrok takes

@@ -177,6 +177,12 @@ impl Planner<'_> {
             let bit = self.rng.below(2) as u8;
             self.clock(Sda::Level(bit));
         }
+        // Now and then the controller stalls in the byte, with SCL low, before it gives up.
+        if self.rng.percent(30) {
+            let held = self.rng.between(1, 3000);
+            self.level(0, Sda::Keep);
+            self.last(|last| last.lasts = held);
+        }
         self.clock(Sda::Level(u8::from(by_start)));
         if !by_start {
             return self.stop_here(true);
