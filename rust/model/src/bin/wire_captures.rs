@@ -1,4 +1,4 @@
-//! wire_captures DIR [--seed N] [--count N] [--only START] [--vcd] [--csv]: writes captures of both
+//! `wire_captures DIR [--seed N] [--count N] [--only START] [--vcd] [--csv]`: writes captures of both
 //! upstream buses with the lines around them into a folder, each as NAME.capture, one byte a sample,
 //! with NAME.truth, what is true of it. No file that is there is written over.
 

@@ -1,4 +1,4 @@
-//! wire_rate [COUNT]: plays so many random captures of each sort (200 if none is named), listens to
+//! `wire_rate [COUNT]`: plays so many random captures of each sort (200 if none is named), listens to
 //! them, sees that what is heard is what was played, and prints how fast the listener is; and how fast on
 //! a bus on which nothing moves.
 

@@ -191,9 +191,9 @@ impl Listener {
 }
 
 impl Bus {
-    /// "From the second on it is inside a byte."
+    /// "From the second on it is inside a byte." Clocks outside START to STOP are not counted.
     fn is_inside(&self) -> bool {
-        self.awaited != Awaited::Start && self.clocks >= 2
+        self.clocks >= 2
     }
 
     /// Hears one sample after another, SCL in bit 0 and SDA in bit 1.
