@@ -130,6 +130,28 @@ fn the_grant_is_read_before_the_tick_that_ends_it() {
     assert_eq!(heard.first_wrong(), Some(first[1]));
 }
 
+/// STATUS is read as C8h while downstream SDA falls at some sample. Before SCL falls for the first bit
+/// the chip had to show it low; from that sample on it need not; after the ninth clock it may not.
+#[test]
+fn where_a_byte_may_be_overtaken() {
+    let mut bus = pen();
+    transfer(&mut bus, &[WRITE, 0x02]);
+    let at = transfer(&mut bus, &[READ, 0xC8]);
+    let right = with_lines(&bus.levels, FREE);
+    let falls = at[0] + 1;
+    assert_eq!((right[at[0] as usize] & 1, right[falls as usize] & 1), (1, 0));
+    for sample in at[0] - 4..=at[1] + 2 {
+        let mut samples = right.clone();
+        samples[sample as usize..].iter_mut().for_each(|sample| *sample &= !DOWN_SDA);
+        let heard = listen(setting(LONG), &samples);
+        let expected = if sample <= at[1] { 0x48 } else { 0xC8 };
+        let read = heard.reads[0];
+        assert_eq!((read.heard, read.expected), (0xC8, expected), "{sample}");
+        assert_eq!(read.overtaken, (falls..=at[1]).contains(&sample), "{sample}");
+        assert_eq!(read.is_wrong(), sample < falls, "{sample}");
+    }
+}
+
 #[test]
 fn two_data_writes_are_a_pair_and_nothing_else_is() {
     let (mut bus_0, mut bus_1) = (pen(), pen());
