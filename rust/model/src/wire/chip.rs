@@ -1,7 +1,7 @@
 //! The chip that is played: a right one, or one that errs in a single thing. It steps the independent
 //! model and spoils what it shows, or what the model has.
 
-use super::{DOWN_SCL, DOWN_SDA};
+use super::{answer_of, DOWN_SCL, DOWN_SDA};
 use crate::device::*;
 use crate::event::make::general_call;
 use crate::part::Kind;
@@ -89,11 +89,6 @@ impl Flaw {
                 | Flaw::Stuck { register: 4, bit: 7, high: false }
         )
     }
-}
-
-/// What a right device answers to a READ of this master, without what the READ does.
-pub fn answer_of(device: &Device, master: usize) -> u8 {
-    device.register(master, device.masters[master].pointer)
 }
 
 impl Chip {

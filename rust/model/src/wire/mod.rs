@@ -13,7 +13,7 @@
 //! PULSE and RESET stand on none of these lines, so they never come, and no script here sets
 //! BUS_INIT.
 //!
-//! The two sides share nothing but this file:
+//! The two sides share the model and this file, and nothing else:
 //!
 //! - `script`, `moves`, `plan`, `chip`, `play`: two controllers and a chip played as levels, with what is true
 //!   of the capture that comes of it.
@@ -39,6 +39,7 @@ pub use chip::Flaw;
 pub use listen::Listener;
 pub use play::{play, Scene};
 
+use crate::device::Device;
 use crate::part::Kind;
 
 /// The downstream lines in a sample, and all three of them high.
@@ -125,4 +126,9 @@ impl Played {
         cut.signs.iter_mut().for_each(|bus| bus.retain(|(sample, _)| *sample < last));
         cut
     }
+}
+
+/// What a right device answers to a READ of this master, without what the READ does.
+pub fn answer_of(device: &Device, master: usize) -> u8 {
+    device.register(master, device.masters[master].pointer)
 }

@@ -1,11 +1,11 @@
 //! Plays two scripts, the world downstream and a chip, sample by sample. What is true of the capture
 //! is written down as it is made: nothing is read back from the samples.
 
-use super::chip::{answer_of, Chip, Flaw};
+use super::chip::{Chip, Flaw};
 use super::moves::{Gate, Manner, Move, Sda, Wait};
 use super::plan::plan;
 use super::script::{Script, World};
-use super::{Fault, Played, ReadByte, Setting, Sign, LINES};
+use super::{answer_of, Fault, Played, ReadByte, Setting, Sign, LINES};
 use crate::event::make::*;
 use crate::rng::Rng;
 use crate::Device;
