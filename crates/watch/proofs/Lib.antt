@@ -1,0 +1,9 @@
+pub mod Chunks
+pub mod Mended
+pub mod Above
+pub mod Imported
+pub mod Faults
+pub mod Sums
+pub mod Counted
+pub mod First
+pub mod Answers

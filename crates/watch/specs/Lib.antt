@@ -1,0 +1,5 @@
+pub mod Names
+pub mod Sample
+pub mod Stream
+pub mod Found
+pub mod Answers
