@@ -1,12 +1,14 @@
 //! firmware FOLDER TRACE...: writes calls for the program of `c/firmware`, and what this model answers to
 //! each, into a folder. `image.calls` has a device's runs: the traces that are named, and random ones of
 //! either kind, with registers read and quiet time. `plain.calls` has the same without quiet time and
-//! without a look at the image, for a stepper that has neither. `more.calls` has the rest: images that
-//! no run reaches and refused ones, shelves, order sheets and straps.
+//! without a look at the image, for a stepper that has neither, and `long.calls` more such runs.
+//! `more.calls` has the rest: images that no run reaches and refused ones, shelves, order sheets and
+//! straps.
 //!
 //! A call has six bytes, its number and five arguments; an answer eight, the low one first. What a call
 //! reads and writes lies in buffers, which are put, read back and given their lengths by calls too.
 
+use std::ops::Range;
 use std::path::Path;
 use std::{env, fs, io, process};
 
@@ -170,8 +172,9 @@ impl Calls {
     }
 }
 
-/// Runs of one device: the traces, then random ones. With `all`, quiet time is passed at once here and there, and the image is looked at.
-fn image_calls(traces: &[Vec<u8>], all: bool) -> Calls {
+/// Runs of one device: the traces, then random ones of so many events. With `all`, quiet time is passed at once here and there, and the image is
+/// looked at.
+fn image_calls(traces: &[Vec<u8>], places: Range<u64>, length: usize, all: bool) -> Calls {
     let mut calls = Calls::new();
     calls.buffers[IMAGE].truncate(IMAGE_LENGTH);
     let mut rng = Rng::new(seed_of(RUN, 0));
@@ -179,9 +182,9 @@ fn image_calls(traces: &[Vec<u8>], all: bool) -> Calls {
         .iter()
         .filter_map(|bytes| read_trace(bytes).ok())
         .map(|trace| (trace.kind, trace.events));
-    let random = (1..25).map(|place| {
+    let random = places.map(|place| {
         let kind = BOTH_KINDS[place as usize % 2];
-        (kind, event_list_of(kind, seed_of(RUN, place), 250))
+        (kind, event_list_of(kind, seed_of(RUN, place), length))
     });
     for (kind, events) in samples.chain(random) {
         calls.image_fresh(kind.number());
@@ -291,7 +294,8 @@ fn main() -> io::Result<()> {
         process::exit(2);
     };
     let traces = words.map(fs::read).collect::<io::Result<Vec<_>>>()?;
-    image_calls(&traces, true).write(Path::new(&folder), "image")?;
-    image_calls(&traces, false).write(Path::new(&folder), "plain")?;
+    image_calls(&traces, 1..25, 250, true).write(Path::new(&folder), "image")?;
+    image_calls(&traces, 1..25, 250, false).write(Path::new(&folder), "plain")?;
+    image_calls(&[], 200..280, 500, false).write(Path::new(&folder), "long")?;
     more_calls().write(Path::new(&folder), "more")
 }
