@@ -48,12 +48,8 @@ function join(...fields) {
   return Buffer.concat(fields.map((field) => Buffer.from(field)).flatMap((field) => [size(field), field]));
 }
 
-/** Which library answers stands in the page to file, and is another one here. */
-const comparable = (answer) => {
-  const text = answer.toString('latin1');
-  const from = text.indexOf('id="identity"');
-  return from < 0 ? text : text.slice(4 + 2, from);
-};
+/** An answer's fields as text. Which library answers stands at the end of the page to file, and is another one here. */
+const comparable = (answer) => split(answer).map((field) => field.toString('latin1').split('id="identity"')[0]).join('\0');
 
 function compare(file) {
   const all = split(fs.readFileSync(file));
