@@ -12,7 +12,7 @@ impl fmt::Display for Tenths {
         let below = tenths.floor();
         // Where it is near to the middle between two tenths, the standard library knows which one it is.
         let middle = (tenths - below - 0.5).abs() < 1e-3;
-        if middle || !(0.0..1e9).contains(&self.0) {
+        if middle || self.0.is_sign_negative() || !(0.0..1e9).contains(&self.0) {
             return write!(f, "{:.1}", self.0);
         }
         let whole = below as u64 + u64::from(tenths - below > 0.5);
