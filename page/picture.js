@@ -10,7 +10,9 @@ const DARK = [
   ['.cross', 'stroke: #ff9aa2'], ['.dropped', 'fill: #ffbd66'], ['.end', 'stroke: #e8ebef'], ['.at', 'stroke: #ff7ab8'],
 ].map(([where, look]) => `svg.run.laid ${where} { ${look} }`);
 
-const LOOK = `svg { display: block; width: 100%; height: auto; min-width: var(--least, 38rem) }
+const LOOK = `:host { position: relative }
+  svg { display: block; width: 100%; height: auto; min-width: 38rem }
+  svg.over { position: absolute; left: 0; top: 0; pointer-events: none; will-change: transform }
   svg.run.laid .at { stroke: #b0005a; stroke-width: 2 }
   @media (prefers-color-scheme: dark) { ${DARK.join(' ')} }`;
 
@@ -56,13 +58,25 @@ function drawTrace(host, trace, title) {
   const drawn = showPicture(host, answer.ok ? textOf(answer, 0) : '', told.replaceAll('\n', '; '), textOf(answer, 3));
   const places = answer.ok ? placesOf(jsonOf(answer, 2)) : null;
   pictures.delete(host);
-  if (drawn && places) {
-    const line = document.createElementNS('http://www.w3.org/2000/svg', 'line');
-    line.setAttribute('class', 'at');
-    drawn.append(line);
-    pictures.set(host, { places, line });
-  }
+  if (drawn && places) pictures.set(host, { places, line: layLine(drawn) });
   return told;
+}
+
+/**
+ * A line over a picture. It has a drawing of its own, so that the picture is not painted anew when the line moves.
+ * @param {SVGSVGElement} drawn
+ * @returns {Element}
+ */
+function layLine(drawn) {
+  const over = /** @type {SVGSVGElement} */ (drawn.cloneNode(false));
+  for (const name of ['role', 'aria-label']) over.removeAttribute(name);
+  over.setAttribute('aria-hidden', 'true');
+  over.classList.add('over');
+  const line = document.createElementNS('http://www.w3.org/2000/svg', 'line');
+  line.setAttribute('class', 'at');
+  over.append(line);
+  drawn.after(over);
+  return line;
 }
 
 /**
