@@ -424,7 +424,7 @@ uint64_t gunwaleish_listing(const uint8_t *trace, uint64_t trace_len, uint8_t *t
 /* Writes the events that a logic analyser's capture has for the device of this address, four bytes each. A sample is one byte: bits 0 to 3
  * are SCL0, SDA0, SCL1 and SDA1, and the others are ignored. The result is packed: number + 256 * the count of events. Refusals, in this
  * order: 13 above 32,768 samples, 11 for the address, 12 a START or STOP inside a byte or the capture ending inside one, 9 if the buffer is
- * shorter than the events. A refusal writes nothing, and the count is 0. Bytes past the events stay. */
+ * shorter than the events. A refusal writes nothing, and the count is 0. Bytes past the events stay. The call takes some 15 KB of stack. */
 uint64_t gunwaleish_import_capture(const uint8_t *samples, uint64_t samples_len, uint8_t address, uint8_t *events, uint64_t events_len);
 
 /* ---- two order sheets ---- */
