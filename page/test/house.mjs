@@ -1,5 +1,5 @@
 // The repository's files, as the tests need them.
-import { mkdtempSync, readdirSync, readFileSync, writeFileSync } from 'node:fs';
+import { mkdtempSync, readdirSync, readFileSync, rmSync, writeFileSync } from 'node:fs';
 import { tmpdir } from 'node:os';
 import { join } from 'node:path';
 import { fileURLToPath } from 'node:url';
@@ -16,6 +16,7 @@ export const text = (path) => readFileSync(at(path), 'utf8');
 export const folder = (path) => readdirSync(at(path));
 
 const made = mkdtempSync(join(tmpdir(), 'made-'));
+process.on('exit', () => rmSync(made, { recursive: true, force: true }));
 
 /** A file with these bytes, somewhere else; its path. */
 export function file(name, data) {
