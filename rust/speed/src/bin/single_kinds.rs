@@ -1,4 +1,4 @@
-//! single_kinds [TIMES]: full traces of one kind of event alone, the library against the tuned stepper; the best of so many counts. Nothing is timed
+//! `single_kinds TIMES`: full traces of one kind of event alone, the library against the tuned stepper; the best of so many counts. Nothing is timed
 //! before both answer alike.
 
 use std::hint::black_box;
