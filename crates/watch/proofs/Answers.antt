@@ -5,6 +5,7 @@ use Rattle.watch.proofs.Chunks.{chunks-alike, events-in-chunks, checks-
 use Rattle.watch.proofs.Imported.{above-as-imported, as-imported}
 use Rattle.watch.proofs.Faults.{faults-told}
 use Rattle.watch.proofs.First.{all-counted}
+use Rattle.watch.proofs.Examples.{examples-hold}
 
 pub answers : Answers
 answers =
@@ -17,4 +18,5 @@ answers =
       aboveAsImported = above-as-imported;
       faultsTold = faults-told;
       allCounted = all-counted;
+      examplesHold = examples-hold;
     }

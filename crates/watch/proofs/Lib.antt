@@ -6,4 +6,5 @@ pub mod Faults
 pub mod Sums
 pub mod Counted
 pub mod First
+pub mod Examples
 pub mod Answers

@@ -8,6 +8,7 @@ use Rattle.capture.specs.Events.{rawOf, captured}
 use Rattle.capture.specs.Import.{cutOnEither}
 use Rattle.watch.specs.Names.{ℕ, Bool, true, false, not, _||_, List, [], _∷_, _++_, map, eqb, length, if_then_else_, Kind, Event, Command, Write, Read, Stop, Pair, Lines, Tick, Pulse, Reset, GeneralCall, Settings, Check, Watcher}
 use Rattle.watch.specs.Stream.{upTo, watched, eventsIn, noCheck, beginning}
+use Rattle.watch.specs.Examples.{ExamplesHold}
 use Rattle.watch.specs.Found.{checks, differing, firstOr, faults}
 
 -- ---- chunks: what is found does not depend on how the samples come
@@ -85,3 +86,4 @@ pub record Answers : Type 0 where
   pub aboveAsImported : AboveAsImported
   pub faultsTold : FaultsTold
   pub allCounted : AllCounted
+  pub examplesHold : ExamplesHold

@@ -2,4 +2,5 @@ pub mod Names
 pub mod Sample
 pub mod Stream
 pub mod Found
+pub mod Examples
 pub mod Answers

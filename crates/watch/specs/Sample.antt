@@ -2,9 +2,8 @@
 -- #104 (capture/specs/OneBus); what is added here is time, the bus below, and that listening goes on after a fault.
 -- Assumes nothing.
 use Prim.Native.Nat.{_/_, _%_}
-use Rattle.capture.specs.Events.{together}
 use Rattle.capture.specs.Samples.{sampled, eventsIn, bothSilent}
-use Rattle.watch.specs.Names.{ℕ, _+_, Bool, true, false, not, _&&_, _||_, List, [], _∷_, _++_, eqb, ltb, if_then_else_, bit, worth, Event, Lines, Tick, Listener, Nothing, Both, Heard, Settings, Ear}
+use Rattle.watch.specs.Names.{ℕ, _+_, Bool, true, false, not, _&&_, List, [], _∷_, _++_, eqb, ltb, if_then_else_, bit, worth, Event, Lines, Tick, Listener, Nothing, Both, Heard, Settings, Ear}
 
 -- ---- the bus below: bits 4, 5 and 6 of a sample are downstream SCL, SDA and INT_IN, if the settings say so
 
