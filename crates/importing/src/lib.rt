@@ -71,7 +71,7 @@ fn few_beside_event(e: Event, h: Given) -> Few
     }
 }
 
-fn few_of(g: Given, h: Given) -> Few
+pub fn few_of(g: Given, h: Given) -> Few
     ensures { λ r. ⌜ listed r ≡ together g h ⌝ }
 {
     match g {
@@ -98,7 +98,7 @@ fn raw_with(kind: u8, x: u8, y: u8, z: u8) -> Raw
     Raw { kind, x, y, z }
 }
 
-fn raw_of(e: Event) -> Raw
+pub fn raw_of(e: Event) -> Raw
     ensures { λ r. ⌜ r ≡ rawOf e ⌝ }
 {
     match e {
