@@ -5,6 +5,7 @@ use Rattle.watch.proofs.Chunks.{chunks-alike, events-in-chunks, checks-
 use Rattle.watch.proofs.Imported.{above-as-imported, as-imported}
 use Rattle.watch.proofs.Faults.{faults-told}
 use Rattle.watch.proofs.First.{all-counted}
+use Rattle.watch.proofs.Told.{some-taken, none-missed, left-where-told}
 use Rattle.watch.proofs.Examples.{examples-hold}
 
 pub answers : Answers
@@ -18,5 +19,8 @@ answers =
       aboveAsImported = above-as-imported;
       faultsTold = faults-told;
       allCounted = all-counted;
+      someTaken = some-taken;
+      noneMissed = none-missed;
+      leftWhereTold = left-where-told;
       examplesHold = examples-hold;
     }

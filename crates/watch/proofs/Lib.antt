@@ -6,5 +6,6 @@ pub mod Faults
 pub mod Sums
 pub mod Counted
 pub mod First
+pub mod Told
 pub mod Examples
 pub mod Answers

@@ -1,7 +1,9 @@
 -- What is proved of every stream of samples, each statement by its name, and all of them in one record. proofs/Answers.antt fills it with one term,
 -- so that a lost proof fails the check.
 -- Assumes nothing.
+use Prim.Native.Nat.{_-_, _≤_, _<_}
 use mathlib.Core.Path.{_≡_}
+use lib.ListN.{take}
 use Rattle.arbiter.specs.Steps.{runFrom, run}
 use Rattle.capture.specs.OneBus.{inside}
 use Rattle.capture.specs.Events.{rawOf, captured}
@@ -10,6 +12,7 @@ use Rattle.watch.specs.Names.{ℕ, Bool, true, false, not, _||_, List, [
 use Rattle.watch.specs.Stream.{upTo, watched, eventsIn, noCheck, beginning}
 use Rattle.watch.specs.Examples.{ExamplesHold}
 use Rattle.watch.specs.Found.{checks, differing, firstOr, faults}
+use Rattle.watch.specs.Told.{tells, taken}
 
 -- ---- chunks: what is found does not depend on how the samples come
 
@@ -77,6 +80,24 @@ pub record Counted (samples : List ℕ) (w : Watcher) : Type 0 where
 abbrev pub AllCounted : Type 0
 AllCounted = (k : Kind) (c : Settings) (samples : List ℕ) → Counted samples (beginning k c)
 
+-- ---- what one call takes
+
+-- it takes some, if there are any, and not more than there are
+abbrev pub SomeTaken : Type 0
+SomeTaken = (x : ℕ) (xs : List ℕ) (w : Watcher) → (0 < taken (x ∷ xs) w) × (taken (x ∷ xs) w ≤ length (x ∷ xs))
+
+-- before the last that it takes no READ that differs and no fault was counted
+abbrev pub NoneMissed : Type 0
+NoneMissed =
+    (xs : List ℕ) (w : Watcher) (n : ℕ) → n < taken xs w
+    → (watched (take n xs) w .tally .differences ≤ w .tally .differences) × (watched (take n xs) w .tally .faults ≤ w .tally .faults)
+
+-- and if it leaves some, the last one has something to tell
+abbrev pub LeftWhereTold : Type 0
+LeftWhereTold =
+    (xs : List ℕ) (w : Watcher) → taken xs w < length xs
+    → tells (watched (take (taken xs w - 1) xs) w .tally) (watched (take (taken xs w) xs) w .tally) ≡ true
+
 pub record Answers : Type 0 where
   pub chunksAlike : ChunksAlike
   pub eventsInChunks : EventsInChunks
@@ -86,4 +107,7 @@ pub record Answers : Type 0 where
   pub aboveAsImported : AboveAsImported
   pub faultsTold : FaultsTold
   pub allCounted : AllCounted
+  pub someTaken : SomeTaken
+  pub noneMissed : NoneMissed
+  pub leftWhereTold : LeftWhereTold
   pub examplesHold : ExamplesHold
