@@ -1,0 +1,5 @@
+pub mod Sums
+pub mod Parts
+pub mod Resting
+pub mod Turns
+pub mod Unique

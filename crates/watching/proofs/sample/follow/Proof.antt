@@ -1,0 +1,23 @@
+-- `watching::sample::follow` meets its contract.
+-- Assumes nothing.
+use borrow.Author.Needs.{needs}
+use Rattle.watch.specs.Stream.{followed}
+use Rattle.watching.proofs.sample.follow.Statement.{statement}
+use Rattle.watching.proofs.sample.follow.Tie as tie
+
+raw-of-requires : tie.Need-raw-of-requires
+raw-of-requires c κs = search needs
+
+run-one-requires : tie.Need-run-one-requires
+run-one-requires c κs = search needs
+
+tally-with-requires : tie.Need-tally-with-requires
+unfolding followed
+tally-with-requires c κs = simp (c .before .run-one .ensures, c .before .before .raw-of .ensures)
+
+returns : tie.Need-returns
+unfolding followed
+returns c = simp (c .tally-with .ensures, c .before .before .run-one .ensures, c .before .before .before .raw-of .ensures)
+
+pub follow-spec : {M : Type 1} → statement M
+follow-spec = tie.close (tie.spec raw-of-requires run-one-requires tally-with-requires returns)
