@@ -200,7 +200,7 @@ lines-eq b c h =
       lowsda = 0;
     }
 
-bare-eq : (d e : Device) → sameButCounts d e ≡ true → bare e ≡ bare d
+pub bare-eq : (d e : Device) → sameButCounts d e ≡ true → bare e ≡ bare d
 unfolding sameButCounts withCounts
 bare-eq d e h =
     let h5 = both _ (sameArb (d .arb) (e .arb)) h in
@@ -290,6 +290,9 @@ without : (d e : Device) → sameButCounts (bare d) (bare e) ≡ sameButCounts d
 unfolding sameButCounts withCounts
 without d e = refl
 
+pub bare-same : (d e : Device) → bare e ≡ bare d → sameButCounts d e ≡ true
+bare-same d e p = sym (without d e) ∙ ap (sameButCounts (bare d)) p ∙ device-self (bare d)
+
 agree-same : (x y : Bool) → y ≡ x → agree x y ≡ true
 agree-same x y e = ap (agree x) e ∙ agree-self x
 
@@ -306,7 +309,7 @@ unchanged before after = (
       let p = both (sameButCounts before after) (sameShown (before .bus) (after .bus)) (not-false (sameButCounts before after && sameShown (before .bus) (after .bus)) h) in
       (bare-eq before after (p .0), shown-eq before after (p .1)),
   λ e s.
-      ap not (and (sym (without before after) ∙ ap (sameButCounts (bare before)) e ∙ device-self (bare before)) (shown-same before after s)),
+      ap not (and (bare-same before after e) (shown-same before after s)),
 )
   where
     not-false : (b : Bool) → not b ≡ false → b ≡ true

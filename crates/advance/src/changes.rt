@@ -264,7 +264,8 @@ fn same_but_counts(d: Device, e: Device) -> bool
         & same_arb(d.arb, e.arb)
 }
 
-fn same_shown(b: Bus, c: Bus) -> bool
+// The levels and BUS_HUNG, which the lines and the counts show.
+pub fn same_shown(b: Bus, c: Bus) -> bool
     ensures { λ r. ⌜ r ≡ sameShown b c ⌝ }
 {
     agrees(scl_high(b), scl_high(c))

@@ -17,7 +17,7 @@ use traces::run_one;
 pub mod changes;
 
 // An advance goes so many ticks at most: mostTicks in specs/Advance.
-const MOST_TICKS: u32 = 65535;
+pub const MOST_TICKS: u32 = 65535;
 
 // What an advance reports: its number, the device after it, and how many of its ticks changed anything but counts.
 pub struct Advanced {

@@ -1,4 +1,5 @@
 pub mod Copied
 pub mod OnImages
+pub mod Leaps
 pub mod Answers
 pub mod Unique

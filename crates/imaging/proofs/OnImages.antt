@@ -14,11 +14,11 @@ use Rattle.arbiter.specs.declared.Kind.{Kind}
 use Rattle.arbiter.specs.declared.Device.{Device}
 use Rattle.arbiter.specs.declared.Raw.{Raw}
 use Rattle.arbiter.proofs.Choice.{either, if-true, if-false}
-use Rattle.ranges.specs.Ranges.{inRange, areBytes, pulses}
+use Rattle.ranges.specs.Ranges.{inRange, areBytes}
 use Rattle.ranges.proofs.Ranges.{in-range, stays-in-range}
 use Rattle.layout.specs.Layout.{imageOf, deviceIn}
 use Rattle.layout.specs.Images.{isImage, imageAfter, imageRun}
-use Rattle.layout.proofs.Fits.{held-pulses, record-fits, image-fits}
+use Rattle.layout.proofs.Fits.{record-fits, image-fits}
 use Rattle.layout.proofs.Back.{read-back, laid-out-back}
 use Rattle.layout.proofs.Steps.{steps-alike}
 use Rattle.quiet.specs.Quiet.{tick, ticks}
@@ -32,7 +32,7 @@ use Rattle.imaging.specs.Laws.{AdvancedAlike, AdvancedStays, NoneAdvance
 
 -- ---- ticks keep the ranges
 
-ticks-in-range : (n : ℕ) (d : Device) → inRange d ≡ true → inRange (ticks n d) ≡ true
+pub ticks-in-range : (n : ℕ) (d : Device) → inRange d ≡ true → inRange (ticks n d) ≡ true
 unfolding ticks runFrom
 ticks-in-range zero d h = h
 ticks-in-range (suc n) d h = ticks-in-range n (step d tick .device) (stays-in-range d tick refl h)
@@ -40,9 +40,6 @@ ticks-in-range (suc n) d h = ticks-in-range n (step d tick .device) (stays-in-ra
 advanced-in-range : (n : ℕ) (d : Device) → inRange d ≡ true → inRange (advanced n d .device) ≡ true
 unfolding advanced
 advanced-in-range n d h = either (λ (a : Advanced). inRange (a .device) ≡ true) (ltb mostTicks n) (λ t. h) (λ f. ticks-in-range n d h)
-
-pub advanced-pulses : (b : List ℕ) (n : ℕ) → isImage b ≡ true → pulses (advanced n (deviceIn b) .device .arb .switch) < 9
-advanced-pulses b n h = held-pulses (advanced n (deviceIn b) .device) (advanced-in-range n (deviceIn b) (image-fits b h))
 
 -- ---- what is told and left, by the image
 
@@ -54,11 +51,11 @@ pub left-good : (b : List ℕ) (n : ℕ) → isImage b ≡ true → imageAdvance
 unfolding imageAdvanced
 left-good b n h = if-true _ _ h
 
-in-few : (n : ℕ) (d : Device) → n ≤ mostTicks → advanced n d ≡ advancedWith 0 (ticks n d) (changing n d)
+pub in-few : (n : ℕ) (d : Device) → n ≤ mostTicks → advanced n d ≡ advancedWith 0 (ticks n d) (changing n d)
 unfolding advanced
 in-few n d h = if-false _ _ (le-ltb mostTicks n h)
 
-past-few : (n : ℕ) (d : Device) → mostTicks < n → advanced n d ≡ advancedWith 3 d 0
+pub past-few : (n : ℕ) (d : Device) → mostTicks < n → advanced n d ≡ advancedWith 3 d 0
 unfolding advanced
 past-few n d h = if-true _ _ (lt-ltb mostTicks n h)
 
@@ -104,7 +101,7 @@ one-at-most : (b : Bool) → worth 1 b ≤ 1
 one-at-most true = omega arith
 one-at-most false = omega arith
 
-changing-few : (n : ℕ) (d : Device) → changing n d ≤ n
+pub changing-few : (n : ℕ) (d : Device) → changing n d ≤ n
 unfolding changing
 changing-few zero d = omega arith
 changing-few (suc n) d =

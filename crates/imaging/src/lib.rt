@@ -162,13 +162,13 @@ fn contr_number(c: Control) -> u8
     )
 }
 
-fn low_of(n: u16) -> u8
+pub(crate) fn low_of(n: u16) -> u8
     ensures { λ r. ⌜ r ≡ n % 256 ⌝ }
 {
     (n % 256) as u8
 }
 
-fn high_of(n: u16) -> u8
+pub(crate) fn high_of(n: u16) -> u8
     ensures { λ r. ⌜ r ≡ n / 256 ⌝ }
 {
     (n / 256) as u8

@@ -1,0 +1,67 @@
+-- `imaging::advancing::tick_on` meets its contract.
+-- Assumes nothing.
+use borrow.Author.Needs.{needs}
+use Prim.Native.Nat.{ℕ}
+use mathlib.Core.Path.{_≡_, sym, ap, ap₂, subst, _∙_}
+use mathlib.Core.Bool.{true}
+use mathlib.Core.List.{List}
+use native.Mathlib.Omega.{arith}
+use Rattle.arbiter.specs.Words.{worth}
+use Rattle.layout.specs.Layout.{deviceIn}
+use Rattle.layout.specs.Images.{isImage}
+use Rattle.layout.proofs.Fits.{image-good}
+use Rattle.advance.specs.Changes.{changes}
+use Rattle.imaging.proofs.Copied.{copied}
+use Rattle.imaging.proofs.Leaps.{tick-leaves, tick-stays, tick-back}
+use Rattle.imaging.proofs.advancing.tick_on.Statement.{statement}
+use Rattle.imaging.proofs.advancing.tick_on.Tie as tie
+
+slice-aggregate-copy : tie.Need-slice-aggregate-copy
+slice-aggregate-copy c = search needs
+
+copy-requires : tie.Need-copy-requires
+copy-requires c κs = omega arith
+
+step-image-requires : tie.Need-step-image-requires
+step-image-requires c κs = search needs
+
+slice-aggregate-is-changed-in : tie.Need-slice-aggregate-is-changed-in
+slice-aggregate-is-changed-in c = search needs
+
+is-changed-in-requires : tie.Need-is-changed-in-requires
+is-changed-in-requires c κs =
+    let start = c .before .before .before .before .before .before .before .before .before .before .before in
+    let good = start .pre .0 in
+    let was = c .before .before .before .before .before .before .before .copy .ensures .1 ∙ copied _ _ (sym (start .pre .1)) in
+    let left = c .before .before .before .before .step-image .ensures .1 ∙ tick-leaves _ good in
+    let still = subst (λ (l : List ℕ). isImage l ≡ true) (sym was) good in
+    let stays = subst (λ (l : List ℕ). isImage l ≡ true) (sym left) (tick-stays _ good) in
+    (still, stays, image-good _ still .0, image-good _ stays .0)
+
+one-if-requires : tie.Need-one-if-requires
+one-if-requires c κs = search needs
+
+same-length : tie.Need-same-length
+same-length c = search needs
+
+returns : tie.Need-returns
+returns c =
+    let start = c .before .before .before .before .before .before .before .before .before .before .before .before .before in
+    let good = start .pre .0 in
+    let was = c .before .before .before .before .before .before .before .before .before .copy .ensures .1 ∙ copied _ _ (sym (start .pre .1)) in
+    let left = c .before .before .before .before .before .before .step-image .ensures .1 ∙ tick-leaves _ good in
+    let told = c .before .is-changed-in .ensures ∙ ap₂ changes (ap deviceIn was) (ap deviceIn left ∙ tick-back _ good) in
+    (c .one-if .ensures .0 ∙ ap (worth 1) told, c .one-if .ensures .1, left)
+
+pub tick-on-spec : {M : Type 1} → statement M
+tick-on-spec =
+    tie.close
+    (tie.spec
+    slice-aggregate-copy
+    copy-requires
+    step-image-requires
+    slice-aggregate-is-changed-in
+    is-changed-in-requires
+    one-if-requires
+    same-length
+    returns)
