@@ -230,7 +230,8 @@ fn image_of(d: Device) -> [u8; 38]
     ]
 }
 
-fn write_image(d: Device, out: &mut [u8])
+// The image of a device whose PULSEs are in range, written to a buffer of an image's length. A caller has both already: see docs/PROMISES.md.
+pub fn write_image(d: Device, out: &mut [u8])
     requires { ⌜ (pulses (d .arb .switch) < 9) × (length (now out) ≡ imageLength) ⌝ }
     ensures { λ r. ⌜ now (out .exit) ≡ imageOf d ⌝ }
 {

@@ -1,0 +1,4 @@
+pub mod Parts
+pub mod Laid
+pub mod Kept
+pub mod Unique

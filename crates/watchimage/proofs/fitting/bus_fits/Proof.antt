@@ -1,0 +1,31 @@
+-- `watchimage::fitting::bus_fits` meets its contract.
+-- Assumes nothing.
+use borrow.Author.Needs.{needs}
+use Prim.Native.Nat.{_+_}
+use mathlib.Core.Bool.{and-true}
+use native.Mathlib.Omega.{arith}
+use borrow.Author.Tests.{le-leb}
+use Rattle.arbiter.specs.Traces.{byteAt}
+use Rattle.watchlayout.specs.Places.{busFits}
+use Rattle.watchimage.proofs.fitting.bus_fits.Statement.{statement}
+use Rattle.watchimage.proofs.fitting.bus_fits.Tie as tie
+
+fits-requires : tie.Need-fits-requires
+fits-requires c κs = search needs
+
+add-fits : tie.Need-add-fits
+add-fits c = search needs
+
+fits-requires-2 : tie.Need-fits-requires-2
+fits-requires-2 c κs = search needs
+
+returns : tie.Need-returns
+unfolding busFits
+returns c =
+    let known = c .before .before .shared-slice-known .given in
+    let start = c .before .before .before .args in
+    let middle = le-leb (byteAt (start .at + 2) (start .b .now)) 255 (omega (arith, known (start .at + 2))) in
+    simp (middle, and-true, c .fits3 .ensures, c .before .fits2 .ensures)
+
+pub bus-fits-spec : {M : Type 1} → statement M
+bus-fits-spec = tie.close (tie.spec fits-requires add-fits fits-requires-2 returns)

@@ -1,0 +1,14 @@
+-- `watchimage::reading::master_of` meets its contract.
+-- Assumes nothing.
+use borrow.Author.Tests.{eq-eqb, ne-eqb}
+use Rattle.watchimage.proofs.reading.master_of.Statement.{statement}
+use Rattle.watchimage.proofs.reading.master_of.Tie as tie
+
+returns : tie.Need-returns
+returns c = simp (eq-eqb _ _ (c .if1 .taken))
+
+returns-2 : tie.Need-returns-2
+returns-2 c = simp (ne-eqb _ _ (c .if1 .left))
+
+pub master-of-spec : {M : Type 1} → statement M
+master-of-spec = tie.close (tie.spec returns returns-2)
