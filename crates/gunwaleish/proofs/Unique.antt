@@ -8,6 +8,8 @@ use Rattle.gunwaleish.proofs.gunwaleish_write_trace.Reads as gunwaleish
 use Rattle.gunwaleish.proofs.gunwaleish_convert_trace.Reads as gunwaleish-convert-trace
 use Rattle.gunwaleish.proofs.gunwaleish_listing.Reads as gunwaleish-listing
 use Rattle.gunwaleish.proofs.gunwaleish_import_capture.Reads as gunwaleish-import-capture
+use Rattle.gunwaleish.proofs.gunwaleish_watch_fresh.Reads as gunwaleish-watch-fresh
+use Rattle.gunwaleish.proofs.gunwaleish_watch_listen.Reads as gunwaleish-watch-listen
 use Rattle.gunwaleish.proofs.gunwaleish_sheet_box.Reads as gunwaleish-sheet-box
 use Rattle.gunwaleish.proofs.gunwaleish_sheet_events.Reads as gunwaleish-sheet-events
 use Rattle.gunwaleish.proofs.gunwaleish_sheet_wait.Reads as gunwaleish-sheet-wait
@@ -41,6 +43,12 @@ gunwaleish-listing-once κ a x y s t p q = (once (p .0) (q .0), once (p .1) (q .
 
 pub gunwaleish-import-capture-once : OneLeft (λ κ s. now (s .1 .1 .0)) gunwaleish-import-capture.Post
 gunwaleish-import-capture-once κ a x y s t p q = (once (p .0) (q .0), once (p .1) (q .1))
+
+pub gunwaleish-watch-fresh-once : OneLeft (λ κ s. now (s .1 .1 .1 .1 .0)) gunwaleish-watch-fresh.Post
+gunwaleish-watch-fresh-once κ a x y s t p q = (once (p .0) (q .0), once (p .1) (q .1))
+
+pub gunwaleish-watch-listen-once : OneLeft (λ κ s. now (s .1 .0)) gunwaleish-watch-listen.Post
+gunwaleish-watch-listen-once κ a x y s t p q = (once (p .0) (q .0), once (p .1) (q .1))
 
 pub gunwaleish-sheet-box-once : OneResult gunwaleish-sheet-box.Post
 gunwaleish-sheet-box-once κ a x y s t p q = once p q

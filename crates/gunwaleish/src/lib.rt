@@ -1,4 +1,4 @@
-// The library for Rust and C: traces, captures, order sheets, images, shelves, orders of scripts, totals of the bus share and straps over numbers
+// The library for Rust and C: traces, captures, listeners, order sheets, images, shelves, orders of scripts, totals of the bus share and straps over numbers
 // and slices. A slice passes as a pointer and then a length. Each call hands on to the crate of its subject, which packs what was found in one number.
 ghost use mathlib.Core.Path.{_≡_};
 ghost use lib.ListN.{length};
@@ -18,6 +18,8 @@ ghost use Rattle.sheets.specs.Sheets.{placeOf};
 ghost use Rattle.sheets.specs.Orders.{ordered, orderedBuffer};
 ghost use Rattle.sheets.specs.Waits.{waitOf};
 ghost use Rattle.share.specs.Lent.{lentNumber, lentAfter, joinNumber, joinAfter};
+ghost use Rattle.watchlayout.specs.Calls;
+ghost use Rattle.watchlayout.specs.Calls.{heeded, heededAfter};
 ghost use Rattle.packing.specs.Packed.{packedAnswer};
 ghost use Rattle.packed_captures.specs.Packed.{packedImport};
 ghost use Rattle.packed_images.specs.Packed.{packedShown, packedTold};
@@ -25,6 +27,7 @@ ghost use Rattle.packed_orders.specs.Packed.{packedListed};
 ghost use Rattle.packed_sheets.specs.Packed.{packedBox, packedOrder, packedWait};
 ghost use Rattle.packed_straps.specs.Packed.{packedAddress, packedPins};
 ghost use Rattle.packed_traces.specs.Packed.{packedReport, packedWritten};
+ghost use Rattle.packed_watches.specs.Packed.{atOnce, packedHeeded};
 ghost use Rattle.gunwaleish.specs.Version.{version};
 
 // ---- the version
@@ -93,6 +96,30 @@ pub extern "C" fn gunwaleish_import_capture(samples: &[u8], address: u8, events:
     ensures { λ r. ⌜ (r ≡ packedImport (imported address (now (samples .entry)) (now (events .entry)))) × (now (events .exit) ≡ importedBuffer address (now (samples .entry)) (now (events .entry))) ⌝ }
 {
     packed_captures::import_packed(samples, address, events)
+}
+
+// ---- a listener in a lent buffer
+
+// A fresh listener for a device of this kind and address, with so many samples a TICK, with or without the bus below.
+#[no_mangle]
+pub extern "C" fn gunwaleish_watch_fresh(
+    kind: u8,
+    address: u8,
+    every: u32,
+    below: u8,
+    watch: &mut [u8],
+) -> u32
+    ensures { λ r. ⌜ (r ≡ Calls.freshNumber kind address below (now (watch .entry))) × (now (watch .exit) ≡ Calls.freshAfter kind address every below (now (watch .entry))) ⌝ }
+{
+    packed_watches::fresh_packed(kind, address, every, below, watch)
+}
+
+// Samples heard by a listener, up to the first that has something to tell, and how many were taken.
+#[no_mangle]
+pub extern "C" fn gunwaleish_watch_listen(samples: &[u8], watch: &mut [u8]) -> u64
+    ensures { λ r. ⌜ (r ≡ packedHeeded (heeded (atOnce (now (samples .entry))) (now (watch .entry)))) × (now (watch .exit) ≡ heededAfter (atOnce (now (samples .entry))) (now (watch .entry))) ⌝ }
+{
+    packed_watches::listen_packed(samples, watch)
 }
 
 // ---- order sheets
