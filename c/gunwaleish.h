@@ -26,7 +26,7 @@ extern "C" {
 
 /* The version of this header. */
 #define GUNWALEISH_VERSION_MAJOR 1
-#define GUNWALEISH_VERSION_MINOR 0
+#define GUNWALEISH_VERSION_MINOR 1
 #define GUNWALEISH_VERSION_PATCH 0
 #define GUNWALEISH_VERSION (65536 * GUNWALEISH_VERSION_MAJOR + 256 * GUNWALEISH_VERSION_MINOR + GUNWALEISH_VERSION_PATCH)
 
@@ -272,6 +272,7 @@ enum gunwaleish_refusals {
     GUNWALEISH_NO_SUCH_REGISTER = 3,       /* of a register read out of an image: a master above 1 or a register above 7 */
     GUNWALEISH_BAD_BOX = 3,                /* of an order sheet: a tick or value out of range, or a value in a box that is not ticked */
     GUNWALEISH_TOO_MANY_TICKS = 3,         /* of an advance: more than 65,535 ticks */
+    GUNWALEISH_NEITHER_BELOW = 3,          /* of a listener: the bus below is neither listened to, 1, nor not, 0 */
     GUNWALEISH_TRACE_CUT = 5,              /* bytes are missing at the end, or event bytes do not come in fours */
     GUNWALEISH_SHEET_CUT = 5,              /* of an order sheet: under 15 bytes */
     GUNWALEISH_EMPTY_ROW = 5,              /* of a shelf: its row has no record */
@@ -286,6 +287,7 @@ enum gunwaleish_refusals {
     GUNWALEISH_OTHER_LENGTH = 9,           /* of an image: the buffer has not 38 bytes, but fewer or more */
     GUNWALEISH_OTHER_ROW_LENGTH = 9,       /* of a shelf: the row's bytes are not 39 for each record, or the slots' not two for each */
     GUNWALEISH_OTHER_TOTALS_LENGTH = 9,    /* of totals: the buffer has not 17 numbers, but fewer or more */
+    GUNWALEISH_OTHER_WATCH_LENGTH = 9,     /* of a listener: the buffer has not 142 bytes, but fewer or more */
     GUNWALEISH_WRONG_COUNT = 10,           /* the first byte, the count of pins, is not 4, or the count of the kind of part is not 1 */
     GUNWALEISH_WRONG_BOX_COUNT = 10,       /* of an order sheet: the count of a section is not 2 */
     GUNWALEISH_ADDRESS_OUTSIDE = 11,       /* the address is not one of 08h to 77h */
@@ -294,6 +296,7 @@ enum gunwaleish_refusals {
     GUNWALEISH_EMPTY_BOX = 14,             /* a box is ticked neither on the board sheet nor on the house sheet */
     GUNWALEISH_NO_SUCH_BOX = 15,           /* an order sheet has no such section or controller */
     GUNWALEISH_IMAGE_OUT_OF_RANGE = 16,    /* a field of an image is outside the range that a run from power-up gives it */
+    GUNWALEISH_WATCH_OUT_OF_RANGE = 16,    /* a field of a listener's buffer is outside its range */
     GUNWALEISH_EQUAL_ADDRESSES = 17,       /* two records of a row have the same address */
     GUNWALEISH_NOT_IN_ROW = 18             /* the address or place that is named is not in the row */
 };
@@ -347,6 +350,22 @@ enum gunwaleish_grades {
 /* The bytes of a device's image, which docs/IMAGE.md lays out, and the most ticks of one advance of it. */
 #define GUNWALEISH_IMAGE_BYTES 38
 #define GUNWALEISH_MOST_TICKS 65535
+
+/* The bytes of a listener's buffer, which docs/CAPTURES.md lays out. The first of them are the image of its device. */
+#define GUNWALEISH_WATCH_BYTES 142
+
+/* Where a listener's buffer has what it counted, for gunwaleish_watch_count, and READs, for gunwaleish_watch_read. */
+enum gunwaleish_watch_places {
+    GUNWALEISH_WATCH_SAMPLES = 58,
+    GUNWALEISH_WATCH_EVENTS = 66,
+    GUNWALEISH_WATCH_READS = 74,
+    GUNWALEISH_WATCH_DIFFERENCES = 82,     /* READs whose byte on SDA was not the model's answer */
+    GUNWALEISH_WATCH_FAULTS = 90,          /* STARTs and STOPs inside a byte */
+    GUNWALEISH_WATCH_FIRST_FAULT = 98,     /* the sample of the first one, if there was one */
+    GUNWALEISH_WATCH_FIRST_DIFFERENCE = 106, /* a READ, if there was one */
+    GUNWALEISH_WATCH_LAST_READ_0 = 118,    /* the last READ of master 0 */
+    GUNWALEISH_WATCH_LAST_READ_1 = 130     /* and of master 1 */
+};
 
 /* A record of a shelf's row: a byte for its address, and the image of its device. The most records of a row, and their bytes. */
 #define GUNWALEISH_RECORD_BYTES (1 + GUNWALEISH_IMAGE_BYTES)
@@ -426,6 +445,21 @@ uint64_t gunwaleish_listing(const uint8_t *trace, uint64_t trace_len, uint8_t *t
  * order: 13 above 32,768 samples, 11 for the address, 12 a START or STOP inside a byte or the capture ending inside one, 9 if the buffer is
  * shorter than the events. A refusal writes nothing, and the count is 0. Bytes past the events stay. The call takes some 15 KB of stack. */
 uint64_t gunwaleish_import_capture(const uint8_t *samples, uint64_t samples_len, uint8_t address, uint8_t *events, uint64_t events_len);
+
+/* ---- a listener ---- */
+
+/* A listener keeps both upstream buses and the device's model in one buffer, and is given samples as they come, in chunks of any length: bits 0 to 3 as
+ * in a capture, and if `below` is 1 (and not 0) bits 4 to 6 are downstream SCL, SDA and INT_IN, whose changes are LINES events. After every `every`
+ * samples there is a TICK; with 0 there is none. Each event is stepped on the model, and for each READ the byte on SDA is held against its answer.
+ *
+ * Refusals of a fresh one, in this order: 9 for a buffer of another length, 3 for a kind that is neither 0 nor 1 or such a `below`, 11 for the address.
+ * A refusal leaves the buffer as it was. */
+uint32_t gunwaleish_watch_fresh(enum gunwaleish_kind_of_part kind, uint8_t address, uint32_t every, uint8_t below, uint8_t *watch, uint64_t watch_len);
+
+/* Listens to samples: to all of them (but 4,294,967,295 at most), or up to and with the first in which a READ differed or a fault was counted, so that each
+ * can be told; call again with the rest. The result is packed: number + 256 * the samples taken. Refused by 9 for a buffer of another length, and then by 16 for one with a
+ * field out of its range; then nothing was taken, and the buffer is as it was. */
+uint64_t gunwaleish_watch_listen(const uint8_t *samples, uint64_t samples_len, uint8_t *watch, uint64_t watch_len);
 
 /* ---- two order sheets ---- */
 
@@ -573,6 +607,41 @@ static inline size_t gunwaleish_length(uint64_t packed) {
 /* Out of what gunwaleish_import_capture gave. */
 static inline size_t gunwaleish_captured(uint64_t packed) {
     return (size_t)(packed >> 8);
+}
+
+/* The samples taken, out of what gunwaleish_watch_listen gave. */
+static inline uint64_t gunwaleish_taken(uint64_t packed) {
+    return packed >> 8;
+}
+
+/* What a listener counted, by its place in the buffer. */
+static inline uint64_t gunwaleish_watch_count(const uint8_t *watch, enum gunwaleish_watch_places place) {
+    uint64_t count = 0;
+    unsigned i;
+    for (i = 8; i-- > 0;) {
+        count = count << 8 | watch[(unsigned)place + i];
+    }
+    return count;
+}
+
+/* A READ that was heard: its sample, the master, the register, the byte on SDA, and the byte that the model answers. */
+struct gunwaleish_heard {
+    uint64_t sample;
+    uint8_t master;
+    uint8_t reg;
+    uint8_t heard;
+    uint8_t expected;
+};
+
+/* One of a listener's READs, by its place in the buffer. */
+static inline struct gunwaleish_heard gunwaleish_watch_read(const uint8_t *watch, enum gunwaleish_watch_places place) {
+    struct gunwaleish_heard read;
+    read.sample = gunwaleish_watch_count(watch, place);
+    read.master = watch[(unsigned)place + 8];
+    read.reg = watch[(unsigned)place + 9];
+    read.heard = watch[(unsigned)place + 10];
+    read.expected = watch[(unsigned)place + 11];
+    return read;
 }
 
 /* The sheet, and the byte of it at which the box starts, out of what gunwaleish_sheet_box gave. */

@@ -90,6 +90,25 @@ uint64_t WRAPPED(gunwaleish_import_capture)(const uint8_t *samples, uint64_t sam
     return result;
 }
 
+uint32_t WRAPPED(gunwaleish_watch_fresh)(uint8_t kind, uint8_t address, uint32_t every, uint8_t below, uint8_t *watch, uint64_t watch_len) {
+    uint64_t result;
+    byte(kind), byte(address), byte(below);
+    VALUE(every);
+    lent(watch, watch_len);
+    CALLED(result, CALL_FN_W_6W, kind, address, every, below, watch, watch_len);
+    WROTE(watch, gunwaleish_number(result) == GUNWALEISH_DONE ? watch_len : 0);
+    return (uint32_t)result;
+}
+
+uint64_t WRAPPED(gunwaleish_watch_listen)(const uint8_t *samples, uint64_t samples_len, uint8_t *watch, uint64_t watch_len) {
+    uint64_t result;
+    in(samples, samples_len);
+    in(watch, watch_len);
+    CALLED(result, CALL_FN_W_WWWW, samples, samples_len, watch, watch_len);
+    WROTE(watch, watch_len);
+    return result;
+}
+
 uint64_t WRAPPED(gunwaleish_sheet_box)(const uint8_t *board, uint64_t board_len, const uint8_t *house, uint64_t house_len, uint8_t section,
                                        uint8_t controller) {
     uint64_t result;

@@ -1,7 +1,7 @@
 /* Every refusal of every call, by its name in the header, in the order in which the header has them. What a refused call was lent is as it was. */
 #include "expect.h"
 
-#define ROOM 64
+#define ROOM (GUNWALEISH_WATCH_BYTES + 2)
 #define LONG_EVENTS (4 * (GUNWALEISH_MOST_EVENTS + 1))
 
 static uint8_t room[ROOM];
@@ -93,6 +93,23 @@ static void captured(void) {
     refused("capture, cut", gunwaleish_import_capture(samples, clocks(5), 0x70, room, sizeof room), GUNWALEISH_BYTE_CUT);
     refused("capture, room", gunwaleish_import_capture(samples, clocks(18), 0x70, room, 3), GUNWALEISH_TOO_LITTLE_ROOM);
     expect("capture, room enough", gunwaleish_import_capture(samples, clocks(18), 0x70, room, 4), 256 * 1);
+}
+
+static void listeners(void) {
+    const uint64_t whole = GUNWALEISH_WATCH_BYTES;
+    fill();
+    for (uint64_t length = whole - 1; length <= whole + 1; length += 2) {
+        refused("listener, length", gunwaleish_watch_fresh(GUNWALEISH_PCA9641, 0x70, 0, 0, room, length), GUNWALEISH_OTHER_WATCH_LENGTH);
+        refused("listening, length", gunwaleish_watch_listen(samples, 1, room, length), GUNWALEISH_OTHER_WATCH_LENGTH);
+    }
+    refused("listener, kind", gunwaleish_watch_fresh((enum gunwaleish_kind_of_part)2, 0x78, 0, 0, room, whole), GUNWALEISH_NO_SUCH_PART);
+    refused("listener, below", gunwaleish_watch_fresh(GUNWALEISH_PCA9641, 0x78, 0, 2, room, whole), GUNWALEISH_NEITHER_BELOW);
+    refused("listener, address", gunwaleish_watch_fresh(GUNWALEISH_PCA9641, 0x78, 0, 1, room, whole), GUNWALEISH_ADDRESS_OUTSIDE);
+    refused("listening, damaged", gunwaleish_watch_listen(samples, 1, room, whole), GUNWALEISH_WATCH_OUT_OF_RANGE);
+    expect("listener", gunwaleish_watch_fresh(GUNWALEISH_PCA9641, 0x70, 0, 1, room, whole), GUNWALEISH_DONE);
+    memcpy(before, room, sizeof before);
+    room[whole - 4] = before[whole - 4] = 2;
+    refused("listening, master", gunwaleish_watch_listen(samples, 1, room, whole), GUNWALEISH_WATCH_OUT_OF_RANGE);
 }
 
 /* Two sheets: every box ticked on the board sheet, none on the house sheet. */
@@ -232,6 +249,7 @@ int main(void) {
     written();
     converted();
     captured();
+    listeners();
     sheets();
     images();
     shelves();

@@ -49,6 +49,40 @@ static void captures(void) {
     expect("none longer", gunwaleish_import_capture(samples, sizeof samples, 0x70, answers, sizeof answers), GUNWALEISH_TOO_MANY_SAMPLES);
 }
 
+/* A stream of five bytes on both buses at once, which read the device's ID as 00h, and a STOP inside a sixth: every place of a listener's buffer. */
+static void listeners(void) {
+    uint8_t watch[GUNWALEISH_WATCH_BYTES];
+    size_t at = level(level(0, 1, 1), 1, 0);
+    for (unsigned clock = 0; clock < 9 * 6 - 5; clock++) {
+        unsigned bit = clock < 8 ? 0xe1u >> (7 - clock) & 1 : 0;
+        at = level(level(at, 0, bit), 1, bit);
+    }
+    const size_t stop = level(at, 1, 1) - 1;
+    uint64_t taken = 0;
+    gunwaleish_watch_fresh(GUNWALEISH_TPT29641, 0x70, 50, 0, watch, sizeof watch);
+    while (taken <= stop) {
+        taken += gunwaleish_taken(gunwaleish_watch_listen(samples + taken, stop + 1 - taken, watch, sizeof watch));
+    }
+    const struct gunwaleish_heard first = gunwaleish_watch_read(watch, GUNWALEISH_WATCH_FIRST_DIFFERENCE);
+    const struct gunwaleish_heard last0 = gunwaleish_watch_read(watch, GUNWALEISH_WATCH_LAST_READ_0);
+    const struct gunwaleish_heard last1 = gunwaleish_watch_read(watch, GUNWALEISH_WATCH_LAST_READ_1);
+    expect("samples heard", gunwaleish_watch_count(watch, GUNWALEISH_WATCH_SAMPLES), stop + 1);
+    expect("events heard", gunwaleish_watch_count(watch, GUNWALEISH_WATCH_EVENTS), 2 * 4 + 2 + stop / 50);
+    expect("READs heard", gunwaleish_watch_count(watch, GUNWALEISH_WATCH_READS), 2 * 4);
+    expect("that differ", gunwaleish_watch_count(watch, GUNWALEISH_WATCH_DIFFERENCES), 2 * 4);
+    expect("faults", gunwaleish_watch_count(watch, GUNWALEISH_WATCH_FAULTS), 2);
+    expect("the first fault", gunwaleish_watch_count(watch, GUNWALEISH_WATCH_FIRST_FAULT), stop);
+    expect("the first difference", first.sample, 2 + 18 * 2 - 1);
+    expect("is master 0's", first.master, 0);
+    expect("of ID", first.reg, GUNWALEISH_REGISTER_ID);
+    expect("as it was heard", first.heard, 0);
+    expect("and not", first.expected, 0x38);
+    expect("the last READ of master 0", last0.sample, 2 + 18 * 5 - 1);
+    expect("is its own", last0.master, 0);
+    expect("and that of master 1", last1.sample, 2 + 18 * 5 - 1);
+    expect("its own too", last1.master, 1);
+}
+
 static void images(void) {
     uint8_t image[GUNWALEISH_IMAGE_BYTES];
     gunwaleish_image_fresh(GUNWALEISH_TPT29641, image, sizeof image);
@@ -160,6 +194,7 @@ static void straps(void) {
 int main(void) {
     traces();
     captures();
+    listeners();
     images();
     orders();
     sheets();

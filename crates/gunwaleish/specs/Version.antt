@@ -6,7 +6,7 @@ abbrev pub major : ℕ
 major = 1
 
 abbrev pub minor : ℕ
-minor = 0
+minor = 1
 
 abbrev pub patch : ℕ
 patch = 0

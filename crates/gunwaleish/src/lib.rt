@@ -34,7 +34,7 @@ ghost use Rattle.gunwaleish.specs.Version.{version};
 
 const MAJOR: u32 = 1;
 
-const MINOR: u32 = 0;
+const MINOR: u32 = 1;
 
 const PATCH: u32 = 0;
 
