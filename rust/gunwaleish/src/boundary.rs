@@ -95,6 +95,20 @@ extern "C" {
         totals: *mut u64,
         totals_len: u64,
     ) -> u32;
+    fn gunwaleish_watch_fresh(
+        kind: u8,
+        address: u8,
+        every: u32,
+        below: u8,
+        watch: *mut u8,
+        watch_len: u64,
+    ) -> u32;
+    fn gunwaleish_watch_listen(
+        samples: *const u8,
+        samples_len: u64,
+        watch: *mut u8,
+        watch_len: u64,
+    ) -> u64;
     fn gunwaleish_list_orders(
         script0: *const u8,
         script0_len: u64,
@@ -271,6 +285,21 @@ pub fn share_join(other: &[u64], totals: &mut [u64]) -> u32 {
     let (other, other_len) = (other.as_ptr(), other.len() as u64);
     // SAFETY: see the head of this file.
     unsafe { gunwaleish_share_join(other, other_len, totals.as_mut_ptr(), totals.len() as u64) }
+}
+
+/// The number. The buffer has a listener before its first sample, or is as it was.
+pub fn watch_fresh(kind: u8, address: u8, every: u32, below: u8, watch: &mut [u8]) -> u32 {
+    let (to, to_len) = (watch.as_mut_ptr(), watch.len() as u64);
+    // SAFETY: see the head of this file.
+    unsafe { gunwaleish_watch_fresh(kind, address, every, below, to, to_len) }
+}
+
+/// The number, then how many samples were taken, packed as 1 and 256. The buffer has the listener after
+/// them, or is as it was.
+pub fn watch_listen(samples: &[u8], watch: &mut [u8]) -> u64 {
+    let (from, from_len) = (samples.as_ptr(), samples.len() as u64);
+    // SAFETY: see the head of this file.
+    unsafe { gunwaleish_watch_listen(from, from_len, watch.as_mut_ptr(), watch.len() as u64) }
 }
 
 /// The number, then the count of listed orders, packed as 1 and 256.

@@ -134,6 +134,11 @@ impl Device {
         Ok(Device { image })
     }
 
+    /// The device of a listener, whose image the library keeps in range.
+    pub(crate) fn of_listener(image: &[u8; IMAGE_LENGTH]) -> Device {
+        Device { image: *image }
+    }
+
     /// Takes one event, an `Event` or four bytes, and gives its answer. An event that is refused, with
     /// 2, 3 or 4, changes nothing, and its answer shows the device.
     pub fn step(&mut self, event: impl Into<[u8; 4]>) -> Answer {

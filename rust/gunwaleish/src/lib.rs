@@ -42,6 +42,9 @@
 //! `Totals` is the bus share over many traces: for how many ticks each controller owned the bus, was
 //! connected, and waited.
 //!
+//! A `Watch` listens to both upstream buses of a real board, with the model beside the chip: each byte
+//! that the chip gives is held against the model's answer.
+//!
 //! Before both controllers' start-up scripts are packaged, `list_orders` tries them in all the orders
 //! that keep each script's own order, and says for each how the bus stands at its end.
 //!
@@ -50,7 +53,7 @@
 //! # Without the standard library
 //!
 //! The calls whose names end in `_into`, and `run_trace`, work on bytes in lent buffers. They allocate nothing,
-//! and no more do `Device`, `Shelf`, `Totals`, order sheets and straps. With `default-features = false`
+//! and no more do `Device`, `Shelf`, `Totals`, `Watch`, order sheets and straps. With `default-features = false`
 //! there is nothing else: the crate needs neither the standard library nor an allocator. The feature
 //! `alloc` adds the calls that give a `Vec` or a `String`; the feature `std`, which is on by default,
 //! is `alloc` where the standard library brings the allocator. `examples/embedded.rs` is a firmware's use
@@ -81,6 +84,7 @@ mod sheet;
 mod shelf;
 mod version;
 mod wait;
+mod watch;
 mod writing;
 
 pub use answer::{Answer, Bus, Ground, Outcome};
@@ -106,6 +110,7 @@ pub use sheet::{
 pub use shelf::{Shelf, MOST_RECORDS, RECORD_LENGTH};
 pub use version::{library_version, Version, VERSION};
 pub use wait::{sheet_wait, Wait};
+pub use watch::{Check, Watch, WatchSettings, WATCH_LENGTH};
 #[cfg(feature = "alloc")]
 pub use writing::{convert_trace, write_trace};
 pub use writing::{convert_trace_into, write_trace_into};

@@ -4,7 +4,7 @@ use core::fmt;
 
 /// A refusal of a whole call. The library keeps to the documents' numbers, and so does `number`.
 /// Where a number says one thing of a trace and another of an order sheet, an image, a start-up
-/// script, a shelf or totals, it has a name for each.
+/// script, a shelf, totals or a listener, it has a name for each.
 /// Later calls bring numbers of their own.
 #[derive(Clone, Copy, Debug, PartialEq, Eq, Hash)]
 #[non_exhaustive]
@@ -62,6 +62,10 @@ pub enum Refusal {
     TooManyTicks,
     /// 6: totals of the bus share are over 65,535 traces, or two of them over more together.
     TooManyTraces,
+    /// 9: a listener has not 142 bytes.
+    OtherWatchLength,
+    /// 16: a field of a listener is outside its range.
+    WatchOutOfRange,
     /// 17: two records of a shelf have the same address.
     EqualAddresses,
     /// 18: the address or place that is named is not in the shelf's row.
@@ -124,6 +128,15 @@ impl Refusal {
         }
     }
 
+    /// The refusal of this number by a call with a listener. 0 is no refusal.
+    pub(crate) fn of_watch(number: u8) -> Option<Refusal> {
+        match number {
+            9 => Some(Refusal::OtherWatchLength),
+            16 => Some(Refusal::WatchOutOfRange),
+            _ => Refusal::of(number),
+        }
+    }
+
     /// The refusal of this number by a call with start-up scripts. 0 is no refusal.
     pub(crate) fn of_scripts(number: u8) -> Option<Refusal> {
         match number {
@@ -143,14 +156,17 @@ impl Refusal {
             | Refusal::TooManyTraces => 6,
             Refusal::BytesAfterEnd | Refusal::BytesAfterSheet => 7,
             Refusal::NoSuchStrapping => 8,
-            Refusal::TooLittleRoom | Refusal::OtherLength | Refusal::OtherRowLength => 9,
+            Refusal::TooLittleRoom
+            | Refusal::OtherLength
+            | Refusal::OtherRowLength
+            | Refusal::OtherWatchLength => 9,
             Refusal::WrongCount | Refusal::WrongBoxCount => 10,
             Refusal::AddressOutside => 11,
             Refusal::ByteCut => 12,
             Refusal::TooManySamples => 13,
             Refusal::EmptyBox => 14,
             Refusal::NoSuchBox => 15,
-            Refusal::ImageOutOfRange => 16,
+            Refusal::ImageOutOfRange | Refusal::WatchOutOfRange => 16,
             Refusal::EqualAddresses => 17,
             Refusal::NotInRow => 18,
             Refusal::Unknown(number) => number,
@@ -185,6 +201,10 @@ impl fmt::Display for Refusal {
             Refusal::OtherLength => "the image of a device has 38 bytes, and these are not so many",
             Refusal::ImageOutOfRange => {
                 "a field of the image has a value that no run from power-up gives it"
+            }
+            Refusal::OtherWatchLength => "a listener has 142 bytes, and these are not so many",
+            Refusal::WatchOutOfRange => {
+                "a field of the listener has a value that no samples give it"
             }
             Refusal::EmptyRow => "the shelf has no record",
             Refusal::LongRow => "the shelf has more than 16 records",
