@@ -26,6 +26,18 @@ impl fmt::Display for Cut {
     }
 }
 
+impl Cut {
+    /// The same with its sample counted elsewhere: in a capture of which some samples were left out.
+    pub fn at(self, places: &dyn Fn(usize) -> u64) -> Cut {
+        match self {
+            Cut::Condition { bus, sample, is_start } => {
+                Cut::Condition { bus, sample: places(sample) as usize, is_start }
+            }
+            end => end,
+        }
+    }
+}
+
 /// What a capture is refused for, bus by bus, and of each bus what comes first.
 pub fn cuts(samples: &[u8], address: u8) -> Vec<Cut> {
     Master::BOTH.into_iter().filter_map(|bus| cut(samples, address, bus)).collect()

@@ -66,6 +66,19 @@ pub fn each_trace(
 
 impl<F: Fn(&Input) -> Made> Each<F> {
     pub fn run(&self, arguments: &Arguments) -> Result<(), Failure> {
+        let make = |file: &Path| Ok((self.make)(&files::read(file, self.most)?));
+        EachFile { ending: self.ending, make }.run(arguments)
+    }
+}
+
+/// The same of a command that reads its files itself.
+pub struct EachFile<F: Fn(&Path) -> Result<Made, Failure>> {
+    pub ending: &'static str,
+    pub make: F,
+}
+
+impl<F: Fn(&Path) -> Result<Made, Failure>> EachFile<F> {
+    pub fn run(&self, arguments: &Arguments) -> Result<(), Failure> {
         let standard = [PathBuf::from("-")];
         let files = match arguments.files.is_empty() {
             true => &standard[..],
@@ -79,7 +92,7 @@ impl<F: Fn(&Input) -> Made> Each<F> {
     }
 
     fn one(&self, file: &Path, output: Option<&Path>) -> Result<(), Failure> {
-        (self.make)(&files::read(file, self.most)?).hand_out(output)
+        (self.make)(file)?.hand_out(output)
     }
 
     /// A file that fails is told, and the others go on.

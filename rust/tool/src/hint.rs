@@ -7,6 +7,7 @@ use gunwaleish::{convert_trace, run_trace, Pins, Sheet, MOST_EVENTS, SHEET_LENGT
 use crate::files::Input;
 use crate::form;
 use crate::order::faults::fault;
+use crate::samples::form::VCD;
 use crate::script::{each_line, Unread, Words};
 use crate::seen::Seen;
 use crate::share::kept;
@@ -94,9 +95,11 @@ pub fn said(kind: Kind, wanted: Kind) -> Option<String> {
             "looks like a listing, which gunwaleish list makes of a trace, and nothing reads"
                 .to_string()
         }
-        Kind::Zip => "looks like a zip file, as a sigrok session is one (.sr): sigrok-cli makes a \
-                      capture of that, docs/CAPTURES.md tells how, and gunwaleish import takes it"
-            .to_string(),
+        Kind::Zip => {
+            "looks like a zip file, as a sigrok session is one (.sr): gunwaleish import takes \
+                      that, if sigrok-cli is installed, and docs/CAPTURES.md tells more"
+                .to_string()
+        }
         Kind::Gzip => "is compressed: gunzip gives what is in it".to_string(),
         Kind::Vcd => exported("a VCD file of waveforms"),
         // The name of a box has commas too.
@@ -120,7 +123,7 @@ pub fn said(kind: Kind, wanted: Kind) -> Option<String> {
 
 fn exported(what: &str) -> String {
     format!(
-        "looks like {what}: gunwaleish import reads a capture of one byte a sample, and \
+        "looks like {what}: gunwaleish import reads one that has the lines of both buses, and \
          docs/CAPTURES.md tells how one is exported"
     )
 }
@@ -195,9 +198,6 @@ fn is_text(bytes: &[u8]) -> bool {
     let control = |byte: &u8| *byte < b' ' && !b"\t\r\n\x0C".contains(byte);
     !bytes.iter().any(|byte| control(byte) || *byte == 0x7F)
 }
-
-/// How VCD begins.
-const VCD: [&str; 6] = ["$date", "$version", "$timescale", "$comment", "$scope", "$var"];
 
 /// What a text looks like, by its first line that says something.
 fn kind_of_text(bytes: &[u8]) -> Option<Kind> {

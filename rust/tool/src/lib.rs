@@ -10,7 +10,8 @@
 //! is safe by all of that, and `picture` draws. `commands` has a file for each subcommand; the help, `manual`
 //! and `completion` are made from its table. `arguments`, `options`, `files`, `walk` and `each` are the way
 //! from the command line to the files and back; `columns` and `wrap` keep lines short, `table` and `json`
-//! write rows for other programs, and `hint` says what a wrong file is.
+//! write rows for other programs, `samples` reads captures in all their forms, and `hint` says what a wrong
+//! file is.
 
 pub mod arguments;
 pub mod columns;
@@ -31,6 +32,7 @@ pub mod options;
 pub mod order;
 pub mod picture;
 pub mod release;
+pub mod samples;
 pub mod script;
 pub mod seen;
 pub mod sha256;

@@ -21,12 +21,14 @@ pub fn of(command: &Command) -> impl Iterator<Item = &str> {
 pub fn takes(option: &str) -> &'static str {
     match option {
         "--address" => "an address in hex, such as 71",
+        "--channels" => "names with commas between them, such as D0,D1,D2,D3",
         "--controller" => "a controller, 0 or 1",
         "--from" | "--to" => "a number of ticks",
         "--most" => "a count of milliseconds",
         "--order" => "a pattern, such as 000111",
         "--part" => "a part, PCA9641 or TPT29641",
         "--pins" => "the four codes of AD3, AD2, AD1 and AD0",
+        "--samplerate" => "samples a second, such as 1M",
         "--threads" => "a number of at least 1",
         "--traces" => "the name of a trace or of a folder of them",
         "--without-limit" => "a controller, 0 or 1, or the word both",
