@@ -23,12 +23,14 @@ pub fn takes(option: &str) -> &'static str {
         "--address" => "an address in hex, such as 71",
         "--channels" => "names with commas between them, such as D0,D1,D2,D3",
         "--controller" => "a controller, 0 or 1",
+        "--follow" => "a number of seconds",
         "--from" | "--to" => "a number of ticks",
         "--most" => "a count of milliseconds",
         "--order" => "a pattern, such as 000111",
         "--part" => "a part, PCA9641 or TPT29641",
         "--pins" => "the four codes of AD3, AD2, AD1 and AD0",
         "--samplerate" => "samples a second, such as 1M",
+        "--sheets" => "the names of the board sheet and the house sheet",
         "--threads" => "a number of at least 1",
         "--traces" => "the name of a trace or of a folder of them",
         "--without-limit" => "a controller, 0 or 1, or the word both",
@@ -41,7 +43,7 @@ pub fn takes(option: &str) -> &'static str {
 /// True if a file is named after an option that has a word after it.
 pub fn names_file(option: &str) -> bool {
     let release = ["--board", "--house", "--start0", "--start1", "--shelf", "--shelf-script"];
-    let others = ["-o", "--output", "--totals", "--traces"];
+    let others = ["-o", "--output", "--sheets", "--totals", "--traces"];
     release.contains(&option) || others.contains(&option)
 }
 

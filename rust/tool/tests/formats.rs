@@ -15,12 +15,14 @@ use gunwaleish_tool::share::rows::COLUMNS as SHARE;
 use gunwaleish_tool::shelf::rows::{EVENTS, PLACES};
 use gunwaleish_tool::startup::rows::COLUMNS as ORDERS;
 use gunwaleish_tool::table::Columns;
+use gunwaleish_tool::watch::rows::COLUMNS as WATCH;
 
 const SHELF: &str = "traces/shelf/chassis.shelf traces/shelf/hang.script";
+const CAPTURE: &str = "traces/take-over-early.vcd --address 71 --part PCA9641";
 const STARTS: &str = "traces/orders/start0.script traces/orders/start1.script";
 
 /// The columns of each command, by its heading on the page, with a command line that has them.
-fn commands() -> [(&'static str, Columns, String); 6] {
+fn commands() -> [(&'static str, Columns, String); 7] {
     [
         ("share", SHARE, "share traces/m1.trace traces/pair.trace".to_string()),
         ("orders", ORDERS, format!("orders {STARTS}")),
@@ -28,6 +30,7 @@ fn commands() -> [(&'static str, Columns, String); 6] {
         ("shelf --list", EVENTS, format!("shelf {SHELF} --list")),
         ("run", RUN, "run traces/m1.trace traces/pair.trace".to_string()),
         ("explain", EXPLAIN, "explain traces/m1.trace".to_string()),
+        ("watch", WATCH, format!("watch {CAPTURE} --samplerate 400k")),
     ]
 }
 

@@ -17,6 +17,7 @@ pub mod run;
 pub mod share;
 pub mod sheet;
 pub mod shelf;
+pub mod watch;
 pub mod wave;
 
 use crate::arguments::Arguments;
@@ -51,6 +52,7 @@ pub const COMMANDS: &[Command] = &[
     compose::COMMAND,
     decompose::COMMAND,
     import::COMMAND,
+    watch::COMMAND,
     convert::COMMAND,
     wave::COMMAND,
     picture::COMMAND,
