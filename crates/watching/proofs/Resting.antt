@@ -13,6 +13,7 @@ use Rattle.arbiter.specs.Words.{if_then_else_}
 use Rattle.arbiter.proofs.Choice.{split, if-true, if-false, not-true}
 use Rattle.arbiter.specs.declared.Event.{Event}
 use Rattle.capture.specs.declared.Given.the-variants.{Nothing}
+use Rattle.capture.specs.declared.Listener.{Listener}
 use Rattle.capture.specs.declared.Both.{Both}
 use Rattle.capture.specs.declared.Heard.{Heard}
 use Rattle.capture.specs.Events.{together}
@@ -23,7 +24,7 @@ use Rattle.watch.specs.declared.Settings.{Settings}
 use Rattle.watch.specs.declared.Ear.{Ear}
 use Rattle.watch.specs.declared.Tally.{Tally}
 use Rattle.watch.specs.declared.Watcher.{Watcher}
-use Rattle.watch.specs.Sample.{levelsBelow, linesGiven, heardNow, bothMended, faultsIn, isTimed, isDue, ticksGiven, sinceAfter, eventsAt, earAfter}
+use Rattle.watch.specs.Sample.{levelsBelow, linesGiven, heardNow, mended, bothMended, faultsIn, isTimed, isDue, ticksGiven, sinceAfter, eventsAt, earAfter}
 use Rattle.watch.specs.Stream.{top, upTo, plus, followedAll, faultWith, withSample, eventsNow, faultsNow, heardBy, watchedAt, watched}
 use Rattle.watch.specs.Told.{tells, taken}
 use Rattle.watch.proofs.Sums.{plus-twice, plus-below}
@@ -70,7 +71,9 @@ pub ready-far : (c : Settings) (e : Ear) (n : ℕ) → isReady c e n ≡ true �
 ready-far c e n r f = ltb-true (e .since + n) (c .every) (sym (ap (λ (b : Bool). b || ltb (e .since + n) (c .every)) f) ∙ ready c e n r .soon)
 
 pub soon-room : (every since : ℕ) → since < every → (eqb every 0 || ltb (since + (every - since - 1)) every) ≡ true
-soon-room every since h = simp (ne-eqb every 0 (λ p. absurd (let small : since < every = h in omega (arith, p))), lt-ltb (since + (every - since - 1)) every (omega arith))
+soon-room every since h =
+    let some = ne-eqb every 0 (λ p. absurd (let small : since < every = h in omega (arith, p))) in
+    simp (some, lt-ltb (since + (every - since - 1)) every (omega arith))
 
 pub or-true : (b : Bool) → (b || true) ≡ true
 or-true true = refl
@@ -84,6 +87,10 @@ pub ready-still : (c : Settings) (e : Ear) (room n : ℕ) → (eqb room 0 || isR
 ready-still c e room n r h some =
     fewer c e room n h
     (split (eqb room 0) (λ t. let none = eqb-true room 0 t in absurd (some (omega arith))) (λ f. sym (ap (λ (b : Bool). b || isReady c e room) f) ∙ r))
+
+-- where nothing is broken there is nothing to mend
+unbroken : (l : Listener) → l .broken ≡ false → mended l ≡ l
+unbroken l whole = λ j. record { awaited = l .awaited; clocks = l .clocks; value = l .value; owed = l .owed; broken = sym whole j }
 
 -- ---- one of them
 
@@ -127,14 +134,16 @@ module _ (w : Watcher) (r : Ready (w .settings) (w .ear) 1) where
   events-none = simp (lines-none, heard-none, ticks-none)
 
   mended-both : bothMended (w .ear .both) ≡ w .ear .both
-  mended-both = λ j. record { bus0 = record { awaited = w .ear .both .bus0 .awaited; clocks = w .ear .both .bus0 .clocks; value = w .ear .both .bus0 .value; owed = w .ear .both .bus0 .owed; broken = sym (r .whole0) j }; bus1 = record { awaited = w .ear .both .bus1 .awaited; clocks = w .ear .both .bus1 .clocks; value = w .ear .both .bus1 .value; owed = w .ear .both .bus1 .owed; broken = sym (r .whole1) j } }
+  mended-both = λ j. record { bus0 = unbroken (w .ear .both .bus0) (r .whole0) j; bus1 = unbroken (w .ear .both .bus1) (r .whole1) j }
 
   faults-none : faultsNow (w .ear .before) w ≡ 0
   faults-none = ap (λ (h : Heard). faultsIn (h .both)) heard-none ∙ simp (r .whole0, r .whole1)
 
   ear-one : earAfter (w .settings) (w .ear .before) (w .ear) ≡ earRested (w .settings) (w .ear) 1
   unfolding earAfter earRested
-  ear-one = λ j. record { begun = sym (r .begun) j; before = w .ear .before; since = since-one j; both = (ap (λ (h : Heard). bothMended (h .both)) heard-none ∙ mended-both) j }
+  ear-one =
+      let both : bothMended (heardNow (w .settings) (w .ear .before) (w .ear) .both) ≡ w .ear .both = ap (λ (h : Heard). bothMended (h .both)) heard-none ∙ mended-both in
+      λ j. record { begun = sym (r .begun) j; before = w .ear .before; since = since-one j; both = both j }
 
   pub still-one : watchedAt (w .ear .before) w ≡ rested 1 w
   unfolding watchedAt heardBy followedAll rested withSample withSamples
@@ -186,7 +195,8 @@ ready-next n w r = record { begun = r .begun; whole0 = r .whole0; whole1 = r .wh
     soon : (eqb (w .settings .every) 0 || ltb ((if eqb (w .settings .every) 0 then 0 else w .ear .since + 1) + n) (w .settings .every)) ≡ true
     soon =
         split (eqb (w .settings .every) 0) (λ t. rw t refl)
-        (λ f. let far = ltb-true (w .ear .since + suc n) (w .settings .every) (sym (ap (λ (b : Bool). b || ltb (w .ear .since + suc n) (w .settings .every)) f) ∙ r .soon) in
+        (λ f. let later = sym (ap (λ (b : Bool). b || ltb (w .ear .since + suc n) (w .settings .every)) f) ∙ r .soon in
+        let far = ltb-true (w .ear .since + suc n) (w .settings .every) later in
         rw f (lt-ltb (w .ear .since + 1 + n) (w .settings .every) (omega arith)))
 
 ready-first : (n : ℕ) (c : Settings) (e : Ear) → Ready c e (suc n) → Ready c e 1
@@ -230,7 +240,8 @@ unfolding taken
 one-taken y zs w p r =
     ap (λ (v : Watcher). if tells (w .tally) (v .tally) then 1 else 1 + taken zs v) (one-watched y w p r) ∙ if-false _ _ (nothing-told w)
 
-pub taken-all : (ys : List ℕ) (y : ℕ) (zs : List ℕ) (w : Watcher) → Ready (w .settings) (w .ear) (length (y ∷ ys)) → areAll (w .ear .before) (y ∷ ys) ≡ true
+pub taken-all : (ys : List ℕ) (y : ℕ) (zs : List ℕ) (w : Watcher) → Ready (w .settings) (w .ear) (length (y ∷ ys))
+    → areAll (w .ear .before) (y ∷ ys) ≡ true
     → taken ((y ∷ ys) ++ zs) w ≡ length (y ∷ ys) + taken zs (rested (length (y ∷ ys)) w)
 unfolding rested earRested
 taken-all [] y zs w r a = one-taken y zs w (one-alike (w .ear .before) y [] a .0) r

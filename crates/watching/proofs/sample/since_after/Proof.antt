@@ -16,7 +16,9 @@ is-due-requires c κs = search needs
 add-result : tie.Need-add-result
 add-result c =
     let s = c .before .before .before .before in
-    let far = due-far (c .before .before .before .is-timed .result) (c .before .before .is-due .result) (s .args .e .since) (s .args .c .every) (c .before .if1 .taken) (c .before .before .is-due .ensures) in
+    let timed = c .before .before .before .is-timed .result in
+    let due = c .before .before .is-due in
+    let far = due-far timed (due .result) (s .args .e .since) (s .args .c .every) (c .before .if1 .taken) (due .ensures) in
     omega (arith, far)
 
 returns : tie.Need-returns
