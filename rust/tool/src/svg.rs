@@ -4,7 +4,7 @@ use std::fmt::{self, Write};
 
 /// A number with one digit behind its point. A long picture has a hundred thousand of them, and the standard library takes
 /// its time to be exact.
-struct Tenths(f64);
+pub struct Tenths(pub f64);
 
 impl fmt::Display for Tenths {
     fn fmt(&self, f: &mut fmt::Formatter) -> fmt::Result {
@@ -15,8 +15,84 @@ impl fmt::Display for Tenths {
         if middle || self.0.is_sign_negative() || !(0.0..1e9).contains(&self.0) {
             return write!(f, "{:.1}", self.0);
         }
-        let whole = below as u64 + u64::from(tenths - below > 0.5);
-        write!(f, "{}.{}", whole / 10, whole % 10)
+        let mut rest = below as u64 + u64::from(tenths - below > 0.5);
+        let mut letters = [b'0'; 12];
+        letters[10] = b'.';
+        for place in [11, 9, 8, 7, 6, 5, 4, 3, 2, 1, 0] {
+            letters[place] += (rest % 10) as u8;
+            rest /= 10;
+        }
+        let first = letters[..9].iter().position(|letter| *letter != b'0').unwrap_or(9);
+        f.write_str(std::str::from_utf8(&letters[first..]).unwrap_or_default())
+    }
+}
+
+/// Shapes of one look that stand in few elements, since a browser takes its time for each element. It takes its time for an element of very
+/// many shapes too, which it cannot fill the quick way: so there are several.
+#[derive(Default)]
+pub struct Joined {
+    paths: Vec<String>,
+    /// So much fits into the last of them.
+    room: usize,
+}
+
+/// The room of an element: 16 boxes, or 64 signs.
+const ROOM: usize = 64;
+const BOX: usize = 4;
+const SIGN: usize = 1;
+
+impl Joined {
+    /// Where a shape that takes so much room is to be written.
+    fn path(&mut self, takes: usize) -> &mut String {
+        if self.room < takes {
+            self.paths.push(String::new());
+            self.room = ROOM;
+        }
+        self.room -= takes;
+        let last = self.paths.len() - 1;
+        &mut self.paths[last]
+    }
+
+    pub fn rect(&mut self, [x, y, width, height]: [f64; 4]) -> &mut Joined {
+        let [x, y, width, height] = [x, y, width.max(0.0), height].map(Tenths);
+        let _ = write!(self.path(BOX), "M{x} {y}h{width}v{height}h-{width}z");
+        self
+    }
+
+    /// A line through these points. Along a line or a column the other number is left out.
+    pub fn line(&mut self, points: &[[f64; 2]]) -> &mut Joined {
+        let Some((first, rest)) = points.split_first() else {
+            return self;
+        };
+        let [x, y] = first.map(Tenths);
+        let path = self.path(SIGN);
+        let _ = write!(path, "M{x} {y}");
+        let mut last = first;
+        for point in rest {
+            let [x, y] = point.map(Tenths);
+            let _ = match (last[0] == point[0], last[1] == point[1]) {
+                (true, true) => continue,
+                (true, false) => write!(path, "V{y}"),
+                (false, true) => write!(path, "H{x}"),
+                (false, false) => write!(path, "L{x} {y}"),
+            };
+            last = point;
+        }
+        self
+    }
+
+    /// A small cross, for what is refused.
+    pub fn cross(&mut self, [x, y]: [f64; 2], size: f64) -> &mut Joined {
+        let [x, y, side] = [x - size, y - size, 2.0 * size].map(Tenths);
+        let _ = write!(self.path(SIGN), "M{x} {y}l{side} {side}m0-{side}l-{side} {side}");
+        self
+    }
+
+    /// A small triangle that points downwards, for what is dropped.
+    pub fn triangle(&mut self, [x, y]: [f64; 2], size: f64) -> &mut Joined {
+        let [x, y, side, half] = [x - size, y - size, 2.0 * size, size].map(Tenths);
+        let _ = write!(self.path(SIGN), "M{x} {y}h{side}l-{half} {side}z");
+        self
     }
 }
 
@@ -45,14 +121,12 @@ impl Drawing {
         );
     }
 
-    /// A line through these points.
-    pub fn path(&mut self, class: &str, points: &[[f64; 2]]) {
-        let mut path = String::new();
-        for (place, point) in points.iter().enumerate() {
-            let [x, y] = point.map(Tenths);
-            let _ = write!(path, "{}{x} {y}", if place == 0 { "M" } else { " L" });
+    /// Shapes of one look, in few elements; in none if there is no shape.
+    pub fn joined(&mut self, class: &str, Joined { paths, .. }: &Joined, tip: &str) {
+        for path in paths {
+            let _ = write!(self.shapes, "<path class=\"{class}\" d=\"{path}\"");
+            self.close("path", &title(tip));
         }
-        let _ = writeln!(self.shapes, "<path class=\"{class}\" d=\"{path}\"/>");
     }
 
     pub fn text(&mut self, class: &str, place: [f64; 2], words: &str) {
@@ -69,17 +143,6 @@ impl Drawing {
             "<text class=\"{class}\" transform=\"translate({x} {y}) rotate(-90)\""
         );
         self.close("text", &(title(tip) + &escaped(words)));
-    }
-
-    /// A small cross, for what is refused.
-    pub fn cross(&mut self, class: &str, [x, y]: [f64; 2], size: f64) {
-        self.line(class, [x - size, y - size], [x + size, y + size]);
-        self.line(class, [x - size, y + size], [x + size, y - size]);
-    }
-
-    /// A small triangle that points downwards, for what is dropped.
-    pub fn triangle(&mut self, class: &str, [x, y]: [f64; 2], size: f64) {
-        self.path(class, &[[x - size, y - size], [x + size, y - size], [x, y + size]]);
     }
 
     fn close(&mut self, element: &str, inside: &str) {

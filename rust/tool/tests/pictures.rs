@@ -1,10 +1,12 @@
 //! Pictures: what is marked in them, how they fit on paper, and those of a shelf and of the bus share.
 
 mod common;
+mod shapes;
 
 use std::fs;
 
 use common::{code, root, run, said, told, Folder};
+use shapes::{boxes, joined, number};
 
 use gunwaleish::{write_trace, Event, Part};
 use gunwaleish_tool::commands::picture::{picture, picture_of, Window};
@@ -24,19 +26,6 @@ fn drawn(bytes: Vec<u8>) -> String {
 
 fn sample(name: &str) -> Vec<u8> {
     fs::read(root().join(format!("traces/{name}.trace"))).unwrap()
-}
-
-/// A number of an element, by its name.
-fn number(element: &str, name: &str) -> f64 {
-    let (_, rest) = element.split_once(&format!(" {name}=\"")).unwrap();
-    rest.split(['"', 'm']).next().unwrap().parse().unwrap()
-}
-
-/// The boxes of a class: x, y, width and height.
-fn boxes(picture: &str, class: &str) -> Vec<[f64; 4]> {
-    let begin = format!("<rect class=\"{class}\"");
-    let lines = picture.lines().filter(|line| line.starts_with(&begin));
-    lines.map(|line| ["x", "y", "width", "height"].map(|name| number(line, name))).collect()
 }
 
 /// How often a sign is drawn, that of the legend left out.
@@ -74,12 +63,13 @@ fn what_is_dropped_and_refused_is_marked() {
         let text = drawn(bytes);
         let bytes_dropped: usize =
             story.steps.iter().map(|step| step.dropped.iter().filter(|flag| **flag).count()).sum();
-        assert_eq!(signs(&text, "<path class=\"dropped\""), bytes_dropped);
-        // A cross has two lines, and a PAIR stands in both lanes.
+        // One more of each stands in the legend.
+        assert_eq!(joined(&text, "dropped").len(), bytes_dropped + 1);
+        // A PAIR stands in both lanes.
         let lanes = |event: Event| if matches!(event, Event::Pair { .. }) { 2 } else { 1 };
         let marked = story.steps.iter().filter(|step| step.answer.outcome.is_refused());
         let crosses: usize = marked.map(|step| lanes(step.event)).sum();
-        assert_eq!(text.matches("<line class=\"cross\"").count(), 2 * (crosses + 1));
+        assert_eq!(joined(&text, "cross").len(), crosses + 1);
         dropped += bytes_dropped;
         refused += crosses;
     }
@@ -188,7 +178,7 @@ fn a_run_in_a_page() {
         several += usize::from(grounds.len() > 1);
         assert_eq!(signs(&text, "<line class=\"end\""), 1);
         let refused = story.steps.iter().any(|step| step.answer.outcome.is_refused());
-        assert_eq!(text.matches("<line class=\"cross\"").count() > 2, refused);
+        assert_eq!(joined(&text, "cross").len() > 1, refused);
         for class in ["title", "verdict", "line", "paper"] {
             assert!(!text.contains(&format!("class=\"{class}\"")), "{class}");
         }

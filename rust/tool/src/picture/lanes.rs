@@ -2,9 +2,10 @@
 
 use gunwaleish::{Event, Master, Outcome};
 
-use super::places::{stretches, Places, LEFT};
+use super::places::{stretches, Piece, Places, LEFT};
+use super::signs::Signs;
 use crate::story::{Scene, Step, Story};
-use crate::svg::Drawing;
+use crate::svg::{Drawing, Joined};
 use crate::words;
 
 const BAR: f64 = 24.0;
@@ -66,13 +67,13 @@ impl Lane {
     /// A mark for each event, with its words if there is room, a cross if it is refused, and a triangle if
     /// its byte is dropped.
     fn events(self, drawing: &mut Drawing, story: &Story, (places, strip): Strip, y: f64) {
-        for step in &story.steps[places.on_strip(strip)] {
+        let (mut marks, mut crosses, mut drops) =
+            (Joined::default(), Signs::default(), Signs::default());
+        for step in story.steps[places.on_strip(strip)].iter().filter(|step| self.shows(step.event))
+        {
             let (_, x) = places.point(places.at[step.number - 1]);
-            if !self.shows(step.event) {
-                continue;
-            }
             if places.marked {
-                drawing.line("axis", [x, y - 4.0], [x, y + 4.0]);
+                marks.line(&[[x, y - 4.0], [x, y + 4.0]]);
             }
             if places.wordy {
                 let done = step.answer.outcome == Outcome::Done;
@@ -80,12 +81,15 @@ impl Lane {
                 drawing.upward_text(look, [x + 3.5, y - 7.0], &self.short(step), &tip(step));
             }
             if step.answer.outcome.is_refused() {
-                drawing.cross("cross", [x, y], 3.5);
+                crosses.at(x).map(|shapes| shapes.cross([x, y], 3.5));
             }
             if self.drops(step) {
-                drawing.triangle("dropped", [x, y], 4.0);
+                drops.at(x).map(|shapes| shapes.triangle([x, y], 4.0));
             }
         }
+        drawing.joined("axis", &marks, "");
+        drawing.joined("cross", &crosses.shapes, "");
+        drawing.joined("dropped", &drops.shapes, "");
     }
 
     /// True if a byte of this lane's controller is dropped.
@@ -103,8 +107,53 @@ impl Lane {
 /// The places, and the strip that is drawn.
 pub type Strip<'a> = (&'a Places, usize);
 
-/// What a controller has: owns, connected, waits.
-type State = (bool, bool, bool);
+/// What a bar shows of a controller.
+#[derive(Clone, Copy, PartialEq)]
+enum Has {
+    Bus,
+    OpenSwitch,
+    Wait,
+}
+
+impl Has {
+    const ALL: [Has; 3] = [Has::Bus, Has::OpenSwitch, Has::Wait];
+
+    fn of(scene: &Scene, master: Master) -> Option<Has> {
+        match (scene.owner == Some(master), scene.connected == Some(master)) {
+            (true, true) => Some(Has::Bus),
+            (true, false) => Some(Has::OpenSwitch),
+            _ => scene.waits[master as usize].then_some(Has::Wait),
+        }
+    }
+
+    fn class(self, master: Master) -> &'static str {
+        match self {
+            Has::Bus => ["c0", "c1"][master as usize],
+            Has::OpenSwitch => ["open0", "open1"][master as usize],
+            Has::Wait => "waits",
+        }
+    }
+
+    /// In words, and in one.
+    fn words(self) -> [&'static str; 2] {
+        match self {
+            Has::Bus => ["owns, connected", "owns"],
+            Has::OpenSwitch => ["owns, switch open", "owns"],
+            Has::Wait => ["waits", "waits"],
+        }
+    }
+
+    /// What a bar says: all of it, and shorter if there is no room.
+    fn bar_words(self, from: usize, to: usize) -> [String; 4] {
+        let [long, short] = self.words();
+        let (when, briefly) = match from == to {
+            true => (String::new(), String::new()),
+            false => (format!(", tick {from} to {to}"), format!(" {from} to {to}")),
+        };
+        let [all, shorter] = [long, short].map(|words| format!("{words}{when}"));
+        [all, shorter, format!("{short}{briefly}"), short.to_string()]
+    }
+}
 
 fn controller(drawing: &mut Drawing, story: &Story, on: Strip, master: Master, y: f64) {
     let m = master as usize;
@@ -115,7 +164,8 @@ fn controller(drawing: &mut Drawing, story: &Story, on: Strip, master: Master, y
     bands(drawing, story, on, ("int", &format!("INT{m} asserted")), band, |s| s.asserted[m]);
 }
 
-/// A bar wherever a controller owns the bus or waits for it, at this y and of this height.
+/// A bar wherever a controller owns the bus or waits for it, at this y and of this height. Bars that are too narrow to be
+/// pointed at are joined by what they show.
 pub fn bars(
     drawing: &mut Drawing,
     story: &Story,
@@ -123,43 +173,28 @@ pub fn bars(
     master: Master,
     [y, height]: [f64; 2],
 ) {
-    let m = master as usize;
-    let state = |scene: &Scene| -> State {
-        (scene.owner == Some(master), scene.connected == Some(master), scene.waits[m])
-    };
-    for (state, from, to) in stretches(story, state) {
-        let class = match state {
-            (true, true, _) => format!("c{m}"),
-            (true, false, _) => format!("open{m}"),
-            (_, _, true) => "waits".to_string(),
-            _ => continue,
-        };
-        let said = bar_words(state, story.tick_at(from), story.tick_at(to));
+    let mut narrow = Has::ALL.map(|_| Joined::default());
+    for (has, from, to) in stretches(story, |scene| Has::of(scene, master)) {
+        let Some(has) = has else { continue };
         for piece in places.span(story, from, to).iter().filter(|piece| piece.strip == strip) {
             let place = [piece.x, y, piece.width, height];
-            drawing.rect(&class, place, &format!("controller {m}: {}", said[0]));
+            if piece.width < places.pointed {
+                narrow[has as usize].rect(place);
+                continue;
+            }
+            let said = has.bar_words(story.tick_at(from), story.tick_at(to));
+            drawing.rect(has.class(master), place, &format!("controller {master}: {}", said[0]));
             let fits = |words: &&String| piece.width > BAR_LETTER * words.len() as f64 + 10.0;
             if let Some(words) = said.iter().find(fits) {
-                let look = if state.1 { "onbar" } else { "onlight" };
+                let look = if has == Has::Bus { "onbar" } else { "onlight" };
                 drawing.text(look, [piece.x + 6.0, y + height / 2.0 + 4.0], words);
             }
         }
     }
-}
-
-/// What a bar says: all of it, and shorter if there is no room.
-fn bar_words(state: State, from: usize, to: usize) -> Vec<String> {
-    let (long, short) = match state {
-        (true, true, _) => ("owns, connected", "owns"),
-        (true, false, _) => ("owns, switch open", "owns"),
-        _ => ("waits", "waits"),
-    };
-    let (when, briefly) = match from == to {
-        true => (String::new(), String::new()),
-        false => (format!(", tick {from} to {to}"), format!(" {from} to {to}")),
-    };
-    let shorter = [format!("{short}{when}"), format!("{short}{briefly}"), short.to_string()];
-    [vec![format!("{long}{when}")], shorter.to_vec()].concat()
+    for (has, bars) in Has::ALL.into_iter().zip(&narrow) {
+        let said = format!("controller {master}: {}", has.words()[0]);
+        drawing.joined(has.class(master), bars, &said);
+    }
 }
 
 fn bus(drawing: &mut Drawing, story: &Story, on: Strip, y: f64) {
@@ -182,14 +217,13 @@ fn level(
 ) {
     drawing.text("small", [14.0, y + LEVEL - 1.0], name);
     let height = |high: bool| if high { y } else { y + LEVEL };
-    let mut points: Vec<[f64; 2]> = vec![];
+    let (mut points, mut low): (Vec<[f64; 2]>, _) = (vec![], Joined::default());
     // Before the first event both lines are high.
     let mut was = true;
     for (high, from, to) in stretches(story, of) {
         for piece in places.span(story, from, to).iter().filter(|piece| piece.strip == strip) {
             if !high {
-                let place = [piece.x, y, piece.width, LEVEL];
-                drawing.rect("low", place, &format!("{name} low"));
+                low.rect([piece.x, y, piece.width, LEVEL]);
             }
             if points.is_empty() {
                 was = if piece.x > LEFT { was } else { high };
@@ -200,12 +234,13 @@ fn level(
             was = high;
         }
     }
-    drawing.path("wave", &points);
+    drawing.joined("low", &low, &format!("{name} low"));
+    drawing.joined("wave", Joined::default().line(&points), "");
 }
 
 /// A band wherever something is so, with its name on it if there is room. `look` is its class and
 /// its name, `[y, height]` its place.
-fn bands(
+pub fn bands(
     drawing: &mut Drawing,
     story: &Story,
     (places, strip): Strip,
@@ -213,16 +248,15 @@ fn bands(
     [y, height]: [f64; 2],
     of: impl Fn(&Scene) -> bool,
 ) {
-    for (there, from, to) in stretches(story, of) {
-        for piece in places.span(story, from, to) {
-            if !there || piece.strip != strip {
-                continue;
-            }
-            drawing.rect(class, [piece.x, y, piece.width, height], name);
-            if height > 10.0 && piece.width > BAR_LETTER * name.len() as f64 + 6.0 {
-                drawing.text("onbar", [piece.x + 4.0, y + 11.0], name);
-            }
-        }
+    let there = stretches(story, of).into_iter().filter(|(there, _, _)| *there);
+    let pieces = there.flat_map(|(_, from, to)| places.span(story, from, to));
+    let pieces: Vec<Piece> = pieces.filter(|piece| piece.strip == strip).collect();
+    let mut bands = Joined::default();
+    pieces.iter().for_each(|piece| _ = bands.rect([piece.x, y, piece.width, height]));
+    drawing.joined(class, &bands, name);
+    let wide = |piece: &&Piece| piece.width > BAR_LETTER * name.len() as f64 + 6.0;
+    for piece in pieces.iter().filter(wide).filter(|_| height > 10.0) {
+        drawing.text("onbar", [piece.x + 4.0, y + 11.0], name);
     }
 }
 

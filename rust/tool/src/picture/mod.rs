@@ -7,13 +7,14 @@ mod paper;
 mod places;
 pub mod share;
 pub mod shelf;
+mod signs;
 
 use std::ops::Range;
 
 use gunwaleish::{Event, Master};
 
 use crate::story::Story;
-use crate::svg::Drawing;
+use crate::svg::{Drawing, Joined};
 use crate::{summary, words};
 use lanes::Lane;
 pub use paper::style_in_page;
@@ -51,9 +52,18 @@ pub struct Source {
     pub size: usize,
 }
 
-/// Where each step of a run stands in a picture: x, and the top and the foot of its strip, in the picture's units; nothing of
-/// one that is not shown.
-pub type Spots = Vec<Option<[f64; 3]>>;
+/// Where the steps of a strip stand in a picture, in its units.
+pub struct Spot {
+    /// The number of the first event, from 1. The others follow it.
+    pub from: usize,
+    /// The top and the foot of the strip.
+    pub reach: [f64; 2],
+    /// Of each event.
+    pub x: Vec<f64>,
+}
+
+/// Where the steps of a run stand in a picture, strip by strip; one that is not shown stands nowhere.
+pub type Spots = Vec<Spot>;
 
 /// The picture of a run, or of these steps of it, as a file of SVG, and where the steps stand in it.
 pub fn draw(story: &Story, source: &Source, shown: Range<usize>) -> (String, Spots) {
@@ -104,15 +114,13 @@ fn title(story: &Story, file: &str, places: &Places) -> String {
 fn draw_strips(paper: &mut Paper, story: &Story, places: &Places) -> Spots {
     let lanes = [Lane::Controller(Master::Zero), Lane::Controller(Master::One), Lane::Bus];
     let heads = lanes.map(|lane| (lane, lane.head(story, places)));
-    let mut spots = vec![None; story.steps.len()];
-    for strip in 0..places.strips() {
+    let spot = |strip| {
         let [top, height] = draw_strip(paper, story, (places, strip), heads);
-        for step in places.on_strip(strip) {
-            let (_, x) = places.point(places.at[step]);
-            spots[step] = Some([x, top, top + height]);
-        }
-    }
-    spots
+        let on_strip = places.on_strip(strip);
+        let x = places.at[on_strip.clone()].iter().map(|at| places.point(*at).1).collect();
+        Spot { from: on_strip.start + 1, reach: [top, top + height], x }
+    };
+    (0..places.strips()).map(spot).collect()
 }
 
 /// One strip, with the room for words above each lane. Gives its top and the height of its lanes.
@@ -143,11 +151,13 @@ fn draw_strip(
 /// The ground of a strip, and on it the events that take no time.
 fn ground(drawing: &mut Drawing, places: &Places, strip: usize, [top, height]: [f64; 2]) {
     drawing.rect("ground", [LEFT, top, places.right(strip) - LEFT, height], "");
+    let mut apart = Joined::default();
     for stretch in &places.apart {
         for piece in places.pieces(*stretch).iter().filter(|piece| piece.strip == strip) {
-            drawing.rect("apart", [piece.x, top, piece.width, height], "");
+            apart.rect([piece.x, top, piece.width, height]);
         }
     }
+    drawing.joined("apart", &apart, "");
 }
 
 /// Ticks that are folded, and the end of the run.
@@ -157,10 +167,11 @@ fn marks(
     (strip, ends): (usize, bool),
     [top, height]: [f64; 2],
 ) {
+    let mut folds = Joined::default();
     for (stretch, ticks) in &places.folded {
         for piece in places.pieces(*stretch).iter().filter(|piece| piece.strip == strip) {
             for x in [piece.x, piece.x + piece.width] {
-                drawing.line("fold", [x, top], [x, top + height]);
+                folds.line(&[[x, top], [x, top + height]]);
             }
             if piece.width >= NUMBERED {
                 let place = [piece.x + piece.width / 2.0, top + height + 31.0];
@@ -168,6 +179,7 @@ fn marks(
             }
         }
     }
+    drawing.joined("fold", &folds, "");
     if ends && strip + 1 == places.strips() {
         let x = places.right(strip);
         drawing.line("end", [x, top], [x, top + height + 20.0]);
@@ -177,10 +189,12 @@ fn marks(
 
 /// The ticks below a strip. `ticks` has the number of each TICK's event and that of the tick.
 fn axis(drawing: &mut Drawing, places: &Places, strip: usize, ticks: &[(usize, usize)], y: f64) {
-    drawing.line("axis", [LEFT, y], [places.right(strip), y]);
+    let mut lines = Joined::default();
+    lines.line(&[[LEFT, y], [places.right(strip), y]]);
     drawing.text("lane", [14.0, y + 16.0], "ticks (ms)");
     let Some(first) = places.first_tick else {
-        return drawing.text("small", [LEFT, y + 16.0], "no tick: all of it takes no time");
+        drawing.text("small", [LEFT, y + 16.0], "no tick: all of it takes no time");
+        return drawing.joined("axis", &lines, "");
     };
     let shown = ticks.iter().filter(|(number, _)| places.shown.contains(&(number - 1)));
     let shown: Vec<(f64, usize)> =
@@ -196,11 +210,12 @@ fn axis(drawing: &mut Drawing, places: &Places, strip: usize, ticks: &[(usize, u
         let (here, x) = places.point(place);
         let apart = x - last >= 30.0;
         if here == strip && tick % every == 0 && apart && !is_inside_a_fold(places, place) {
-            drawing.line("axis", [x, y], [x, y + 5.0]);
+            lines.line(&[[x, y], [x, y + 5.0]]);
             drawing.text("middle", [x, y + 16.0], &tick.to_string());
             last = x;
         }
     }
+    drawing.joined("axis", &lines, "");
 }
 
 fn is_inside_a_fold(places: &Places, place: f64) -> bool {

@@ -1,7 +1,7 @@
 //! The paper that pictures are drawn on: A4 in landscape, as many pages below each other as it takes; or the
 //! width of a page of HTML.
 
-use crate::svg::Drawing;
+use crate::svg::{Drawing, Joined};
 use crate::version::TOOL;
 use crate::wrap::wrapped;
 
@@ -32,11 +32,11 @@ text { font: 11px 'DejaVu Sans', Verdana, Arial, sans-serif; fill: #222 }
 .initialising { fill: #64748b }
 .wave { fill: none; stroke: #222; stroke-width: 1.4 }
 .paper-line { stroke: #fff; stroke-width: 3 }
-.axis { stroke: #888 }
-.cross { stroke: #b00020; stroke-width: 2 }
+.axis { fill: none; stroke: #888 }
+.cross { fill: none; stroke: #b00020; stroke-width: 2 }
 .dropped { fill: #b45309 }
 .end { stroke: #222; stroke-width: 1.6 }
-.fold { stroke: #888; stroke-dasharray: 2 3 }
+.fold { fill: none; stroke: #888; stroke-dasharray: 2 3 }
 ";
 
 /// The class of a picture in a page of HTML.
@@ -138,13 +138,20 @@ impl Paper {
                     drawing.rect(class, [x + 16.0 * place as f64, y, 14.0, 10.0], "");
                 }
             }
-            Look::Cross => drawing.cross("cross", [x + 7.0, y + 5.0], 3.5),
-            Look::Dropped => drawing.triangle("dropped", [x + 7.0, y + 5.0], 5.0),
+            Look::Cross => {
+                let cross = &mut Joined::default();
+                drawing.joined("cross", cross.cross([x + 7.0, y + 5.0], 3.5), "");
+            }
+            Look::Dropped => {
+                let triangle = &mut Joined::default();
+                drawing.joined("dropped", triangle.triangle([x + 7.0, y + 5.0], 5.0), "");
+            }
             Look::Red => drawing.text("bad", [x + 1.0, y + 9.0], "ab"),
             Look::End => drawing.line("end", [x + 7.0, y - 1.0], [x + 7.0, y + 11.0]),
             Look::Fold => {
-                drawing.line("fold", [x + 3.0, y - 1.0], [x + 3.0, y + 11.0]);
-                drawing.line("fold", [x + 11.0, y - 1.0], [x + 11.0, y + 11.0]);
+                let upright = |x: f64| [[x, y - 1.0], [x, y + 11.0]];
+                let lines = &mut Joined::default();
+                drawing.joined("fold", lines.line(&upright(x + 3.0)).line(&upright(x + 11.0)), "");
             }
         }
     }

@@ -16,7 +16,7 @@ const WORDY: f64 = 10.0;
 /// The width of an event that has lost its words.
 const WORDLESS: f64 = 6.0;
 /// Events that are at least so wide have room for a mark.
-const MARKED: f64 = 2.0;
+pub const MARKED: f64 = 2.0;
 
 /// The room for the steps of a run.
 #[derive(Clone, Copy)]
@@ -26,16 +26,26 @@ pub struct Room {
     /// So many strips at the most, and so many with the words of the events.
     strips: usize,
     wordy: usize,
+    /// What is so wide a pointer can be laid on, and it says its own words there.
+    pointed: f64,
 }
 
-/// A file of its own goes on as long as the run.
-pub const FILE: Room = Room { strip: 906.0, strips: usize::MAX, wordy: usize::MAX };
+/// A file of its own goes on as long as the run. Whoever looks at it can make it larger, and then each event can be pointed at.
+pub const FILE: Room = Room { strip: 906.0, strips: usize::MAX, wordy: usize::MAX, pointed: 2.9 };
 /// A page of HTML is printed too, and a picture of so many strips stands on one sheet of A4.
-pub const PAGE: Room = Room { strip: 612.0, strips: 3, wordy: 1 };
+pub const PAGE: Room = Room { strip: 612.0, strips: 3, wordy: 1, pointed: 8.0 };
 
 impl Room {
     fn holds(&self, places: &Places) -> bool {
-        places.strips() <= if places.wordy { self.wordy } else { self.strips }
+        places.strips() <= self.most(places.wordy)
+    }
+
+    /// So many strips at the most, with the words of the events or without.
+    fn most(&self, wordy: bool) -> usize {
+        match wordy {
+            true => self.wordy,
+            false => self.strips,
+        }
     }
 }
 
@@ -82,6 +92,8 @@ pub struct Places {
     /// There is room for a mark of each event, and for its words.
     pub marked: bool,
     pub wordy: bool,
+    /// What is so wide says its own words under the pointer.
+    pub pointed: f64,
     /// The steps that are shown.
     pub shown: Range<usize>,
 }
@@ -94,6 +106,8 @@ struct Widths {
     fold: Option<f64>,
 }
 
+/// Widths that just fill a strip may add up to a little more.
+const SLACK: f64 = 0.5;
 /// As narrow as the words of an event can stand beside each other.
 const NARROW: f64 = 11.0;
 /// The width of a tick where quiet ones are folded.
@@ -136,9 +150,16 @@ impl Places {
     /// The places of these moments, of which some are shown. Ticks are all of one width, and so are the
     /// other events, which are no wider than `widest`.
     pub fn new(moments: &[Moment], shown: Range<usize>, widest: f64, room: Room) -> Places {
-        let mut widths = Widths::of(&moments[shown.clone()], widest, room.strip);
+        let inside = &moments[shown.clone()];
+        let mut widths = Widths::of(inside, widest, room.strip);
+        // Widths of which even the events alone are too many need not be laid, and for a very long run these are a dozen.
+        let events = inside.iter().filter(|moment| !moment.is_tick).count() as f64;
+        let most = |widths: Widths| (room.strip + SLACK) * room.most(widths.event > WORDY) as f64;
+        while widths.event * events > most(widths) {
+            widths = widths.narrower();
+        }
         loop {
-            let places = Places::laid(moments, shown.clone(), widths, room.strip);
+            let places = Places::laid(moments, shown.clone(), widths, room);
             if room.holds(&places) {
                 return places;
             }
@@ -146,18 +167,19 @@ impl Places {
         }
     }
 
-    fn laid(moments: &[Moment], shown: Range<usize>, widths: Widths, room: f64) -> Places {
+    fn laid(moments: &[Moment], shown: Range<usize>, widths: Widths, room: Room) -> Places {
         let inside = &moments[shown.clone()];
         let mut places = Places {
             at: vec![0.0; shown.start],
             end: 0.0,
             first_tick: None,
-            room,
+            room: room.strip,
             strips: vec![0.0],
             apart: vec![],
             folded: vec![],
             marked: widths.event >= MARKED,
             wordy: widths.event > WORDY,
+            pointed: room.pointed,
             shown,
         };
         let alike = |a: &Moment, b: &Moment| match widths.fold {
@@ -179,8 +201,7 @@ impl Places {
 
     /// Begins a new strip, if so much does not fit on this one any more.
     fn make_room(&mut self, width: f64) {
-        // Widths that just fill a strip may add up to a little more.
-        if self.end + width > self.strips.last().copied().unwrap_or(0.0) + self.room + 0.5 {
+        if self.end + width > self.strips.last().copied().unwrap_or(0.0) + self.room + SLACK {
             self.strips.push(self.end);
         }
     }

@@ -5,6 +5,7 @@ use gunwaleish::{Master, Totals};
 use super::paper::{Look, Paper};
 use super::places::LEFT;
 use crate::share::words::{per_cent, REFUSALS};
+use crate::svg::Joined;
 use crate::version::TOOL;
 use crate::words::{count, ticks};
 
@@ -90,10 +91,12 @@ fn row(paper: &mut Paper, totals: &Totals, name: &str, parts: &[(&str, u64, &str
 
 fn scale(paper: &mut Paper) {
     let y = paper.block(26.0);
-    paper.drawing.line("axis", [LEFT, y], [LEFT + WHOLE, y]);
+    let mut lines = Joined::default();
+    lines.line(&[[LEFT, y], [LEFT + WHOLE, y]]);
     for tenth in 0..=10 {
         let x = LEFT + WHOLE * f64::from(tenth) / 10.0;
-        paper.drawing.line("axis", [x, y], [x, y + 5.0]);
+        lines.line(&[[x, y], [x, y + 5.0]]);
         paper.drawing.text("middle", [x, y + 16.0], &format!("{} %", 10 * tenth));
     }
+    paper.drawing.joined("axis", &lines, "");
 }

@@ -2,12 +2,13 @@
 
 use gunwaleish::{Event, Master};
 
-use super::lanes::bars;
+use super::lanes::{bands, bars};
 use super::paper::{file_name, Look, Paper};
-use super::places::{stretches, Moment, Places, FILE, LEFT};
+use super::places::{Moment, Places, FILE, LEFT};
+use super::signs::Signs;
 use super::{axis, ground, marks, Source, AXIS};
 use crate::shelf::Shelved;
-use crate::story::Story;
+use crate::story::{Scene, Story};
 use crate::svg::Drawing;
 use crate::words::{count, ticks};
 
@@ -96,24 +97,19 @@ fn row(drawing: &mut Drawing, story: &Story, (places, strip): (&Places, usize), 
         bars(drawing, story, (places, strip), master, [y, BAR]);
     }
     let below = y + 2.0 * (BAR + 2.0);
+    let on = (places, strip);
     for (class, of) in [
-        ("initialising", (|scene| scene.initialising) as fn(&crate::story::Scene) -> bool),
+        ("initialising", (|scene| scene.initialising) as fn(&Scene) -> bool),
         ("hung", |scene| scene.hung),
     ] {
-        for (there, from, to) in stretches(story, of) {
-            for piece in places.span(story, from, to) {
-                if there && piece.strip == strip {
-                    drawing.rect(class, [piece.x, below, piece.width, BAND], class);
-                }
-            }
-        }
+        bands(drawing, story, on, (class, class), [below, BAND], of);
     }
-    for (step, _) in
-        story.steps.iter().zip(1..).filter(|(step, _)| step.answer.outcome.is_refused())
-    {
+    let mut crosses = Signs::default();
+    for step in story.steps.iter().filter(|step| step.answer.outcome.is_refused()) {
         let (here, x) = places.point(places.at[step.number - 1]);
         if here == strip {
-            drawing.cross("cross", [x, below + 2.0], 3.5);
+            crosses.at(x).map(|shapes| shapes.cross([x, below + 2.0], 3.5));
         }
     }
+    drawing.joined("cross", &crosses.shapes, "");
 }
