@@ -9,6 +9,8 @@
 
 use gunwaleish::{Event, Master};
 
+use super::words::small;
+
 /// In what a byte is written.
 #[derive(Clone, Copy, Debug, PartialEq, Eq)]
 pub enum Mark {
@@ -39,7 +41,7 @@ pub struct Written {
 
 /// The byte that a word is.
 pub fn read(word: &str) -> Option<Byte> {
-    let small = word.to_ascii_lowercase();
+    let small = small(word);
     let (value, mark) = if let Some(digits) = small.strip_prefix("0x") {
         (hex(digits)?, Mark::Hex)
     } else if let Some(digits) = small.strip_suffix("ms") {

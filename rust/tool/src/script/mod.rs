@@ -79,7 +79,7 @@ impl Reading {
         let Some(word) = words.word() else {
             return Ok(());
         };
-        match word.to_ascii_lowercase().as_str() {
+        match words::small(word).as_ref() {
             "pins" if self.pins.is_some() => Err(words.unread(word, PINS_ONCE)),
             "pins" => {
                 let codes = [words.byte()?, words.byte()?, words.byte()?, words.byte()?];
@@ -111,7 +111,7 @@ impl Reading {
             self.written.extend(bytes.map(|(master, byte)| Written { event, line, master, byte }));
         }
         let room = MOST_EVENTS + 1 - self.events.len();
-        self.events.extend(vec![first; times.min(room)]);
+        self.events.resize(self.events.len() + times.min(room), first);
         self.lines.resize(self.events.len(), words.line);
         if self.events.len() > MOST_EVENTS {
             self.overflow_line.get_or_insert(words.line);

@@ -37,6 +37,11 @@ fn with_name(input: &Input, warnings: Vec<String>) -> Vec<String> {
 }
 
 pub fn of_script(script: &Script) -> Vec<String> {
+    // Where no register could give one of these bytes a warning, the run is not needed.
+    let doubtful = |written: &Written| (0..8).any(|pointer| warning(written, pointer).is_some());
+    if !script.written.iter().any(doubtful) {
+        return vec![];
+    }
     let trace = write_trace(script.pins, script.part, &script.events);
     let Ok(run) = trace.and_then(|trace| run(&trace)) else {
         return vec![];

@@ -140,7 +140,7 @@ impl<'a> Words<'a> {
     /// The event that begins with this word, and how often it comes. If no event does, this was
     /// expected.
     pub fn events(&mut self, word: &str, expected: &'static str) -> Result<(Event, usize), Unread> {
-        let times = match word.to_ascii_lowercase().as_str() {
+        let times = match small(word).as_ref() {
             "tick" => self.ticks()?,
             _ => 1,
         };
@@ -148,7 +148,7 @@ impl<'a> Words<'a> {
     }
 
     fn event(&mut self, word: &str, expected: &'static str) -> Result<Event, Unread> {
-        Ok(match word.to_ascii_lowercase().as_str() {
+        Ok(match small(word).as_ref() {
             "command" => Event::Command { master: self.master()?, code: self.byte()? },
             "write" => Event::Write { master: self.master()?, value: self.byte()? },
             "read" => Event::Read { master: self.master()? },
@@ -164,6 +164,14 @@ impl<'a> Words<'a> {
             "raw" => Event::Raw([self.byte()?, self.byte()?, self.byte()?, self.byte()?]),
             _ => return Err(self.unread(word, expected)),
         })
+    }
+}
+
+/// A word in small letters. Most have no others, and a long script has thousands of words.
+pub fn small(word: &str) -> Cow<'_, str> {
+    match word.bytes().any(|byte| byte.is_ascii_uppercase()) {
+        true => word.to_ascii_lowercase().into(),
+        false => word.into(),
     }
 }
 
