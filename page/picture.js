@@ -16,7 +16,8 @@ const LOOK = `:host { position: relative }
   svg.run.laid .at { stroke: #b0005a; stroke-width: 2 }
   @media (prefers-color-scheme: dark) { ${DARK.join(' ')} }`;
 
-/** @type {WeakMap<HTMLElement, {places: number[][], line: Element}>} */
+/** @typedef {{from: number, top: number, foot: number, x: number[]}} Strip where the events of a strip stand, the first of which is `from` */
+/** @type {WeakMap<HTMLElement, {strips: Strip[], line: Element}>} */
 const pictures = new WeakMap();
 
 /**
@@ -41,8 +42,36 @@ function showPicture(host, svg, told, style = '') {
   drawn.classList.add('run', 'laid');
   drawn.setAttribute('role', 'img');
   drawn.setAttribute('aria-label', told);
-  root.replaceChildren(make('style', {}, `${style}\n${LOOK}`), drawn);
-  return drawn;
+  const look = `${style}\n${LOOK}`;
+  const [own, old] = root.children;
+  if (own?.textContent !== look || !(old instanceof SVGSVGElement)) {
+    root.replaceChildren(make('style', {}, look), drawn);
+    return drawn;
+  }
+  makeAlike(old, drawn);
+  return old;
+}
+
+/**
+ * Makes a drawing that is shown like a fresh one. What is the same in both is left alone, since the browser lays out what is new: at most keys names, words and
+ * signs stay where they are.
+ * @param {SVGSVGElement} old
+ * @param {SVGSVGElement} fresh
+ */
+function makeAlike(old, fresh) {
+  for (const { name, value } of fresh.attributes) if (old.getAttribute(name) !== value) old.setAttribute(name, value);
+  const [was, is] = [[...old.children], [...fresh.children]];
+  /** @type {Element | null} */
+  let after = null;
+  while (was.length && is.length && was[was.length - 1].isEqualNode(is[is.length - 1])) {
+    after = was.pop() ?? null;
+    is.pop();
+  }
+  is.forEach((shape, place) => {
+    if (place >= was.length) old.insertBefore(shape, after);
+    else if (!was[place].isEqualNode(shape)) was[place].replaceWith(shape);
+  });
+  was.slice(is.length).forEach((shape) => shape.remove());
 }
 
 /**
@@ -56,9 +85,8 @@ function drawTrace(host, trace, title) {
   const answer = ask('sketch', trace, title);
   const told = answer.ok ? textOf(answer, 1) : textOf(answer);
   const drawn = showPicture(host, answer.ok ? textOf(answer, 0) : '', told.replaceAll('\n', '; '), textOf(answer, 3));
-  const places = answer.ok ? placesOf(jsonOf(answer, 2)) : null;
   pictures.delete(host);
-  if (drawn && places) pictures.set(host, { places, line: layLine(drawn) });
+  if (drawn) pictures.set(host, { strips: jsonOf(answer, 2) ?? [], line: layLine(drawn) });
   return told;
 }
 
@@ -68,25 +96,16 @@ function drawTrace(host, trace, title) {
  * @returns {Element}
  */
 function layLine(drawn) {
-  const over = /** @type {SVGSVGElement} */ (drawn.cloneNode(false));
+  const over = drawn.nextElementSibling ?? /** @type {SVGSVGElement} */ (drawn.cloneNode(false));
   for (const name of ['role', 'aria-label']) over.removeAttribute(name);
   over.setAttribute('aria-hidden', 'true');
+  over.setAttribute('viewBox', drawn.getAttribute('viewBox') ?? '');
   over.classList.add('over');
-  const line = document.createElementNS('http://www.w3.org/2000/svg', 'line');
+  if (!over.firstElementChild) over.append(document.createElementNS('http://www.w3.org/2000/svg', 'line'));
+  const line = /** @type {Element} */ (over.firstElementChild);
   line.setAttribute('class', 'at');
-  over.append(line);
-  drawn.after(over);
+  if (!drawn.nextElementSibling) drawn.after(over);
   return line;
-}
-
-/**
- * The places of the events in a picture: x, top and foot. They may come as tenths, which are whole numbers.
- * @param {number[][] | {tenths: number[][]} | null} places
- * @returns {number[][] | null}
- */
-function placesOf(places) {
-  if (places === null || Array.isArray(places)) return places;
-  return places.tenths.map((place) => place && place.map((number) => number / 10));
 }
 
 /**
@@ -96,10 +115,12 @@ function placesOf(places) {
  */
 function markPicture(host, event) {
   const shown = pictures.get(host);
-  const [x, top, bottom] = shown?.places[Math.max(0, event - 1)] ?? [];
-  if (!shown || x === undefined) return;
+  const at = Math.max(1, event);
+  const strip = shown?.strips.find(({ from, x }) => from <= at && at < from + x.length);
+  if (!shown || !strip) return;
+  const x = strip.x[at - strip.from];
   shown.line.setAttribute('visibility', event === 0 ? 'hidden' : 'visible');
-  for (const [name, value] of Object.entries({ x1: x, x2: x, y1: top, y2: bottom })) shown.line.setAttribute(name, String(value));
+  for (const [name, value] of Object.entries({ x1: x, x2: x, y1: strip.top, y2: strip.foot })) shown.line.setAttribute(name, String(value));
 }
 
 /**

@@ -7,6 +7,7 @@
 #![doc = include_str!("../REQUESTS.md")]
 
 pub mod fields;
+mod followed;
 pub mod image;
 mod many;
 mod releases;

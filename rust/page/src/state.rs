@@ -44,9 +44,7 @@ pub fn state(request: &Request) -> Answer {
             shown(&word)
         ));
     };
-    let mut device = Device::fresh(story.part);
-    story.steps[..number].iter().for_each(|step| _ = device.step(step.event));
-    Answer::ok(in_words(&story, number, &device).to_string())
+    Answer::ok(in_words(&story, number, &story.device(number)).to_string())
 }
 
 fn in_words(story: &Story, number: usize, device: &Device) -> Value {

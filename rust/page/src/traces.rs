@@ -1,5 +1,8 @@
 //! Traces and scripts: written, listed, told, drawn, held against each other, imported.
 
+use std::fmt::Write;
+use std::rc::Rc;
+
 use gunwaleish::{MOST_SAMPLES, MOST_TRACE};
 use gunwaleish_tool::commands::compose::{composed_of, MOST_TEXT};
 use gunwaleish_tool::commands::picture::{drawn, Window};
@@ -9,13 +12,14 @@ use gunwaleish_tool::each::{refused, Made};
 use gunwaleish_tool::files::Input;
 use gunwaleish_tool::hint::{hint_of, looks_like, Kind};
 use gunwaleish_tool::json::Value;
-use gunwaleish_tool::picture::{drawn_in_page, style_in_page, Spots};
+use gunwaleish_tool::picture::{drawn_in_page, style_in_page, Spot, Spots};
 use gunwaleish_tool::script::warnings;
-use gunwaleish_tool::story::{follow, Story};
+use gunwaleish_tool::svg::Tenths;
 use gunwaleish_tool::table::Form;
 use gunwaleish_tool::{device, summary, wrap};
 
 use crate::fields::{Answer, Request};
+use crate::followed::Followed;
 
 /// The tool's words about a file without a name: each line begins with what follows the name.
 pub fn unnamed(name: &str, text: &str) -> String {
@@ -41,9 +45,9 @@ fn trace(request: &Request, name: usize) -> Input {
 }
 
 /// The story of the request's trace, or the answer that refuses it.
-pub fn story(request: &Request, name: usize) -> Result<Story, Answer> {
+pub fn story(request: &Request, name: usize) -> Result<Rc<Followed>, Answer> {
     let input = trace(request, name);
-    follow(&input.bytes)
+    Followed::of(&input.bytes)
         .map_err(|refusal| Answer::refused(unnamed(&input.name, &refused(&input, refusal))))
 }
 
@@ -162,20 +166,17 @@ pub fn sketch(request: &Request) -> Answer {
     Answer::ok(picture).and(told).and(in_numbers(&spots)).and(style_in_page())
 }
 
-/// Where each event stands: x, top and foot, in the picture's units; null if it is not shown.
+/// Where the events stand, a strip each: its first event, its top and its foot, and the x of each event on it.
 fn in_numbers(spots: &Spots) -> String {
-    let one = |spot: &Option<[f64; 3]>| match spot {
-        Some(place) => {
-            let [x, top, foot] = place.map(|number| (10.0 * number).round() as u64);
-            format!("[{},{},{}]", tenths(x), tenths(top), tenths(foot))
+    let strip = |spot: &Spot| {
+        let (from, [top, foot]) = (spot.from, spot.reach.map(Tenths));
+        let mut text = format!("{{\"from\":{from},\"top\":{top},\"foot\":{foot},\"x\":[");
+        for (place, x) in spot.x.iter().enumerate() {
+            let _ = write!(text, "{}{}", if place == 0 { "" } else { "," }, Tenths(*x));
         }
-        None => "null".to_string(),
+        text + "]}"
     };
-    format!("[{}]", spots.iter().map(one).collect::<Vec<_>>().join(","))
-}
-
-fn tenths(number: u64) -> String {
-    format!("{}.{}", number / 10, number % 10)
+    format!("[{}]", spots.iter().map(strip).collect::<Vec<_>>().join(","))
 }
 
 pub fn vcd(request: &Request) -> Answer {
