@@ -3,8 +3,8 @@
 /** So many lines stand in the page at once. */
 const ANSWERS_SHOWN = 96;
 
-/** @type {{lines: string[], first: number, at: number}} */
-const answers = { lines: [], first: -1, at: -1 };
+/** @type {{lines: string[], first: number}} */
+const answers = { lines: [], first: -1 };
 
 /** @param {Uint8Array} trace */
 function showAnswers(trace) {
@@ -21,17 +21,22 @@ function markAnswers(event) {
   const inside = answers.first >= 0 && answers.first < event && event <= answers.first + ANSWERS_SHOWN;
   if (!inside) drawAnswers(Math.min(most, Math.max(0, event - ANSWERS_SHOWN / 2)));
   const place = byId('answers');
-  place.children[answers.at - answers.first]?.classList.remove('now');
-  answers.at = event;
+  place.querySelector('.now')?.classList.remove('now');
   if (event > 0) place.children[event - answers.first]?.classList.add('now');
 }
 
-/** @param {number} first how many answers stand before those that are shown */
+/**
+ * Lines stand still and their words change, as far as there are as many as before.
+ * @param {number} first how many answers stand before those that are shown
+ */
 function drawAnswers(first) {
   answers.first = first;
   const { lines } = answers;
-  const shown = lines.slice(1 + first, 1 + first + ANSWERS_SHOWN).map((line) => make('span', {}, line));
-  const [before, after] = [first, lines.length - 1 - first - shown.length];
-  put(byId('answers'), make('span', { class: 'head' }, lines[0]), ...shown);
-  byId('answers-part').textContent = before + after > 0 ? `Answers ${first + 1} to ${first + shown.length} of ${lines.length - 1} are shown, around the event above.` : '';
+  const place = byId('answers');
+  const shown = [lines[0], ...lines.slice(1 + first, 1 + first + ANSWERS_SHOWN)];
+  while (place.children.length > shown.length) place.lastElementChild.remove();
+  while (place.children.length < shown.length) place.append(make('span', { class: place.children.length === 0 ? 'head' : null }));
+  shown.forEach((line, number) => setWords(place.children[number], line));
+  const [from, to, all] = [first + 1, first + shown.length - 1, lines.length - 1];
+  byId('answers-part').textContent = to - first < all ? `Answers ${from} to ${to} of ${all} are shown, around the event above.` : '';
 }

@@ -54,31 +54,36 @@ function scriptChanged() {
   drawBench();
 }
 
-/** Of a run of more events story and picture follow a frame later, so that the key and the state do not wait for them. */
-const LONG_RUN = 600;
-
 /** Shows the trace: what moves with the slider, and what does not. */
 function drawBench() {
   const trace = /** @type {Uint8Array} */ (bench.trace);
   const events = bench.lines.length;
   byId('at').max = String(events);
   bench.at = Math.min(bench.at, events);
-  if (events > LONG_RUN) drawNextFrame();
-  else drawRun();
-  showAnswers(trace);
+  const told = drawTrace(byId('bench-picture'), trace, bench.name);
+  put(byId('bench-told'), ...told.split('\n').filter(Boolean).map((words) => make('li', {}, words)));
   goTo(bench.at);
+  if (inSight.size > 0) drawBelow();
+  else drawBelowLater();
 }
 
-const drawNextFrame = onceAFrame(() => setTimeout(drawRun));
+/** Whether story and answers are in sight, or nearly. Where they are not, they are drawn after the frame, and the key does not wait for them. */
+/** @type {Set<Element>} */
+const inSight = new Set();
+const sight = new IntersectionObserver(
+  (seen) => seen.forEach(({ target, isIntersecting }) => (isIntersecting ? inSight.add(target) : inSight.delete(target))),
+  { rootMargin: '300px' },
+);
 
-/** Draws the run, and tells it. */
-function drawRun() {
+/** The story and the answers, which stand below the rest. */
+function drawBelow() {
   if (!bench.trace) return;
   showStory(byId('story'), bench.trace, goTo, bench.at);
-  const told = drawTrace(byId('bench-picture'), bench.trace, bench.name);
-  put(byId('bench-told'), ...told.split('\n').filter(Boolean).map((words) => make('li', {}, words)));
-  markPicture(byId('bench-picture'), bench.at);
+  showAnswers(bench.trace);
+  follow();
 }
+
+const drawBelowLater = afterFrame(() => drawBelow());
 
 /**
  * Looks at the state after an event. What is slower follows when the hand rests: what is new in it, its line, its row, its answer.
@@ -100,7 +105,7 @@ function goTo(event) {
   followHand();
 }
 
-const followHand = rested(80, () => {
+function follow() {
   const { trace, at } = bench;
   if (!trace) return;
   const state = stateAt(trace, at);
@@ -108,7 +113,9 @@ const followHand = rested(80, () => {
   if (document.activeElement !== byId('script')) showLine(editor.now);
   markStory(byId('story'), at);
   markAnswers(at);
-});
+}
+
+const followHand = rested(80, follow);
 
 /**
  * Shows box 14, if the script writes controller 0's reserve.
@@ -182,5 +189,6 @@ function startBench() {
     one.addEventListener('click', () => saveBench(/** @type {HTMLElement} */ (one).dataset.save ?? ''));
   }
   takeFiles(byId('panel-bench'), [byId('bench-file')], openOnBench);
+  for (const id of ['story', 'answers']) sight.observe(byId(id));
   whenShown.bench = layEditor;
 }

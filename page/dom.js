@@ -38,6 +38,15 @@ function put(element, ...inside) {
 }
 
 /**
+ * Gives an element other words; if they are the same, it is left alone.
+ * @param {Element} element
+ * @param {string} words
+ */
+function setWords(element, words) {
+  if (element.textContent !== words) element.textContent = words;
+}
+
+/**
  * A button that does something.
  * @param {string} words
  * @param {() => void} press
@@ -86,19 +95,21 @@ function save(name, data, type) {
 }
 
 /**
- * Does something at the next frame, once.
+ * Does something once the next frame is drawn, and once only.
  * @param {() => void} what
  * @returns {() => void}
  */
-function onceAFrame(what) {
+function afterFrame(what) {
   let waiting = false;
   return () => {
     if (waiting) return;
     waiting = true;
-    requestAnimationFrame(() => {
-      waiting = false;
-      what();
-    });
+    requestAnimationFrame(() =>
+      setTimeout(() => {
+        waiting = false;
+        what();
+      }),
+    );
   };
 }
 

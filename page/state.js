@@ -64,7 +64,7 @@ function showState(place, state, before) {
   const shown = place.querySelectorAll('[data-cell]');
   shown.forEach((cell, number) => {
     const words = cells[number] ?? '';
-    if (cell.textContent !== words) cell.textContent = words;
+    setWords(cell, words);
     cell.classList.toggle('new', words !== old[number]);
   });
   place.querySelectorAll('tr').forEach((row) => row.classList.toggle('new', row.querySelector('.new') !== null));

@@ -38,43 +38,64 @@ function askStory(place, trace, go, first, event) {
   drawStory(place);
 }
 
-/** @param {HTMLElement} place */
+/**
+ * Rows stand still and their words change, as far as there are as many as before: the browser does not lay out again what is the same.
+ * @param {HTMLElement} place
+ */
 function drawStory(place) {
   const shown = stories.get(place);
   if (!shown) return;
   const { trace, story, go } = shown;
   const { first, count } = story;
   const last = first + story.rows.length;
-  const heads = ['Event', 'Tick', 'What came', 'What was answered, and who has the bus then'];
-  const head = make('tr', {}, ...heads.map((words) => make('th', { scope: 'col' }, words)));
   const turn = (/** @type {string} */ words, /** @type {number} */ to) => button(words, () => askStory(place, trace, go, to));
-  put(
-    place,
-    ...story.head.map((words) => make('p', {}, words)),
-    first > 0 ? turn(`Rows before these (${first})`, first - ROWS_SHOWN) : null,
-    make('table', { class: 'story' }, make('thead', {}, head), make('tbody', {}, ...story.rows.map((row) => storyRow(row, go)))),
-    last < count ? turn(`Rows after these (${count - last})`, last) : null,
-    make('ul', { class: 'end' }, ...story.end.map((words) => make('li', {}, words))),
-  );
+  const [before, body, after] = partsOf(place);
+  put(before, ...story.head.map((words) => make('p', {}, words)), first > 0 ? turn(`Rows before these (${first})`, first - ROWS_SHOWN) : null);
+  put(after, last < count ? turn(`Rows after these (${count - last})`, last) : null, make('ul', { class: 'end' }, ...story.end.map((words) => make('li', {}, words))));
+  while (body.rows.length > story.rows.length) body.deleteRow(-1);
+  while (body.rows.length < story.rows.length) body.append(storyRow(place));
+  story.rows.forEach((row, number) => fillRow(body.rows[number], row));
 }
 
 /**
- * @param {Row} row
- * @param {(event: number) => void} go
+ * What stands before the rows, the rows, and what stands after them.
+ * @param {HTMLElement} place
+ * @returns {any[]}
+ */
+function partsOf(place) {
+  if (!place.querySelector('table')) {
+    const heads = ['Event', 'Tick', 'What came', 'What was answered, and who has the bus then'];
+    const head = make('tr', {}, ...heads.map((words) => make('th', { scope: 'col' }, words)));
+    put(place, make('div', {}), make('table', { class: 'story' }, make('thead', {}, head), make('tbody', {})), make('div', {}));
+  }
+  return [place.firstElementChild, place.querySelector('tbody'), place.lastElementChild];
+}
+
+/**
+ * A row without words.
+ * @param {HTMLElement} place
  * @returns {HTMLElement}
  */
-function storyRow(row, go) {
-  const events = row.from === row.to ? String(row.from) : `${row.from} to ${row.to}`;
-  const press = make('button', { type: 'button', class: 'go', 'aria-label': `Show the state after event ${row.to}`, onclick: () => go(row.to) }, events);
-  const told = [row.outcome, row.after, row.more].filter(Boolean).join('; ');
-  return make(
-    'tr',
-    { class: row.refused ? 'refused' : null, 'data-from': row.from, 'data-to': row.to },
-    make('td', {}, press),
-    make('td', {}, String(row.tick)),
-    make('td', {}, row.came),
-    make('td', {}, told),
-  );
+function storyRow(place) {
+  const row = make('tr', {});
+  const press = make('button', { type: 'button', class: 'go', onclick: () => stories.get(place)?.go(Number(row.dataset.to)) });
+  put(row, make('td', {}, press), make('td', {}), make('td', {}), make('td', {}));
+  return row;
+}
+
+/**
+ * @param {any} line
+ * @param {Row} row
+ */
+function fillRow(line, row) {
+  const press = line.querySelector('button');
+  const [, tick, came, told] = line.cells;
+  const words = [row.from === row.to ? String(row.from) : `${row.from} to ${row.to}`, String(row.tick), row.came, [row.outcome, row.after, row.more].filter(Boolean).join('; ')];
+  line.classList.remove('now');
+  line.classList.toggle('refused', row.refused);
+  Object.assign(line.dataset, { from: row.from, to: row.to });
+  press.setAttribute('aria-label', `Show the state after event ${row.to}`);
+  [press, tick, came, told].forEach((one, number) => setWords(one, words[number]));
 }
 
 /**
