@@ -77,7 +77,7 @@ const figures = ({ painted, below, processor }) => {
 };
 
 export const tests = {
-  'speed: 4,096 events: all of it is drawn anew within 50 ms of a key': async (open) => {
+  'speed: 4,096 events: all of it is drawn anew within 50 ms of a key that changes a byte, within 80 where every event moves': async (open) => {
     const tab = await open('bench');
     // As for a hand without a screen reader: the other tests have the browser keep what one is told.
     await tab.send('Accessibility.disable');
