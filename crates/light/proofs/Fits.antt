@@ -7,7 +7,7 @@ use lib.Dec.{eqb}
 use Rattle.arbiter.specs.Rules.{idleLimit}
 use Rattle.arbiter.specs.Words.{if_then_else_, worth, partner, sameMaster, side, device}
 use Rattle.arbiter.specs.Parts.{withBus}
-use Rattle.arbiter.specs.State.{atRest, sclHigh, sdaHigh, isIdle, busHung}
+use Rattle.arbiter.specs.State.{atRest, claimsTurn, sclHigh, sdaHigh, isIdle, busHung}
 use Rattle.arbiter.specs.Registers.{isAsserted}
 use Rattle.arbiter.specs.Order.{busyAfter, sclChanged, settledBus, levels}
 use Rattle.arbiter.specs.Steps.{ownerByte, linesByte}
@@ -134,6 +134,43 @@ module _ (d : Device) (x p : Side) where
       let q = tests (Owns Zero g) d h in
       whole (Owns Zero g) (after One) (linked-on d Zero (d .side0) p (a .1) (q .0)) refl refl refl (keeps (idleLimit d) (d .arb .reserve) (d .bus) (d .side0) p (a .0) (a .1) (q .4))
 
+  -- both sides fit
+  quiet-both : (t : Turn) → Fits Zero t (d .side0) x → Fits One t (d .side1) p → quietFrom t false d ≡ true → quietFrom t false (after Zero) ≡ true
+  quiet-both Nobody f a h =
+      let q = tests Nobody d h in
+      whole Nobody (after Zero) (q .0) refl (none-asks (d .side0 .contr .lockreq) (d .side1 .contr .lockreq) (x .contr .lockreq) (p .contr .lockreq) f a (q .2)) refl refl
+  quiet-both (Claims Zero g) f a h =
+      let q = tests (Claims Zero g) d h in
+      whole (Claims Zero g) (after Zero) (q .0) (waits (atRest (d .side0 .port)) (atRest (x .port)) (eqb (d .bus .hold) 0) (f refl .1) (q .1)) (f refl .0 (q .2)) refl refl
+  quiet-both (Claims One g) f a h =
+      let q = tests (Claims One g) d h in
+      whole (Claims One g) (after Zero) (q .0) (waits (atRest (d .side1 .port)) (atRest (p .port)) (eqb (d .bus .hold) 0) (a refl .1) (q .1)) (a refl .0 (q .2)) refl refl
+  quiet-both (Owns Zero g) f a h =
+      let q = tests (Owns Zero g) d h in
+      whole (Owns Zero g) (after Zero) (linked-on d Zero (d .side0) x (f refl .1) (q .0)) refl refl refl (keeps (idleLimit d) (d .arb .reserve) (d .bus) (d .side0) x (f refl .0) (f refl .1) (q .4))
+  quiet-both (Owns One g) f a h =
+      let q = tests (Owns One g) d h in
+      whole (Owns One g) (after Zero) (linked-on d One (d .side1) p (a refl .1) (q .0)) refl refl refl (keeps (idleLimit d) (d .arb .reserve) (d .bus) (d .side1) p (a refl .0) (a refl .1) (q .4))
+
+-- a claimant is not granted while SCL is held, whatever its port does
+not-ready : (rest free : Bool) → free ≡ false → not (rest && free) ≡ true
+not-ready true free h = ap not h
+not-ready false free h = refl
+
+module _ (d : Device) (x : Side) where
+  quiet-held : (m : Master) (t : Turn) → x .contr ≡ (side m d) .contr → eqb (d .bus .hold) 0 ≡ false → claimsTurn m t ≡ true → quietFrom t false d ≡ true
+      → quietFrom t false (after d x (side (partner m) d) m) ≡ true
+  quiet-held m Nobody c f l h = absurd (false≢true l)
+  quiet-held m (Owns k g) c f l h = absurd (false≢true l)
+  quiet-held Zero (Claims One g) c f l h = absurd (false≢true l)
+  quiet-held One (Claims Zero g) c f l h = absurd (false≢true l)
+  quiet-held Zero (Claims Zero g) c f l h =
+      let q = tests (Claims Zero g) d h in
+      whole (Claims Zero g) (after d x (d .side1) Zero) (q .0) (not-ready (atRest (x .port)) (eqb (d .bus .hold) 0) f) (requests (d .side0) x c ∙ q .2) refl refl
+  quiet-held One (Claims One g) c f l h =
+      let q = tests (Claims One g) d h in
+      whole (Claims One g) (after d x (d .side0) One) (q .0) (not-ready (atRest (x .port)) (eqb (d .bus .hold) 0) f) (requests (d .side1) x c ∙ q .2) refl refl
+
 -- ---- part 2
 
 busy-same : (busy scl sda : Bool) → (busy || scl && scl && sda && not sda) && not (scl && scl && not sda && sda) ≡ busy
@@ -183,9 +220,23 @@ module _ (m : Master) (d : Device) (x p : Side) where
       ap (λ (y : Device). partsThreeToSeven false NoClock y) (same-levels still)
       ∙ sym (quiet-law false NoClock (after d x p m) (quiet-fits d x p m (d .arb .turn) f a quiet))
 
+  pub held-settles : Settled d → x .contr ≡ (side m d) .contr → p ≡ side (partner m) d → eqb (d .bus .hold) 0 ≡ false → claimsTurn m (d .arb .turn) ≡ true
+      → partsThreeToSeven false NoClock (levels false (d .bus) (after d x p m)) ≡ after d x p m
+  unfolding isQuiet
+  held-settles (still, quiet) c e f l =
+      ap (λ (y : Device). partsThreeToSeven false NoClock y) (same-levels still)
+      ∙ sym (quiet-law false NoClock (after d x p m) (ap (λ (y : Side). quietFrom (d .arb .turn) false (after d x y m)) e ∙ quiet-held d x m (d .arb .turn) c f l quiet))
+
   pub same-owner : ownerByte (after d x p m) ≡ ownerByte d
   unfolding ownerByte
   same-owner = refl
+
+pub both-settle : (d : Device) (x p : Side) → Settled d → Fits Zero (d .arb .turn) (d .side0) x → Fits One (d .arb .turn) (d .side1) p
+    → partsThreeToSeven false NoClock (levels false (d .bus) (after d x p Zero)) ≡ after d x p Zero
+unfolding isQuiet
+both-settle d x p (still, quiet) f a =
+    ap (λ (y : Device). partsThreeToSeven false NoClock y) (same-levels Zero d x p still)
+    ∙ sym (quiet-law false NoClock (after d x p Zero) (quiet-both d x p (d .arb .turn) f a quiet))
 
 -- interrupts and masks that stay leave the lines byte
 module _ (d : Device) (x p : Side) where

@@ -1,5 +1,5 @@
 pub mod Settles
 pub mod Fits
 pub mod Light
-pub mod Short
+pub mod Ended
 pub mod Answers

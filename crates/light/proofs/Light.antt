@@ -1,16 +1,17 @@
--- The events whose own effect ends the step, one by one: each changes its sides in nothing that the turn asks of them. Then the light ones among them.
+-- The events whose own effect ends the step, one by one: each changes its sides in nothing that the turn asks of them.
 -- Assumes nothing.
 use mathlib.Core.Path.{_≡_, refl, sym, ap, ap₂, _∙_}
-use mathlib.Core.Bool.{Bool, true, false, not, _&&_, _||_, false≢true, or-false}
+use mathlib.Core.Bool.{Bool, true, false, not, _&&_, _||_, false≢true, or-false, and-eq-true-iff}
 use Prim.Native.Nat.{ℕ, _%_}
 use lib.Bits.{or-zero-r}
+use lib.Dec.{eqb}
 use Rattle.arbiter.specs.Words.{if_then_else_, bit, partner, sameMaster, side, device}
 use Rattle.arbiter.specs.Parts.{withPort, withPointer, withAuto, withMail, withContr, withRt, withTurn, withDrives}
-use Rattle.arbiter.specs.State.{ownsTurn, owns}
+use Rattle.arbiter.specs.State.{claimsTurn, ownsTurn, owns}
 use Rattle.arbiter.specs.Registers.{mailEmptiedInt, raised, controlOf, disconnected, withdraws, ownWritten, mailLow, mailHigh, mailWritten, released, drivesWritten, turnWritten}
 use Rattle.arbiter.specs.Rules.{rolls}
 use Rattle.arbiter.specs.Events.{goodCommand}
-use Rattle.arbiter.specs.Effects.{registerAt, afterRead, afterWrite, commanded, writerSide, partnerSide, written, empties, readerSide, senderSide, wasRead, intInFallen, lined, effect}
+use Rattle.arbiter.specs.Effects.{registerAt, afterRead, afterWrite, commanded, writerSide, partnerSide, writtenBus, writtenTurn, written, paired, empties, readerSide, senderSide, wasRead, intInFallen, lined, effect}
 use Rattle.arbiter.specs.Order.{levels, losses, cut, claim, grant, connect}
 use Rattle.arbiter.specs.Steps.{parts, ownerByte, linesByte}
 use Rattle.arbiter.specs.declared.Master.{Master}
@@ -28,10 +29,9 @@ use Rattle.arbiter.specs.declared.Event.the-variants.{Command, Write, Read, Sto
 use Rattle.arbiter.specs.declared.Clock.the-variants.{NoClock}
 use Rattle.arbiter.proofs.Choice.{not-true}
 use Rattle.step.specs.Carried.{partsThreeToSeven}
-use Rattle.step.specs.Light.{claimsTurn, isLight}
-use Rattle.light.specs.Light.{Settled, LightAlone}
+use Rattle.light.specs.Light.{Settled}
 use Rattle.light.specs.Ended.{leavesTurn, writeIsLight, linedBus, endsItself, keepsLines, itsEnd, EndsItself}
-use Rattle.light.proofs.Fits.{Alike, Fits, fits-on, fits-self, fits-settles, same-owner, same-lines, lined-settles}
+use Rattle.light.proofs.Fits.{Alike, Fits, fits-on, fits-self, fits-settles, held-settles, both-settle, same-owner, same-lines, lined-settles}
 
 -- what is to be shown of one event
 abbrev Alone : Event → Device → Type 0
@@ -79,10 +79,15 @@ module _ (m : Master) (d : Device) where
   rested-fits (Claims k g) l = λ e. absurd (false≢true (sym (not-true _ l) ∙ e))
   rested-fits (Owns k g) l = λ e. (refl, refl)
 
-  stop-alone : Settled d → not (claimsTurn m (d .arb .turn)) ≡ true → Alone (Stop m) d
+  stop-settles : Settled d → (claims : Bool) → claimsTurn m (d .arb .turn) ≡ claims → not (claims && eqb (d .bus .hold) 0) ≡ true
+      → partsThreeToSeven false NoClock (levels false (d .bus) (device m rested (side (partner m) d) (d .bus) (d .arb) d)) ≡ device m rested (side (partner m) d) (d .bus) (d .arb) d
+  stop-settles h false e l = fits-settles m d rested (side (partner m) d) h (rested-fits (d .arb .turn) (ap not e)) (refl, refl, refl)
+  stop-settles h true e l = held-settles m d rested (side (partner m) d) h refl refl (not-true _ l) e
+
+  stop-alone : Settled d → not (claimsTurn m (d .arb .turn) && eqb (d .bus .hold) 0) ≡ true → Alone (Stop m) d
   unfolding parts partsThreeToSeven effect itsEnd
   stop-alone h l = (
-    fits-settles m d rested (side (partner m) d) h (rested-fits (d .arb .turn) l) (refl, refl, refl),
+    stop-settles h (claimsTurn m (d .arb .turn)) refl l,
     same-owner m d rested (side (partner m) d),
     λ k. same-lines d rested (side (partner m) d) m refl refl refl refl,
   )
@@ -236,6 +241,35 @@ module _ (m : Master) (v : ℕ) (d : Device) (l : writeIsLight ((side m d) .poin
     λ k. absurd (false≢true k),
   )
 
+-- ---- PAIR
+
+module _ (v0 v1 : ℕ) (d : Device) (l0 : writeIsLight (d .side0 .pointer) Zero v0 d ≡ true) (l1 : writeIsLight (d .side1 .pointer) One v1 d ≡ true) where
+  abbrev pair0 : Side
+  pair0 = partnerSide One v1 d (writerSide Zero v0 d)
+
+  abbrev pair1 : Side
+  pair1 = partnerSide Zero v0 d (writerSide One v1 d)
+
+  -- only the two sides are other ones
+  pub paired-sides : paired v0 v1 d ≡ device Zero pair0 pair1 (d .bus) (d .arb) d
+  unfolding paired
+  paired-sides =
+      ap₂ (λ (b : Bus) (t : Turn). device Zero pair0 pair1 b (withTurn t (d .arb)) d)
+      (ap (λ (b : Bus). writtenBus One v1 d b) (drives-stay (d .side0 .pointer) Zero v0 d l0) ∙ drives-stay (d .side1 .pointer) One v1 d l1)
+      (ap (λ (t : Turn). writtenTurn One v1 d t) (turn-stays (d .side0 .pointer) Zero v0 d l0) ∙ turn-stays (d .side1 .pointer) One v1 d l1)
+
+  pair-alone : Settled d → Alone (Pair v0 v1) d
+  unfolding parts partsThreeToSeven effect itsEnd keepsLines
+  pair-alone h = (
+    ap (λ (x : Device). partsThreeToSeven false NoClock (levels false (d .bus) x)) paired-sides
+        ∙ both-settle d pair0 pair1 h
+        (fits-on Zero (d .arb .turn) (d .side0) (writerSide Zero v0 d) pair0 (writer-fits Zero v0 d l0) (mail-alike (d .side1 .pointer) v1 (writerSide Zero v0 d)))
+        (fits-on One (d .arb .turn) (d .side1) (writerSide One v1 d) pair1 (writer-fits One v1 d l1) (mail-alike (d .side0 .pointer) v0 (writerSide One v1 d)))
+        ∙ sym paired-sides,
+    ap ownerByte paired-sides ∙ same-owner Zero d pair0 pair1,
+    λ k. absurd (false≢true k),
+  )
+
 -- ---- LINES
 
 module _ (scl sda intin : Bool) (d : Device) where
@@ -257,23 +291,10 @@ ends-itself (Write m v) d h l = write-alone m v d l h
 ends-itself (Read m) d h l = read-alone m d h
 ends-itself (Stop m) d h l = stop-alone m d h l
 ends-itself (Lines scl sda intin) d h l = lines-alone scl sda intin d h l
-ends-itself (Pair v0 v1) d h l = none (Pair v0 v1) d refl l
+ends-itself (Pair v0 v1) d h l =
+    let both = and-eq-true-iff (writeIsLight (d .side0 .pointer) Zero v0 d) (writeIsLight (d .side1 .pointer) One v1 d) .0 l in
+    pair-alone v0 v1 d (both .0) (both .1) h
 ends-itself Tick d h l = none Tick d refl l
 ends-itself (Pulse sda) d h l = none (Pulse sda) d refl l
 ends-itself Reset d h l = none Reset d refl l
 ends-itself (GeneralCall m b) d h l = none (GeneralCall m b) d refl l
-
--- ---- the light ones
-
-pub light-alone : LightAlone
-unfolding isLight endsItself keepsLines itsEnd
-light-alone (Command m c) d h l = let x = ends-itself (Command m c) d h refl in (x .0, x .1, x .2 refl)
-light-alone (Read m) d h l = let x = ends-itself (Read m) d h refl in (x .0, x .1, x .2 l)
-light-alone (Stop m) d h l = let x = ends-itself (Stop m) d h l in (x .0, x .1, x .2 refl)
-light-alone (Write m v) d h l = absurd (false≢true l)
-light-alone (Pair v0 v1) d h l = absurd (false≢true l)
-light-alone (Lines scl sda intin) d h l = absurd (false≢true l)
-light-alone Tick d h l = absurd (false≢true l)
-light-alone (Pulse sda) d h l = absurd (false≢true l)
-light-alone Reset d h l = absurd (false≢true l)
-light-alone (GeneralCall m b) d h l = absurd (false≢true l)

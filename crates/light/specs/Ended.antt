@@ -1,18 +1,20 @@
 -- Request #114: events whose own effect ends the step. In a settled device these are COMMAND, READ, a WRITE that leaves request, claim and switch alone, a
--- STOP of one who does not claim, and LINES that end no grant: parts 3 to 7 have nothing to do after them, part 2 none but after LINES, and the owner
--- byte stays. Light events (isLight of crate step) are those of them that keep the lines byte too, whatever is written.
+-- PAIR of two such bytes, a STOP of one who does not claim or while SCL is held, and LINES that end no grant: parts 3 to 7 have nothing to do after them,
+-- part 2 none but after LINES, and the owner byte stays.
 -- Assumes nothing.
 use Prim.Native.Nat.{ℕ}
 use mathlib.Core.Path.{_≡_}
 use mathlib.Core.Bool.{Bool, true, false, not, _&&_, _||_}
+use lib.Dec.{eqb}
 use Rattle.arbiter.specs.Words.{if_then_else_, bit, sameMaster, side}
 use Rattle.arbiter.specs.Parts.{withBus}
-use Rattle.arbiter.specs.State.{owns}
+use Rattle.arbiter.specs.State.{claimsTurn, owns}
 use Rattle.arbiter.specs.Events.{inSequence, outcome, outcomeNumber}
 use Rattle.arbiter.specs.Effects.{outside, empties, effect}
 use Rattle.arbiter.specs.Order.{busyAfter, sclChanged, settledBus}
-use Rattle.arbiter.specs.Steps.{parts, byteRead, ownerByte, linesByte, stepEvent}
+use Rattle.arbiter.specs.Steps.{parts, byteRead, ownerByte, linesByte, stepEvent, step}
 use Rattle.arbiter.specs.declared.Master.{Master}
+use Rattle.arbiter.specs.declared.Master.the-variants.{Zero, One}
 use Rattle.arbiter.specs.declared.Turn.{Turn}
 use Rattle.arbiter.specs.declared.Turn.the-variants.{Nobody, Claims, Owns}
 use Rattle.arbiter.specs.declared.Register.{Register}
@@ -21,10 +23,10 @@ use Rattle.arbiter.specs.declared.Bus.{Bus}
 use Rattle.arbiter.specs.declared.Device.{Device}
 use Rattle.arbiter.specs.declared.Event.{Event}
 use Rattle.arbiter.specs.declared.Event.the-variants.{Command, Write, Read, Stop, Pair, Lines, Tick, Pulse, Reset, GeneralCall}
+use Rattle.arbiter.specs.declared.Raw.{Raw}
 use Rattle.arbiter.specs.declared.Stepped.{Stepped}
 use Rattle.arbitration.specs.Quiet.{noLoss}
-use Rattle.step.specs.Light.{claimsTurn}
-use Rattle.step.specs.Short.{kept}
+use Rattle.step.specs.Carried.{kept}
 use Rattle.light.specs.Light.{Settled}
 
 -- m's byte to CONTR, with this LOCK_REQ, moves no turn: there is no request and none comes, the claimant asks on, or the turn is the other's
@@ -49,13 +51,13 @@ abbrev pub linedBus : Bool → Bool → Bool → Bus → Bus
 linedBus scl sda intin b =
     settledBus (busyAfter false b (outside scl sda intin b)) (sclChanged b (outside scl sda intin b)) (outside scl sda intin b)
 
--- the claimant's own STOP is not one: it brings its port to rest, and a claimant at rest is granted
+-- the claimant's own STOP is not one but while SCL is held: it brings its port to rest, and a claimant at rest is granted
 unfoldable pub endsItself : Event → Device → Bool
 endsItself (Command m c) d = true
 endsItself (Write m v) d = writeIsLight ((side m d) .pointer) m v d
 endsItself (Read m) d = true
-endsItself (Stop m) d = not (claimsTurn m (d .arb .turn))
-endsItself (Pair v0 v1) d = false
+endsItself (Stop m) d = not (claimsTurn m (d .arb .turn) && eqb (d .bus .hold) 0)
+endsItself (Pair v0 v1) d = writeIsLight (d .side0 .pointer) Zero v0 d && writeIsLight (d .side1 .pointer) One v1 d
 endsItself (Lines scl sda intin) d = noLoss (d .arb .turn) (withBus (linedBus scl sda intin (d .bus)) d)
 endsItself Tick d = false
 endsItself (Pulse sda) d = false
@@ -107,3 +109,7 @@ EndsItself =
 -- So its step, where it is in sequence, is that.
 abbrev pub EndedIsStep : Type 0
 EndedIsStep = (e : Event) (d : Device) → Settled d → inSequence e d ≡ true → endsItself e d ≡ true → stepEvent e d ≡ endedStep e d
+
+-- Every answer shows the device after its step, so the next step can take its last two bytes from it.
+abbrev pub AnswerShows : Type 0
+AnswerShows = (d : Device) (r : Raw) → (step d r .answer .owner ≡ ownerByte (step d r .device)) × (step d r .answer .lines ≡ linesByte (step d r .device))

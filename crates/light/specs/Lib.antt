@@ -1,4 +1,3 @@
 pub mod Light
 pub mod Ended
-pub mod Short
 pub mod Answers

@@ -68,7 +68,7 @@ fn start() -> Reached
 }
 
 // One event more, the first of these. It goes through the loop over events, with a count of one: a step of its own would be a second place
-// that calls the step, which then is inlined in neither, and the loop over a trace would be slower by two thirds.
+// that calls the step, which then is inlined in neither, and the loop over a trace would be slower (docs/SPEED.md has by how much).
 fn reach(c: Reached, script: &[u8]) -> Reached
     requires { ⌜ eventBytes ≤ length (now script) ⌝ }
     ensures { λ r. ⌜ r ≡ reached c (rawIn (now (script .entry))) ⌝ }

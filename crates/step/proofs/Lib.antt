@@ -1,4 +1,4 @@
 pub mod Quiet
 pub mod Laws
-pub mod Short
+pub mod Told
 pub mod Unique

@@ -3,8 +3,6 @@
 use Rattle.arbiter.proofs.Once.{OneResult, once}
 use Rattle.step.proofs.fresh.Reads as fresh
 use Rattle.step.proofs.step_device.Reads as step-device
-use Rattle.step.proofs.step_told.Reads as step-told
-use Rattle.step.proofs.lights.is_light.Reads as is-light
 use Rattle.step.proofs.answered.Reads as answered
 use Rattle.step.proofs.finish.Reads as finish
 
@@ -19,9 +17,3 @@ answered-once κ a x y s t p q = once p q
 
 pub finish-once : OneResult finish.Post
 finish-once κ a x y s t p q = once p q
-
-pub step-told-once : OneResult step-told.Post
-step-told-once κ a x y s t p q = once p q
-
-pub is-light-once : OneResult is-light.Post
-is-light-once κ a x y s t p q = once p q

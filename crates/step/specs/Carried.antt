@@ -1,11 +1,12 @@
--- Parts 3 to 7 as one, when they have nothing to do, and part 1's effect carried through the other parts.
+-- Parts 3 to 7 as one, when they have nothing to do, part 1's effect carried through the other parts, and the answer after them.
 -- Assumes nothing.
+use Prim.Native.Nat.{ℕ}
 use mathlib.Core.Bool.{Bool, true, false, _&&_}
 use lib.Dec.{eqb}
 use Rattle.arbiter.specs.Words.{if_then_else_}
 use Rattle.arbiter.specs.Events.{decodedNumber, inSequence, outcome, outcomeNumber}
 use Rattle.arbiter.specs.Order.{isTick, clockOf, levels, losses, cut, claim, grant, connect}
-use Rattle.arbiter.specs.Steps.{parts, byteRead}
+use Rattle.arbiter.specs.Steps.{parts, byteRead, answer}
 use Rattle.arbiter.specs.declared.Turn.{Turn}
 use Rattle.arbiter.specs.declared.Bus.{Bus}
 use Rattle.arbiter.specs.declared.Device.{Device}
@@ -55,3 +56,11 @@ moved BadField d = did d (decodedNumber BadField) 0
 
 abbrev pub steppedWith : Device → Answer → Stepped
 steppedWith d a = record { device = d; answer = a }
+
+-- the answer is of the device after the effect
+abbrev pub told : Effect → Stepped
+told f = steppedWith (f .device) (answer (f .outcome) (f .read) (f .device))
+
+-- an answer with these last two bytes
+abbrev pub kept : ℕ → ℕ → ℕ → ℕ → Answer
+kept number byte owner lines = record { outcome = number; read = byte; owner = owner; lines = lines }

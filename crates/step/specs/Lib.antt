@@ -1,3 +1,1 @@
 pub mod Carried
-pub mod Light
-pub mod Short

@@ -1,6 +1,4 @@
 // A whole step: four bytes in, the new device and the four answer bytes out.
-pub mod lights;
-
 ghost use Prim.Native.Nat.{_+_, _*_, _≤_};
 ghost use mathlib.Core.Path.{_≡_};
 ghost use mathlib.Core.Bool.{false};
@@ -8,9 +6,8 @@ ghost use Rattle.arbiter.specs.Words.{worth};
 ghost use Rattle.arbiter.specs.State.{isInitialising};
 ghost use Rattle.arbiter.specs.Order.{levels};
 ghost use Rattle.arbiter.specs.Effects.{powerUp};
-ghost use Rattle.arbiter.specs.Steps.{masterNumber, ownerNumber, groundNumber, turnGround, switchNumber, ownerByte, linesByte, answer, step};
+ghost use Rattle.arbiter.specs.Steps.{masterNumber, ownerNumber, groundNumber, turnGround, switchNumber, ownerByte, linesByte, answer, stepEvent, step};
 ghost use Rattle.step.specs.Carried.{partsThreeToSeven, isSilent, isQuiet, finished, steppedWith};
-ghost use Rattle.step.specs.Short.{ended, shortEvent, shortStep};
 use arbiter::Answer;
 use arbiter::Bus;
 use arbiter::Clock;
@@ -51,7 +48,6 @@ use events::outcome_number;
 use fields::device_with;
 use fields::switch_of;
 use fields::turn_of;
-use lights::is_light;
 use registers::is_asserted_by;
 use resets::fresh_device;
 
@@ -212,49 +208,21 @@ fn stepped_with(device: Device, answer: Answer) -> Stepped
     Stepped { device, answer }
 }
 
-fn ended_at(owner: u8, lines: u8, f: Effect) -> Stepped
-    ensures { λ r. ⌜ r ≡ ended owner lines f ⌝ }
+// An event through all parts, answered with the device as it is after them. One out of sequence leaves the device as it was.
+fn step_event(e: Event, d: Device) -> Stepped
+    ensures { λ r. ⌜ r ≡ stepEvent e d ⌝ }
 {
-    stepped_with(
-        f.device,
-        Answer {
-            outcome: f.outcome,
-            read: f.read,
-            owner,
-            lines,
-        },
-    )
+    let f = finish(e, d.bus, effect_of(e, d));
+    stepped_with(f.device, answered(f.outcome, f.read, f.device))
 }
 
-fn event_told(settled: bool, owner: u8, lines: u8, e: Event, d: Device) -> Stepped
-    ensures { λ r. ⌜ r ≡ shortEvent settled owner lines e d ⌝ }
-{
-    let light = settled & is_light(e, d);
-    let f = effect_of(e, d);
-    if light | (f.outcome == outcome_number(Outcome::OutOfSequence)) {
-        ended_at(owner, lines, f)
-    } else {
-        let g = finish(e, d.bus, f);
-        stepped_with(g.device, answered(g.outcome, g.read, g.device))
-    }
-}
-
-// The step, told what is known of the device: that it is settled, if `settled` says so, and its owner and lines bytes. Where that is so it is the step of
-// document 01, and the parts that have nothing to do are left out. A refused event leaves the device as it was.
-pub fn step_told(settled: bool, owner: u8, lines: u8, d: Device, r: Raw) -> Stepped
-    ensures { λ s. ⌜ s ≡ shortStep settled owner lines d r ⌝ }
-{
-    let read = decode_raw(r);
-    let Decoded::Reads(e) = read else {
-        return ended_at(owner, lines, did_so(d, decoded_number(read), 0));
-    };
-    event_told(settled, owner, lines, e, d)
-}
-
-// The same step of any device, of which nothing is known but itself: the new device and the answer.
+// The step of document 01, of any device: the new device and the answer. Bytes that are no event leave the device as it was.
 pub fn step_device(d: Device, r: Raw) -> Stepped
     ensures { λ s. ⌜ s ≡ step d r ⌝ }
 {
-    let a = answered(0, 0, d);
-    step_told(false, a.owner, a.lines, d, r)
+    let read = decode_raw(r);
+    let Decoded::Reads(e) = read else {
+        return stepped_with(d, answered(decoded_number(read), 0, d));
+    };
+    step_event(e, d)
 }

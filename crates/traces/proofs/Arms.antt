@@ -2,19 +2,20 @@
 -- Assumes nothing.
 use Prim.Native.Nat.{ℕ, zero, suc, _-_, _%_, _<_}
 use mathlib.Core.Path.{_≡_, refl, sym, ap, ap₂, _∙_}
-use mathlib.Core.Bool.{Bool, true, false, not, _&&_, _||_, false≢true}
+use mathlib.Core.Bool.{Bool, true, false, not, _&&_, _||_, false≢true, and-eq-true-iff}
 use mathlib.Core.List.{List, [], _∷_}
 use native.Mathlib.Omega.{arith}
 use lib.Bits.{or-zero-r}
+use lib.Dec.{eqb}
 use lib.ListN.{length, getD, set}
 use borrow.Author.Tests.{ltb-true}
 use Rattle.arbiter.specs.Words.{if_then_else_, partner, side, device}
 use Rattle.arbiter.specs.Parts.{withPort, withSide, withInts}
-use Rattle.arbiter.specs.State.{ownsTurn, isInitialising, atRest, forWriting, sclHigh, sdaHigh}
+use Rattle.arbiter.specs.State.{claimsTurn, ownsTurn, isInitialising, atRest, forWriting, sclHigh, sdaHigh}
 use Rattle.arbiter.specs.Registers.{mailEmptiedInt, raised, registerByte, ownWritten, mailWritten}
 use Rattle.arbiter.specs.Rules.{rolls}
-use Rattle.arbiter.specs.Events.{unused, zeroOrOne, level, master, goodCommand, writable, softReset, fitting, decode, inSequence, acknowledged, outcome, outcomeNumber}
-use Rattle.arbiter.specs.Effects.{commanded, writeRisen, written, empties, readerSide, senderSide, wasRead, intInFallen, lined, freshSide, freshBus, freshArb, wasReset, holdAsked, effect}
+use Rattle.arbiter.specs.Events.{unused, zeroOrOne, level, master, goodCommand, writable, softReset, fitting, decode, decodedNumber, rawNumber, inSequence, acknowledged, outcome, outcomeNumber}
+use Rattle.arbiter.specs.Effects.{commanded, writeRisen, written, paired, empties, readerSide, senderSide, wasRead, intInFallen, lined, freshSide, freshBus, freshArb, wasReset, holdAsked, effect}
 use Rattle.arbiter.specs.Order.{clockOf, busyAfter, sclChanged, levels, losses, lossesFrom, cut, cutFrom, claim, grant, grantFrom, connect, connectFrom}
 use Rattle.arbiter.specs.Steps.{parts, byteRead, ownerByte, linesByte, answer, refused, taken, stepEvent, stepDecoded, step}
 use Rattle.arbiter.specs.declared.Master.{Master}
@@ -32,20 +33,19 @@ use Rattle.arbiter.specs.declared.Clock.the-variants.{NoClock}
 use Rattle.arbiter.specs.declared.Event.{Event}
 use Rattle.arbiter.specs.declared.Event.the-variants.{Command, Write, Read, Stop, Pair, Lines, Tick, Pulse, Reset, GeneralCall}
 use Rattle.arbiter.specs.declared.Decoded.{Decoded}
-use Rattle.arbiter.specs.declared.Decoded.the-variants.{Reads}
+use Rattle.arbiter.specs.declared.Decoded.the-variants.{Reads, UnknownKind, BadField}
 use Rattle.arbiter.specs.declared.Outcome.the-variants.{Done, NotAcknowledged, OutOfSequence}
 use Rattle.arbiter.specs.declared.Answer.{Answer}
 use Rattle.arbiter.specs.declared.Stepped.{Stepped}
 use Rattle.arbiter.proofs.Choice.{not-true}
+use Rattle.events.proofs.Numbers.{raw-told}
 use Rattle.arbitration.specs.Quiet.{noLoss}
-use Rattle.step.specs.Light.{claimsTurn}
-use Rattle.step.specs.Carried.{partsThreeToSeven, steppedWith}
-use Rattle.step.specs.Short.{kept}
+use Rattle.step.specs.Carried.{partsThreeToSeven, steppedWith, kept}
 use Rattle.light.specs.Light.{Settled}
 use Rattle.light.specs.Ended.{leavesTurn, writeIsLight, linedBus, endsItself, keepsLines, itsEnd}
 use Rattle.light.proofs.Fits.{fits-self, fits-settles}
-use Rattle.light.proofs.Light.{written-sides}
-use Rattle.light.proofs.Short.{ended-is-step}
+use Rattle.light.proofs.Light.{written-sides, paired-sides}
+use Rattle.light.proofs.Ended.{ended-is-step}
 use Rattle.traces.specs.Sides.{kindTold, byteIsLight, linesShown, deviceOf}
 
 -- ---- two sides in an array
@@ -173,9 +173,9 @@ none : (t : Bool) → _≡_ {A = ℕ} (if t then 0 else 0) 0
 none true = refl
 none false = refl
 
-reset-rest : (d : Device) → connect NoClock (grant (claim (cut false (losses (wasReset 0 d))))) ≡ wasReset 0 d
+reset-rest : (hold : ℕ) (d : Device) → connect NoClock (grant (claim (cut false (losses (wasReset hold d))))) ≡ wasReset hold d
 unfolding connect connectFrom grant grantFrom claim cut cutFrom losses lossesFrom wasReset freshSide
-reset-rest d = refl
+reset-rest hold d = refl
 
 -- ---- the arms. The loop holds the two sides l, the bus b and the arbitration a of a part of kind k, and knows its last two answer bytes.
 
@@ -203,6 +203,28 @@ module _ (k : Kind) (l : List Side) (b : Bus) (a : Arbitration) (two : length l 
       let asked = ap (λ (x : Bool). outcomeNumber (if x then (if acknowledged e now then Done else NotAcknowledged) else OutOfSequence)) (sym q) in
       joined d _ number _ byte _ owner _ li _ f (g ∙ asked) p o n ∙ sym (stepped e h ∙ ended-is-step e now s q t)
 
+  -- a reset: parts 2 to 7 find nothing to do, also where SCL is held then
+  module _ (hold : ℕ) where
+    abbrev left : Bus
+    left = freshBus hold b
+
+    reset-levels : levels true b (wasReset hold now) ≡ wasReset hold now
+    unfolding levels wasReset freshSide
+    reset-levels = λ j. record {
+      kind = k;
+      side0 = freshSide;
+      side1 = freshSide;
+      bus = record { outscl = b .outscl; outsda = b .outsda; intin = b .intin; drivescl = true; drivesda = true; busy = false; hold = hold; idle = none (not (busyAfter true b left) && sclHigh left && sdaHigh left) j; lowscl = none (sclHigh left) j; lowsda = none (sdaHigh left || sclChanged b left) j };
+      arb = freshArb;
+    }
+
+    reset-through : connect NoClock (grant (claim (cut false (losses (levels true b (wasReset hold now)))))) ≡ wasReset hold now
+    reset-through = ap (λ (x : Device). connect NoClock (grant (claim (cut false (losses x))))) reset-levels ∙ reset-rest hold now
+
+  reset-parts : parts Reset now ≡ wasReset 0 now
+  unfolding parts effect
+  reset-parts = reset-through 0
+
   module _ (fits : zeroOrOne (r .x) ≡ true) where
     abbrev m : Master
     m = master (r .x)
@@ -227,7 +249,7 @@ module _ (k : Kind) (l : List Side) (b : Bus) (a : Arbitration) (two : length l 
     unfolding inSequence
     stop-refused h q = refused-arm (Stop m) h (ap (λ (x : Side). not (atRest (x .port))) own ∙ ap not q)
 
-    pub stop-arm : decode r ≡ Reads (Stop m) → Settled now → atRest (sideAt l at .port) ≡ false → claimsTurn m (a .turn) ≡ false → (v : Side) → v ≡ withPort Rest (sideAt l at)
+    pub stop-arm : decode r ≡ Reads (Stop m) → Settled now → atRest (sideAt l at .port) ≡ false → claimsTurn m (a .turn) && eqb (b .hold) 0 ≡ false → (v : Side) → v ≡ withPort Rest (sideAt l at)
         → steppedWith (held k (set l at v) b a) (kept 0 0 owner lines) ≡ step now r
     unfolding inSequence acknowledged endsItself keepsLines itsEnd effect byteRead
     stop-arm h s q c v e =
@@ -305,6 +327,60 @@ module _ (k : Kind) (l : List Side) (b : Bus) (a : Arbitration) (two : length l 
         ended-arm (Read m) h s refl refl _ 0 byte lines gone refl (same-byte byte g)
         (i ∙ ap (λ (x : Bool). if not x then linesByte now else linesByte (wasRead m now)) (sym (emptied-is false t)))
 
+    -- GENERAL CALL of 06h
+    pub soft-arm : decode r ≡ Reads (GeneralCall m (r .y)) → softReset (r .y) ≡ true → (hold : ℕ) → hold ≡ holdAsked (sideAt l at) → (d : Device) (x : Answer) → d ≡ wasReset hold now → x ≡ answer 0 0 d
+        → steppedWith d x ≡ step now r
+    unfolding stepEvent taken inSequence acknowledged outcome byteRead parts effect
+    soft-arm h q hold g d x e f =
+        let asked : ℕ = holdAsked (side m now) in
+        let through : parts (GeneralCall m (r .y)) now ≡ wasReset asked now =
+        ap (λ (t : Bool). connect NoClock (grant (claim (cut false (losses (levels t b (if t then wasReset asked now else now))))))) q
+        ∙ reset-through asked
+        in
+        ap (λ (y : Answer). steppedWith d y) f
+        ∙ ap (λ (y : Device). steppedWith y (answer 0 0 y)) (e ∙ ap (λ (n : ℕ). wasReset n now) (g ∙ ap holdAsked (sym own)) ∙ sym through)
+        ∙ ap (λ (t : Bool). steppedWith (parts (GeneralCall m (r .y)) now) (answer (outcomeNumber (if t then Done else NotAcknowledged)) 0 (parts (GeneralCall m (r .y)) now))) (sym q)
+        ∙ sym (stepped (GeneralCall m (r .y)) h)
+
+  -- bytes that are no event
+  pub unread-arm : (n : ℕ) → n ≡ rawNumber r → (n ≡ 0 → ⊥) → steppedWith now (kept n 0 owner lines) ≡ step now r
+  unfolding step stepDecoded refused
+  unread-arm n e some = go (decode r) (e ∙ sym (raw-told r (decode r) refl .1))
+    where
+      go : (x : Decoded) → n ≡ decodedNumber x → steppedWith now (kept n 0 owner lines) ≡ stepDecoded x now
+      go (Reads v) h = absurd (some h)
+      go UnknownKind h = joined now now n 2 0 0 owner _ lines _ refl h refl o i
+      go BadField h = joined now now n 3 0 0 owner _ lines _ refl h refl o i
+
+  byte-light : (p : Register) (c : Master) (v : ℕ) → writeIsLight p c v now ≡ byteIsLight p c (ownsTurn c (a .turn)) v (a .turn) ((side c now) .contr .busconnect)
+  byte-light Id c v = refl
+  byte-light Contr c v = refl
+  byte-light Status c v = refl
+  byte-light Rt c v = refl
+  byte-light IntStatus c v = refl
+  byte-light IntMask c v = refl
+  byte-light MailLow c v = refl
+  byte-light MailHigh c v = refl
+
+  pub pair-arm : decode r ≡ Reads (Pair (r .x) (r .y)) → Settled now → forWriting (sideAt l 0 .port) && forWriting (sideAt l 1 .port) ≡ true
+      → byteIsLight (sideAt l 0 .pointer) Zero (ownsTurn Zero (a .turn)) (r .x) (a .turn) (sideAt l 0 .contr .busconnect) && byteIsLight (sideAt l 1 .pointer) One (ownsTurn One (a .turn)) (r .y) (a .turn) (sideAt l 1 .contr .busconnect) ≡ true
+      → (v w : Side) (number li : ℕ) → v ≡ mailWritten (sideAt l 1 .pointer) (r .y) (writeRisen (rolls now) (ownWritten (ownsTurn Zero (a .turn)) (sideAt l 0 .pointer) (r .x) (sideAt l 0)))
+      → w ≡ mailWritten (sideAt l 0 .pointer) (r .x) (writeRisen (rolls now) (ownWritten (ownsTurn One (a .turn)) (sideAt l 1 .pointer) (r .y) (sideAt l 1)))
+      → number ≡ outcomeNumber (if writable (sideAt l 0 .pointer) && writable (sideAt l 1 .pointer) then Done else NotAcknowledged) → li ≡ linesShown v w b
+      → steppedWith (held k (set (set l 0 v) 1 w) b a) (kept number 0 owner li) ≡ step now r
+  unfolding inSequence acknowledged endsItself keepsLines itsEnd effect byteRead
+  pair-arm h s q t v w number li e f g n =
+      let both =
+      and-eq-true-iff (byteIsLight (sideAt l 0 .pointer) Zero (ownsTurn Zero (a .turn)) (r .x) (a .turn) (sideAt l 0 .contr .busconnect)) (byteIsLight (sideAt l 1 .pointer) One (ownsTurn One (a .turn)) (r .y) (a .turn) (sideAt l 1 .contr .busconnect)) .0 t
+      in
+      let l0 : writeIsLight (now .side0 .pointer) Zero (r .x) now ≡ true = byte-light (now .side0 .pointer) Zero (r .x) ∙ both .0 in
+      let l1 : writeIsLight (now .side1 .pointer) One (r .y) now ≡ true = byte-light (now .side1 .pointer) One (r .y) ∙ both .1 in
+      let gone : held k (set (set l 0 v) 1 w) b a ≡ paired (r .x) (r .y) now =
+      set-all k b a l two v w ∙ ap₂ (λ (x y : Side). deviceOf k x y b a) e f ∙ sym (paired-sides (r .x) (r .y) now l0 l1)
+      in
+      ended-arm (Pair (r .x) (r .y)) h s q (ap₂ (λ (x y : Bool). x && y) l0 l1) _ number 0 li gone g refl
+      (n ∙ lines-of k v w b a ∙ ap linesByte (sym (set-all k b a l two v w) ∙ gone))
+
   pub pair-refused : decode r ≡ Reads (Pair (r .x) (r .y)) → forWriting (sideAt l 0 .port) && forWriting (sideAt l 1 .port) ≡ false → steppedWith now (kept 4 0 owner lines) ≡ step now r
   unfolding inSequence
   pair-refused h q = refused-arm (Pair (r .x) (r .y)) h q
@@ -336,24 +412,6 @@ module _ (k : Kind) (l : List Side) (b : Bus) (a : Arbitration) (two : length l 
       in
       joined now _ 1 _ 0 0 owner _ lines _ (sym rest) (ap (λ (x : Bool). outcomeNumber (if x then Done else NotAcknowledged)) (sym q)) refl (o ∙ ap ownerByte (sym rest)) (i ∙ ap linesByte (sym rest))
       ∙ sym (stepped (GeneralCall (master (r .x)) (r .y)) h)
-
-  -- RESET: parts 2 to 7 find nothing to do
-  abbrev left : Bus
-  left = freshBus 0 b
-
-  reset-levels : levels true b (wasReset 0 now) ≡ wasReset 0 now
-  unfolding levels wasReset freshSide
-  reset-levels = λ j. record {
-    kind = k;
-    side0 = freshSide;
-    side1 = freshSide;
-    bus = record { outscl = b .outscl; outsda = b .outsda; intin = b .intin; drivescl = true; drivesda = true; busy = false; hold = 0; idle = none (not (busyAfter true b left) && sclHigh left && sdaHigh left) j; lowscl = none (sclHigh left) j; lowsda = none (sdaHigh left || sclChanged b left) j };
-    arb = freshArb;
-  }
-
-  reset-parts : parts Reset now ≡ wasReset 0 now
-  unfolding parts effect
-  reset-parts = ap (λ (x : Device). connect NoClock (grant (claim (cut false (losses x))))) reset-levels ∙ reset-rest now
 
   pub reset-arm : decode r ≡ Reads Reset → (d : Device) (x : Answer) → d ≡ wasReset 0 now → x ≡ answer 0 0 d → steppedWith d x ≡ step now r
   unfolding stepEvent taken inSequence acknowledged outcome byteRead

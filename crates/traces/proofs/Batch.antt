@@ -24,9 +24,9 @@ use Rattle.arbitration.specs.Quiet.{noLoss, noCut, noClaim, noGrant}
 use Rattle.connection.specs.Quiet.{switchStays}
 use Rattle.step.specs.Carried.{isQuiet}
 use Rattle.light.specs.Light.{Still, Settled}
-use Rattle.step.specs.Short.{kept}
+use Rattle.step.specs.Carried.{kept}
 use Rattle.light.proofs.Settles.{stays-settled}
-use Rattle.light.proofs.Short.{answer-shows}
+use Rattle.light.proofs.Ended.{answer-shows}
 use Rattle.quiet.specs.Counts.{least, afterTicks}
 use Rattle.quiet.specs.Quiet.{isStill, countsLeft, quietTicks, tick, ticks}
 use Rattle.quiet.proofs.Ticks.{quiet, quiet-together}

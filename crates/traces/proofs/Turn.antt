@@ -20,10 +20,10 @@ use Rattle.arbiter.proofs.KindKept.{keeps-kind}
 use Rattle.format.specs.Places.{eventAt, withAnswer}
 use Rattle.quiet.specs.Counts.{withCounts, afterTicks, least}
 use Rattle.quiet.specs.Quiet.{countsLeft}
-use Rattle.step.specs.Short.{kept, shortStep}
+use Rattle.step.specs.Carried.{kept}
 use Rattle.light.specs.Light.{Settled}
 use Rattle.light.proofs.Settles.{stays-settled}
-use Rattle.light.proofs.Short.{short-is-step, answer-shows}
+use Rattle.light.proofs.Ended.{answer-shows}
 use Rattle.traces.specs.Sides.{deviceOf}
 use Rattle.traces.specs.Ticks.{isTickRaw, AllTicks, withSame}
 use Rattle.traces.proofs.Runs.{again-device, again-out}
@@ -115,7 +115,3 @@ module _ (settled : Bool) (events buffer : List ℕ) (n : ℕ) (from : Device) (
       let gone : e ≡ afterTicks (j - i) (held k l b a) = moved ∙ ap (afterTicks (j - i)) is in
       subst (λ (y : Device). Known settled events buffer n from last owner lines y j) (sym (ticks-apart k l b a (j - i) e gone))
       (ticked settled events buffer n from out owner lines (held k l b a) i known within enough room left (counts ∙ ap countsLeft is) some calm r read tick few least-is j past till all x told last same put e gone)
-
--- the step that the loop calls, told nothing but the last two bytes
-pub told-step : (owner lines : ℕ) (d : Device) (r : Raw) (s : Stepped) → owner ≡ ownerByte d → lines ≡ linesByte d → s ≡ shortStep false owner lines d r → s ≡ step d r
-told-step owner lines d r s o l h = h ∙ short-is-step false owner lines d r (λ x. absurd (false≢true x)) o l

@@ -9,7 +9,6 @@ ghost use lib.ListN.{length, drop};
 ghost use Rattle.arbiter.specs.Steps.{step, runFrom, answersFrom};
 ghost use Rattle.arbiter.specs.Traces.{eventBytes, rawsIn, kindNumber, readKind, readCounted, readTrace, refusalNumber, readNumber, bytesOf, report, bufferAfter, ran, bufferRan};
 ghost use Rattle.light.specs.Light.{Settled};
-ghost use Rattle.step.specs.Short.{shortStep};
 ghost use Rattle.quiet.specs.Counts.{least};
 ghost use Rattle.traces.specs.Bodies.{kindRead, ranWith, reportWith, headOf};
 ghost use Rattle.traces.specs.Ticks.{isTickRaw, AllTicks, withSame};
@@ -54,7 +53,6 @@ use resets::reset_device;
 use sides::answer_kept;
 use sides::bus_lined;
 use sides::byte_read;
-use sides::claims_at;
 use sides::commanded_number;
 use sides::device_of;
 use sides::ends_no_grant;
@@ -63,18 +61,24 @@ use sides::fits_levels;
 use sides::fits_none;
 use sides::fits_one;
 use sides::granted_at;
+use sides::hold_asked;
 use sides::intin_fell;
+use sides::is_granted_at_rest;
 use sides::is_initialising;
 use sides::is_resting;
 use sides::kind_told;
 use sides::lines_shown;
+use sides::pair_side;
+use sides::paired_number;
+use sides::pairs_lightly;
 use sides::partner_written;
 use sides::takes_bytes;
+use sides::unread_number;
 use sides::writes_lightly;
 use sides::written_number;
 use step::answered;
 use step::fresh;
-use step::step_told;
+use step::step_device;
 use straps::address_of;
 use writing::light_writer;
 
@@ -198,18 +202,18 @@ fn play_ticks(events: &[u8], answers: &mut [u8], i: usize, last: usize, a: Answe
 }
 
 // The one place here that steps a device: a function as large as a step is inlined only where a single place calls it.
-fn step_one(owner: u8, lines: u8, d: Device, r: Raw) -> Stepped
-    ensures { λ s. ⌜ s ≡ shortStep false owner lines d r ⌝ }
+fn step_one(d: Device, r: Raw) -> Stepped
+    ensures { λ s. ⌜ s ≡ step d r ⌝ }
 {
-    step_told(false, owner, lines, d, r)
+    step_device(d, r)
 }
 
 // The first n events of these bytes, each answered at its place. In a device that is settled TICKs that move nothing but counts are taken together, and an
-// event that is refused or ends with its own effect does so here, on the one side or the two that it moves. All else is stepped in full.
+// event that ends with its own effect does so here, on the one side or the two that it moves; so does what is refused. All else is stepped in full.
 //
 // It is one long function because it has to be fast: the two sides stand in an array of the loop and are taken by the number of their master, without a
 // branch on it, which no function over them by value or by reference keeps; and the step, which is as large as it is, is inlined only where a
-// single place calls it.
+// single place calls it, as here.
 fn play(settled: bool, from: Device, events: &[u8], answers: &mut [u8], n: usize) -> Device
     requires { ⌜ (eventBytes * n ≤ length (now events)) × (eventBytes * n ≤ length (now answers)) × (settled ≡ true → Settled from) ⌝ }
     ensures { λ r. ⌜ (r ≡ runFrom from (rawsIn n (now (events .entry)))) × (now (answers .exit) ≡ bytesOf (answersFrom from (rawsIn n (now (events .entry)))) ++ drop (eventBytes * n) (now (answers .entry))) ⌝ }
@@ -294,7 +298,7 @@ fn play(settled: bool, from: Device, events: &[u8], answers: &mut [u8], n: usize
                         i += 1;
                         continue;
                     } else {
-                        if claims_at(r.x, arb) {} else {
+                        if is_granted_at_rest(r.x, bus, arb) {} else {
                             sides[at] = stopped_side(s);
                             put_answer(answers, i, answer_kept(0, 0, owner, lines));
                             i += 1;
@@ -307,7 +311,22 @@ fn play(settled: bool, from: Device, events: &[u8], answers: &mut [u8], n: usize
                 if r.z == 0 {
                     let s0 = sides[0];
                     let s1 = sides[1];
-                    if takes_bytes(s0) & takes_bytes(s1) {} else {
+                    if takes_bytes(s0) & takes_bytes(s1) {
+                        if pairs_lightly(r.x, r.y, arb, s0, s1) {
+                            let e0 = pair_side(rolls, granted_at(0, arb), r.x, r.y, s0, s1);
+                            let e1 = pair_side(rolls, granted_at(1, arb), r.y, r.x, s1, s0);
+                            sides[0] = e0;
+                            sides[1] = e1;
+                            lines = lines_shown(e0, e1, bus);
+                            put_answer(
+                                answers,
+                                i,
+                                answer_kept(paired_number(s0, s1), 0, owner, lines),
+                            );
+                            i += 1;
+                            continue;
+                        }
+                    } else {
                         put_answer(answers, i, answer_kept(4, 0, owner, lines));
                         i += 1;
                         continue;
@@ -386,7 +405,24 @@ fn play(settled: bool, from: Device, events: &[u8], answers: &mut [u8], n: usize
             }
             9 => {
                 if fits_byte(r) {
-                    if r.y == 0x06 {} else {
+                    if r.y == 0x06 {
+                        let s = sides[at];
+                        let s0 = sides[0];
+                        let s1 = sides[1];
+                        let d = reset_device(hold_asked(s), device_of(kind, s0, s1, bus, arb));
+                        let a = answered(0, 0, d);
+                        put_answer(answers, i, a);
+                        let e0 = d.side0;
+                        let e1 = d.side1;
+                        sides[0] = e0;
+                        sides[1] = e1;
+                        bus = d.bus;
+                        arb = d.arb;
+                        owner = a.owner;
+                        lines = a.lines;
+                        i += 1;
+                        continue;
+                    } else {
                         put_answer(answers, i, answer_kept(1, 0, owner, lines));
                         i += 1;
                         continue;
@@ -395,9 +431,15 @@ fn play(settled: bool, from: Device, events: &[u8], answers: &mut [u8], n: usize
             }
             _ => {}
         }
+        let unread = unread_number(r);
+        if unread == 0 {} else {
+            put_answer(answers, i, answer_kept(unread, 0, owner, lines));
+            i += 1;
+            continue;
+        }
         let s0 = sides[0];
         let s1 = sides[1];
-        let s = step_one(owner, lines, device_of(kind, s0, s1, bus, arb), r);
+        let s = step_one(device_of(kind, s0, s1, bus, arb), r);
         let a = s.answer;
         put_answer(answers, i, a);
         let e = s.device;
@@ -454,7 +496,7 @@ pub fn run_events(d: Device, events: &[u8], answers: &mut [u8]) -> Ran
 }
 
 // One event from any device. It goes through the loop over events, with a count of one: a step of its own would be a second place that calls
-// the step, which then is inlined in neither, and the loop over a trace would be slower by two thirds.
+// the step, which then is inlined in neither, and the loop over a trace would be slower (docs/SPEED.md has by how much).
 pub fn run_one(d: Device, r: Raw) -> Stepped
     ensures { λ s. ⌜ s ≡ step d r ⌝ }
 {

@@ -1,14 +1,16 @@
 // What the loop over events asks of one event, and of the two sides that it holds beside each other (request #114).
 ghost use mathlib.Core.Path.{_≡_};
 ghost use mathlib.Core.Bool.{_&&_, not};
+ghost use lib.Dec.{eqb};
 ghost use Rattle.arbiter.specs.Words.{if_then_else_, partner};
-ghost use Rattle.arbiter.specs.State.{ownsTurn, isInitialising, atRest, forWriting};
-ghost use Rattle.arbiter.specs.Registers.{registerByte, mailWritten};
-ghost use Rattle.arbiter.specs.Events.{unused, zeroOrOne, level, master, goodCommand, writable, outcomeNumber};
+ghost use Rattle.arbiter.specs.State.{claimsTurn, ownsTurn, isInitialising, atRest, forWriting};
+ghost use Rattle.arbiter.specs.Registers.{registerByte, ownWritten, mailWritten};
+ghost use Rattle.arbiter.specs.Events.{unused, zeroOrOne, level, master, goodCommand, writable, outcomeNumber, firstFits, secondFits, thirdFits, rawNumber};
+ghost use Rattle.arbiter.specs.Effects.{writeRisen, holdAsked};
+ghost use Rattle.arbiter.specs.declared.Master.the-variants.{Zero, One};
 ghost use Rattle.arbiter.specs.declared.Outcome.the-variants.{Done, NotAcknowledged};
 ghost use Rattle.arbitration.specs.Quiet.{noLoss};
-ghost use Rattle.step.specs.Light.{claimsTurn};
-ghost use Rattle.step.specs.Short.{kept};
+ghost use Rattle.step.specs.Carried.{kept};
 ghost use Rattle.light.specs.Ended.{leavesTurn, linedBus};
 ghost use Rattle.traces.specs.Sides.{kindTold, byteIsLight, linesShown, deviceOf};
 use arbiter::Answer;
@@ -16,6 +18,7 @@ use arbiter::Arbitration;
 use arbiter::Bus;
 use arbiter::Control;
 use arbiter::Device;
+use arbiter::HOLD_TICKS;
 use arbiter::Kind;
 use arbiter::Master;
 use arbiter::Raw;
@@ -24,6 +27,7 @@ use arbiter::Side;
 use arbiter::Turn;
 use arbitration::losses::no_loss;
 use bits::bit_0;
+use bits::pick_bool;
 use bits::worth_of;
 use bus::bus_hung;
 use bus::outside_of;
@@ -43,7 +47,9 @@ use ports::is_for_writing;
 use registers::byte_handed_out;
 use registers::is_asserted_by;
 use writing::light_partner;
+use writing::mail_written;
 use writing::writable_at;
+use writing::writer_side;
 
 // ---- the four bytes of an event
 
@@ -82,6 +88,46 @@ pub(crate) fn fits_none(r: Raw) -> bool
     (r.x == 0) & (r.y == 0) & (r.z == 0)
 }
 
+// The first field: of PAIR any byte, of TICK and RESET unused, of all others a master or a level.
+fn first_fits(r: Raw) -> bool
+    ensures { λ t. ⌜ t ≡ firstFits r ⌝ }
+{
+    (r.kind == 4) | pick_bool((r.kind == 6) | (r.kind == 8), r.x == 0, r.x < 2)
+}
+
+// The second: of COMMAND, WRITE, PAIR and GENERAL CALL any byte, of LINES a level, of all others unused.
+fn second_fits(r: Raw) -> bool
+    ensures { λ t. ⌜ t ≡ secondFits r ⌝ }
+{
+    (r.kind == 0)
+        | (r.kind == 1)
+        | (r.kind == 4)
+        | (r.kind == 9)
+        | pick_bool(r.kind == 5, r.y < 2, r.y == 0)
+}
+
+// The third: of LINES a level, of all others unused.
+fn third_fits(r: Raw) -> bool
+    ensures { λ t. ⌜ t ≡ thirdFits r ⌝ }
+{
+    pick_bool(r.kind == 5, r.z < 2, r.z == 0)
+}
+
+// The number of four bytes that are no event, or 0.
+pub(crate) fn unread_number(r: Raw) -> u8
+    ensures { λ n. ⌜ n ≡ rawNumber r ⌝ }
+{
+    if r.kind < 10 {
+        if first_fits(r) & second_fits(r) & third_fits(r) {
+            0
+        } else {
+            3
+        }
+    } else {
+        2
+    }
+}
+
 fn master_at(x: u8) -> Master
     ensures { λ m. ⌜ m ≡ master x ⌝ }
 {
@@ -106,10 +152,17 @@ fn claims_by(m: Master, t: Turn) -> bool
     }
 }
 
-pub(crate) fn claims_at(x: u8, a: Arbitration) -> bool
+fn claims_at(x: u8, a: Arbitration) -> bool
     ensures { λ r. ⌜ r ≡ claimsTurn (master x) (a .turn) ⌝ }
 {
     claims_by(master_at(x), turn_of(a))
+}
+
+// A STOP of this master brings it the grant: it claims, and SCL is not held.
+pub(crate) fn is_granted_at_rest(x: u8, b: Bus, a: Arbitration) -> bool
+    ensures { λ r. ⌜ r ≡ claimsTurn (master x) (a .turn) && eqb (b .hold) 0 ⌝ }
+{
+    claims_at(x, a) & (b.hold == 0)
 }
 
 pub(crate) fn granted_at(x: u8, a: Arbitration) -> bool
@@ -272,4 +325,33 @@ pub(crate) fn answer_kept(outcome: u8, read: u8, owner: u8, lines: u8) -> Answer
         owner,
         lines,
     }
+}
+
+// ---- PAIR and a soft reset
+
+// The two bytes of a PAIR move neither turn nor drives.
+pub(crate) fn pairs_lightly(v0: u8, v1: u8, a: Arbitration, s0: Side, s1: Side) -> bool
+    ensures { λ r. ⌜ r ≡ byteIsLight (s0 .pointer) Zero (ownsTurn Zero (a .turn)) v0 (a .turn) (s0 .contr .busconnect) && byteIsLight (s1 .pointer) One (ownsTurn One (a .turn)) v1 (a .turn) (s1 .contr .busconnect) ⌝ }
+{
+    writes_lightly(0, v0, a, s0) & writes_lightly(1, v1, a, s1)
+}
+
+// The side s after its own byte v, and then its partner's byte w, the partner's side being o.
+pub(crate) fn pair_side(rolls: bool, granted: bool, v: u8, w: u8, s: Side, o: Side) -> Side
+    ensures { λ r. ⌜ r ≡ mailWritten (o .pointer) w (writeRisen rolls (ownWritten granted (s .pointer) v s)) ⌝ }
+{
+    mail_written(pointer_of(o), w, writer_side(rolls, granted, v, s))
+}
+
+pub(crate) fn paired_number(s0: Side, s1: Side) -> u8
+    ensures { λ r. ⌜ r ≡ outcomeNumber (if writable (s0 .pointer) && writable (s1 .pointer) then Done else NotAcknowledged) ⌝ }
+{
+    acknowledged_number(writable_at(pointer_of(s0)) & writable_at(pointer_of(s1)))
+}
+
+// For how many ticks SCL is held after a soft reset by the master with the side s.
+pub(crate) fn hold_asked(s: Side) -> u8
+    ensures { λ r. ⌜ r ≡ holdAsked s ⌝ }
+{
+    worth_of(HOLD_TICKS, s.contr.swrst)
 }

@@ -119,7 +119,7 @@ fn ints_after(clears: bool, tests: bool, v: u8, ints: u8) -> u8
 }
 
 // The writer's own side after its byte, with the pointer risen.
-fn writer_side(rolls: bool, granted: bool, v: u8, s: Side) -> Side
+pub fn writer_side(rolls: bool, granted: bool, v: u8, s: Side) -> Side
     ensures { λ r. ⌜ r ≡ writeRisen rolls (ownWritten granted (s .pointer) v s) ⌝ }
 {
     let n = register_number(pointer_of(s));
@@ -148,7 +148,7 @@ fn mail_after(n: u8, v: u8, m: Mailbox) -> Mailbox
 }
 
 // The partner's side after a byte that was written at the register r.
-fn mail_written(r: Register, v: u8, s: Side) -> Side
+pub fn mail_written(r: Register, v: u8, s: Side) -> Side
     ensures { λ n. ⌜ n ≡ mailWritten r v s ⌝ }
 {
     let n = register_number(r);

@@ -9,17 +9,16 @@ use native.Mathlib.Omega.{arith}
 use borrow.Author.Needs.{needs}
 use borrow.Author.Tests.{eq-eqb, ne-eqb}
 use lib.ListN.{length, drop, set}
-use Rattle.arbiter.specs.Registers.{ownWritten}
+use Rattle.arbiter.specs.Registers.{ownWritten, mailWritten}
 use Rattle.arbiter.specs.Effects.{writeRisen, wasReset}
-use Rattle.arbiter.specs.Steps.{runFrom, answersFrom}
+use Rattle.arbiter.specs.Steps.{step, runFrom, answersFrom}
 use Rattle.arbiter.specs.Traces.{eventBytes, rawsIn, bytesOf}
 use Rattle.arbiter.specs.declared.Answer.{Answer}
 use Rattle.arbiter.specs.declared.Device.{Device}
-use Rattle.step.specs.Carried.{steppedWith}
-use Rattle.step.specs.Short.{kept, shortStep}
+use Rattle.step.specs.Carried.{steppedWith, kept}
 use Rattle.traces.proofs.Batch.{least-both, some-one}
-use Rattle.traces.proofs.Arms.{sideAt, held, told as told-kind, first-holds, reads-command, reads-write, reads-read, reads-stop, reads-pair, reads-lines, reads-pulse, reads-reset, reads-call, command-arm, stop-refused, stop-arm, write-refused, write-arm, read-emptying, read-arm, pair-refused, pulse-refused, lines-arm, call-arm, reset-arm}
-use Rattle.traces.proofs.Turn.{Known, turned, stepped-on, ticked-on, two-on, told-step}
+use Rattle.traces.proofs.Arms.{sideAt, held, told as told-kind, first-holds, reads-command, reads-write, reads-read, reads-stop, reads-pair, reads-lines, reads-pulse, reads-reset, reads-call, command-arm, stop-refused, stop-arm, write-refused, write-arm, read-emptying, read-arm, pair-refused, pair-arm, pulse-refused, lines-arm, call-arm, soft-arm, reset-arm, unread-arm}
+use Rattle.traces.proofs.Turn.{Known, turned, stepped-on, ticked-on, two-on}
 use Rattle.traces.proofs.play.Statement.{statement}
 use Rattle.traces.proofs.play.Tie as tie
 
@@ -411,8 +410,8 @@ loop-again-6 c =
           (steppedWith (held kind (at .sides) (at .bus) (at .arb)) (kept 4 0 (at .owner) (at .lines))) r (event .ensures) (arm) _ _ (c .before .before .put-answer6 .kept .0) (c .before .before .put-answer6 .ensures) (c .before .before .before .answer-kept6 .ensures),
     )
 
-claims-at-requires : tie.Need-claims-at-requires Inv-loop μ-loop
-claims-at-requires c κs = search needs
+is-granted-at-rest-requires : tie.Need-is-granted-at-rest-requires Inv-loop μ-loop
+is-granted-at-rest-requires c κs = search needs
 
 stopped-side-requires : tie.Need-stopped-side-requires Inv-loop μ-loop
 stopped-side-requires c κs = search needs
@@ -450,7 +449,7 @@ loop-again-7 c =
     let settled = known .4 (told .0) in
     let fits = sym (c .before .before .before .before .before .before .before .before .before .before .before .before .fits-one2 .ensures) ∙ c .before .before .before .before .before .before .before .before .before .before .before .if7 .taken in
     let opened = sym (c .before .before .before .before .before .before .before .before .before .is-resting .ensures) ∙ c .before .before .before .before .before .before .before .before .if8 .left in
-    let claims = sym (c .before .before .before .before .before .before .before .claims-at .ensures) ∙ c .before .before .before .before .before .before .if9 .left in
+    let claims = sym (c .before .before .before .before .before .before .before .is-granted-at-rest .ensures) ∙ c .before .before .before .before .before .before .if9 .left in
     let side = c .before .before .before .before .before .stopped-side in
     let arm = stop-arm kind (at .sides) (at .bus) (at .arb) two (at .owner) (at .lines) (known .5) (known .6) r (first-holds _ _ (first-holds _ _ fits)) (reads-stop r (told .1) fits) settled opened claims (side .result) (side .ensures) in (
       two-on (at .sides) _ _ two,
@@ -470,6 +469,33 @@ takes-bytes-requires-2 c κs = search needs
 takes-bytes-requires-3 : tie.Need-takes-bytes-requires-3 Inv-loop μ-loop
 takes-bytes-requires-3 c κs = search needs
 
+pairs-lightly-requires : tie.Need-pairs-lightly-requires Inv-loop μ-loop
+pairs-lightly-requires c κs = search needs
+
+granted-at-requires-2 : tie.Need-granted-at-requires-2 Inv-loop μ-loop
+granted-at-requires-2 c κs = search needs
+
+pair-side-requires : tie.Need-pair-side-requires Inv-loop μ-loop
+pair-side-requires c κs = search needs
+
+granted-at-requires-3 : tie.Need-granted-at-requires-3 Inv-loop μ-loop
+granted-at-requires-3 c κs = search needs
+
+pair-side-requires-2 : tie.Need-pair-side-requires-2 Inv-loop μ-loop
+pair-side-requires-2 c κs = search needs
+
+array-set-from-sides-7 : tie.Need-array-set-from-sides-7 Inv-loop μ-loop
+array-set-from-sides-7 c = search needs
+
+array-set-from-sides-8 : tie.Need-array-set-from-sides-8 Inv-loop μ-loop
+array-set-from-sides-8 c = search needs
+
+lines-shown-requires-3 : tie.Need-lines-shown-requires-3 Inv-loop μ-loop
+lines-shown-requires-3 c κs = search needs
+
+paired-number-requires : tie.Need-paired-number-requires Inv-loop μ-loop
+paired-number-requires c κs = search needs
+
 answer-kept-requires-8 : tie.Need-answer-kept-requires-8 Inv-loop μ-loop
 answer-kept-requires-8 c κs = search needs
 
@@ -477,13 +503,56 @@ put-answer-requires-8 : tie.Need-put-answer-requires-8 Inv-loop μ-loop
 put-answer-requires-8 c κs = search needs
 
 add-i-8 : tie.Need-add-i-8 Inv-loop μ-loop
-add-i-8 c = omega (arith, c .before .before .before .before .before .before .before .before .before .before .before .before .before .before .before .before .loop-test .taken, c .before .before .before .before .before .before .before .before .before .before .before .before .before .before .before .before .before .before .before .before .before .before .before .before .before .before .good .1 .1 .1 .1)
+add-i-8 c = omega (arith, c .before .before .before .before .before .before .before .before .before .before .before .before .before .before .before .before .before .before .before .before .before .before .before .before .loop-test .taken, c .before .before .before .before .before .before .before .before .before .before .before .before .before .before .before .before .before .before .before .before .before .before .before .before .before .before .before .before .before .before .before .before .before .before .good .1 .1 .1 .1)
 
 loop-less-8 : tie.Need-loop-less-8 Inv-loop μ-loop
-loop-less-8 c = omega (arith, c .before .before .before .before .before .before .before .before .before .before .before .before .before .before .before .before .loop-test .taken)
+loop-less-8 c = omega (arith, c .before .before .before .before .before .before .before .before .before .before .before .before .before .before .before .before .before .before .before .before .before .before .before .before .loop-test .taken)
 
 loop-again-8 : tie.Need-loop-again-8 Inv-loop μ-loop
 loop-again-8 c =
+    let at = c .before .before .before .before .before .before .before .before .before .before .before .before .before .before .before .before .before .before .before .before .before .before .before .before .before .loop in
+    let start = c .before .before .before .before .before .before .before .before .before .before .before .before .before .before .before .before .before .before .before .before .before .before .before .before .before .before .before .before .before .before .before .before .before .before in
+    let given = start .args in
+    let kind = given .from .kind in
+    let two = at .inv .0 in
+    let known = at .inv .1 in
+    let event = c .before .before .before .before .before .before .before .before .before .before .before .before .before .before .before .before .before .before .before .before .before .before .before .event-at in
+    let r = event .result in
+    let within = c .before .before .before .before .before .before .before .before .before .before .before .before .before .before .before .before .before .before .before .before .before .before .before .before .loop-test .taken in
+    let told = told-kind (given .settled) r (c .before .before .before .before .before .before .before .before .before .before .before .before .before .before .before .before .before .before .before .before .before .before .kind-told .result) 4 (c .before .before .before .before .before .before .before .before .before .before .before .before .before .before .before .before .before .before .before .before .before .before .kind-told .ensures) (c .before .before .before .before .before .before .before .before .before .before .before .before .before .before .before .before .before .before .before .before .match .keys5) (omega arith) in
+    let settled = known .4 (told .0) in
+    let unused = eq-eqb _ _ (c .before .before .before .before .before .before .before .before .before .before .before .before .before .before .before .before .before .before .if10 .taken) in
+    let opened = ap₂ (λ (x y : Bool). x && y) (sym (c .before .before .before .before .before .before .before .before .before .before .before .before .before .before .before .takes-bytes2 .ensures)) (sym (c .before .before .before .before .before .before .before .before .before .before .before .before .before .before .takes-bytes3 .ensures)) ∙ c .before .before .before .before .before .before .before .before .before .before .before .before .before .if11 .taken in
+    let light = sym (c .before .before .before .before .before .before .before .before .before .before .before .before .pairs-lightly .ensures) ∙ c .before .before .before .before .before .before .before .before .before .before .before .if12 .taken in
+    let s0 = sideAt (at .sides) 0 in
+    let s1 = sideAt (at .sides) 1 in
+    let first = c .before .before .before .before .before .before .before .before .before .pair-side in
+    let second = c .before .before .before .before .before .before .before .pair-side2 in
+    let number = c .before .before .before .before .paired-number in
+    let lines = c .before .before .before .before .before .before .lines-shown3 in
+    let rolls = c .before .before .before .before .before .before .before .before .before .before .before .before .before .before .before .before .before .before .before .before .before .before .before .before .before .before .before .before .before .before .rolls-over .ensures in
+    let wrote0 = first .ensures ∙ ap₂ (λ (x y : Bool). mailWritten (s1 .pointer) (r .y) (writeRisen x (ownWritten y (s0 .pointer) (r .x) s0))) rolls (c .before .before .before .before .before .before .before .before .before .before .granted-at2 .ensures) in
+    let wrote1 = second .ensures ∙ ap₂ (λ (x y : Bool). mailWritten (s0 .pointer) (r .x) (writeRisen x (ownWritten y (s1 .pointer) (r .y) s1))) rolls (c .before .before .before .before .before .before .before .before .granted-at3 .ensures) in
+    let arm = pair-arm kind (at .sides) (at .bus) (at .arb) two (at .owner) (at .lines) (known .5) (known .6) r (reads-pair r (told .1) unused) settled opened light (first .result) (second .result) (number .result) (lines .result) wrote0 wrote1 (number .ensures) (lines .ensures) in (
+      two-on (set (at .sides) _ _) _ _ (two-on (at .sides) _ _ two),
+      turned (given .settled) (given .events .now) (given .answers .now) (given .n) (given .from) (at .answers) (at .owner) (at .lines) (held kind (at .sides) (at .bus) (at .arb)) (at .i) known within (start .pre .0) (start .pre .1)
+          (steppedWith (held kind (set (set (at .sides) 0 (first .result)) 1 (second .result)) (at .bus) (at .arb)) (kept (number .result) 0 (at .owner) (lines .result))) r (event .ensures) (arm) _ _ (c .before .before .put-answer8 .kept .0) (c .before .before .put-answer8 .ensures) (c .before .before .before .answer-kept8 .ensures),
+    )
+
+answer-kept-requires-9 : tie.Need-answer-kept-requires-9 Inv-loop μ-loop
+answer-kept-requires-9 c κs = search needs
+
+put-answer-requires-9 : tie.Need-put-answer-requires-9 Inv-loop μ-loop
+put-answer-requires-9 c κs = search needs
+
+add-i-9 : tie.Need-add-i-9 Inv-loop μ-loop
+add-i-9 c = omega (arith, c .before .before .before .before .before .before .before .before .before .before .before .before .before .before .before .before .loop-test .taken, c .before .before .before .before .before .before .before .before .before .before .before .before .before .before .before .before .before .before .before .before .before .before .before .before .before .before .good .1 .1 .1 .1)
+
+loop-less-9 : tie.Need-loop-less-9 Inv-loop μ-loop
+loop-less-9 c = omega (arith, c .before .before .before .before .before .before .before .before .before .before .before .before .before .before .before .before .loop-test .taken)
+
+loop-again-9 : tie.Need-loop-again-9 Inv-loop μ-loop
+loop-again-9 c =
     let at = c .before .before .before .before .before .before .before .before .before .before .before .before .before .before .before .before .before .loop in
     let start = c .before .before .before .before .before .before .before .before .before .before .before .before .before .before .before .before .before .before .before .before .before .before .before .before .before .before in
     let given = start .args in
@@ -500,7 +569,7 @@ loop-again-8 c =
     let arm = pair-refused kind (at .sides) (at .bus) (at .arb) two (at .owner) (at .lines) (known .5) (known .6) r (reads-pair r (told .1) unused) shut in (
       two,
       turned (given .settled) (given .events .now) (given .answers .now) (given .n) (given .from) (at .answers) (at .owner) (at .lines) (held kind (at .sides) (at .bus) (at .arb)) (at .i) known within (start .pre .0) (start .pre .1)
-          (steppedWith (held kind (at .sides) (at .bus) (at .arb)) (kept 4 0 (at .owner) (at .lines))) r (event .ensures) (arm) _ _ (c .before .before .put-answer8 .kept .0) (c .before .before .put-answer8 .ensures) (c .before .before .before .answer-kept8 .ensures),
+          (steppedWith (held kind (at .sides) (at .bus) (at .arb)) (kept 4 0 (at .owner) (at .lines))) r (event .ensures) (arm) _ _ (c .before .before .put-answer9 .kept .0) (c .before .before .put-answer9 .ensures) (c .before .before .before .answer-kept9 .ensures),
     )
 
 fits-levels-requires : tie.Need-fits-levels-requires Inv-loop μ-loop
@@ -527,29 +596,29 @@ fallen-side-requires c κs = search needs
 fallen-side-requires-2 : tie.Need-fallen-side-requires-2 Inv-loop μ-loop
 fallen-side-requires-2 c κs = search needs
 
-array-set-from-sides-7 : tie.Need-array-set-from-sides-7 Inv-loop μ-loop
-array-set-from-sides-7 c = search needs
+array-set-from-sides-9 : tie.Need-array-set-from-sides-9 Inv-loop μ-loop
+array-set-from-sides-9 c = search needs
 
-array-set-from-sides-8 : tie.Need-array-set-from-sides-8 Inv-loop μ-loop
-array-set-from-sides-8 c = search needs
+array-set-from-sides-10 : tie.Need-array-set-from-sides-10 Inv-loop μ-loop
+array-set-from-sides-10 c = search needs
 
-lines-shown-requires-3 : tie.Need-lines-shown-requires-3 Inv-loop μ-loop
-lines-shown-requires-3 c κs = search needs
+lines-shown-requires-4 : tie.Need-lines-shown-requires-4 Inv-loop μ-loop
+lines-shown-requires-4 c κs = search needs
 
-answer-kept-requires-9 : tie.Need-answer-kept-requires-9 Inv-loop μ-loop
-answer-kept-requires-9 c κs = search needs
+answer-kept-requires-10 : tie.Need-answer-kept-requires-10 Inv-loop μ-loop
+answer-kept-requires-10 c κs = search needs
 
-put-answer-requires-9 : tie.Need-put-answer-requires-9 Inv-loop μ-loop
-put-answer-requires-9 c κs = search needs
+put-answer-requires-10 : tie.Need-put-answer-requires-10 Inv-loop μ-loop
+put-answer-requires-10 c κs = search needs
 
-add-i-9 : tie.Need-add-i-9 Inv-loop μ-loop
-add-i-9 c = omega (arith, c .before .before .before .before .before .before .before .before .before .before .before .before .before .before .before .before .before .before .before .before .loop-test .taken, c .before .before .before .before .before .before .before .before .before .before .before .before .before .before .before .before .before .before .before .before .before .before .before .before .before .before .before .before .before .before .good .1 .1 .1 .1)
+add-i-10 : tie.Need-add-i-10 Inv-loop μ-loop
+add-i-10 c = omega (arith, c .before .before .before .before .before .before .before .before .before .before .before .before .before .before .before .before .before .before .before .before .loop-test .taken, c .before .before .before .before .before .before .before .before .before .before .before .before .before .before .before .before .before .before .before .before .before .before .before .before .before .before .before .before .before .before .good .1 .1 .1 .1)
 
-loop-less-9 : tie.Need-loop-less-9 Inv-loop μ-loop
-loop-less-9 c = omega (arith, c .before .before .before .before .before .before .before .before .before .before .before .before .before .before .before .before .before .before .before .before .loop-test .taken)
+loop-less-10 : tie.Need-loop-less-10 Inv-loop μ-loop
+loop-less-10 c = omega (arith, c .before .before .before .before .before .before .before .before .before .before .before .before .before .before .before .before .before .before .before .before .loop-test .taken)
 
-loop-again-9 : tie.Need-loop-again-9 Inv-loop μ-loop
-loop-again-9 c =
+loop-again-10 : tie.Need-loop-again-10 Inv-loop μ-loop
+loop-again-10 c =
     let at = c .before .before .before .before .before .before .before .before .before .before .before .before .before .before .before .before .before .before .before .before .before .loop in
     let start = c .before .before .before .before .before .before .before .before .before .before .before .before .before .before .before .before .before .before .before .before .before .before .before .before .before .before .before .before .before .before in
     let given = start .args in
@@ -561,17 +630,17 @@ loop-again-9 c =
     let within = c .before .before .before .before .before .before .before .before .before .before .before .before .before .before .before .before .before .before .before .before .loop-test .taken in
     let told = told-kind (given .settled) r (c .before .before .before .before .before .before .before .before .before .before .before .before .before .before .before .before .before .before .kind-told .result) 5 (c .before .before .before .before .before .before .before .before .before .before .before .before .before .before .before .before .before .before .kind-told .ensures) (c .before .before .before .before .before .before .before .before .before .before .before .before .before .before .before .before .match .keys6) (omega arith) in
     let settled = known .4 (told .0) in
-    let fits = sym (c .before .before .before .before .before .before .before .before .before .before .before .before .before .before .before .fits-levels .ensures) ∙ c .before .before .before .before .before .before .before .before .before .before .before .before .before .before .if12 .taken in
+    let fits = sym (c .before .before .before .before .before .before .before .before .before .before .before .before .before .before .before .fits-levels .ensures) ∙ c .before .before .before .before .before .before .before .before .before .before .before .before .before .before .if13 .taken in
     let after = c .before .before .before .before .before .before .before .before .before .before .before .bus-lined in
-    let keeps = sym (c .before .before .before .before .before .before .before .before .before .before .ends-no-grant .ensures) ∙ c .before .before .before .before .before .before .before .before .before .if13 .taken in
+    let keeps = sym (c .before .before .before .before .before .before .before .before .before .before .ends-no-grant .ensures) ∙ c .before .before .before .before .before .before .before .before .before .if14 .taken in
     let fell = c .before .before .before .before .before .before .before .before .intin-fell in
     let first = c .before .before .before .before .before .before .before .fallen-side in
     let second = c .before .before .before .before .before .before .fallen-side2 in
-    let lines = c .before .before .before .before .before .lines-shown3 in
+    let lines = c .before .before .before .before .before .lines-shown4 in
     let arm = lines-arm kind (at .sides) (at .bus) (at .arb) two (at .owner) (at .lines) (known .5) (known .6) r (reads-lines r (told .1) fits) settled (after .result) (after .ensures) keeps (fell .result) (fell .ensures) (first .result) (second .result) (lines .result) (first .ensures) (second .ensures) (lines .ensures) in (
       two-on (set (at .sides) _ _) _ _ (two-on (at .sides) _ _ two),
       turned (given .settled) (given .events .now) (given .answers .now) (given .n) (given .from) (at .answers) (at .owner) (at .lines) (held kind (at .sides) (at .bus) (at .arb)) (at .i) known within (start .pre .0) (start .pre .1)
-          (steppedWith (held kind (set (set (at .sides) 0 (first .result)) 1 (second .result)) (after .result) (at .arb)) (kept 0 0 (at .owner) (lines .result))) r (event .ensures) (arm) _ _ (c .before .before .put-answer9 .kept .0) (c .before .before .put-answer9 .ensures) (c .before .before .before .answer-kept9 .ensures),
+          (steppedWith (held kind (set (set (at .sides) 0 (first .result)) 1 (second .result)) (after .result) (at .arb)) (kept 0 0 (at .owner) (lines .result))) r (event .ensures) (arm) _ _ (c .before .before .put-answer10 .kept .0) (c .before .before .put-answer10 .ensures) (c .before .before .before .answer-kept10 .ensures),
     )
 
 is-tick-requires : tie.Need-is-tick-requires Inv-loop μ-loop
@@ -608,8 +677,8 @@ add-last c =
     let least = least-both (ahead .result) (given .n - at .i) (few .result) (few .ensures) in
     omega (arith, least .1, within, c .before .before .before .before .before .before .before .before .before .before .before .before .before .before .before .before .before .before .before .before .before .before .good .1 .1 .1 .1)
 
-answer-kept-requires-10 : tie.Need-answer-kept-requires-10 Inv-loop μ-loop
-answer-kept-requires-10 c κs = search needs
+answer-kept-requires-11 : tie.Need-answer-kept-requires-11 Inv-loop μ-loop
+answer-kept-requires-11 c κs = search needs
 
 play-ticks-requires : tie.Need-play-ticks-requires Inv-loop μ-loop
 play-ticks-requires c κs =
@@ -620,7 +689,7 @@ play-ticks-requires c κs =
     let within = c .before .before .before .before .before .before .before .before .before .before .before .before .before .before .loop-test .taken in
     let least = least-both (ahead .result) (given .n - at .i) (few .result) (few .ensures) in
     let some : 1 ≤ given .n - at .i = omega (arith, within) in
-    omega (arith, least .2 (some-one (ahead .result) (c .before .before .before .if15 .left)) some)
+    omega (arith, least .2 (some-one (ahead .result) (c .before .before .before .if16 .left)) some)
 
 sub-after-ticks : tie.Need-sub-after-ticks Inv-loop μ-loop
 sub-after-ticks c = omega (arith, c .before .before .play-ticks .ensures .0)
@@ -638,11 +707,11 @@ cast-after-ticks c =
 after-ticks-requires : tie.Need-after-ticks-requires Inv-loop μ-loop
 after-ticks-requires c κs = search needs
 
-loop-less-10 : tie.Need-loop-less-10 Inv-loop μ-loop
-loop-less-10 c = omega (arith, c .before .before .before .before .before .play-ticks .ensures .0, c .before .before .before .before .before .before .before .before .before .before .before .before .before .before .before .before .before .before .before .before .loop-test .taken)
+loop-less-11 : tie.Need-loop-less-11 Inv-loop μ-loop
+loop-less-11 c = omega (arith, c .before .before .before .before .before .play-ticks .ensures .0, c .before .before .before .before .before .before .before .before .before .before .before .before .before .before .before .before .before .before .before .before .loop-test .taken)
 
-loop-again-10 : tie.Need-loop-again-10 Inv-loop μ-loop
-loop-again-10 c =
+loop-again-11 : tie.Need-loop-again-11 Inv-loop μ-loop
+loop-again-11 c =
     let at = c .before .before .before .before .before .before .before .before .before .before .before .before .before .before .before .before .before .before .before .before .before .loop in
     let start = c .before .before .before .before .before .before .before .before .before .before .before .before .before .before .before .before .before .before .before .before .before .before .before .before .before .before .before .before .before .before in
     let given = start .args in
@@ -654,7 +723,7 @@ loop-again-10 c =
     let within = c .before .before .before .before .before .before .before .before .before .before .before .before .before .before .before .before .before .before .before .before .loop-test .taken in
     let told = told-kind (given .settled) r (c .before .before .before .before .before .before .before .before .before .before .before .before .before .before .before .before .before .before .kind-told .result) 6 (c .before .before .before .before .before .before .before .before .before .before .before .before .before .before .before .before .before .before .kind-told .ensures) (c .before .before .before .before .before .before .before .before .before .before .before .before .before .before .before .before .match .keys7) (omega arith) in
     let settled = known .4 (told .0) in
-    let tick = sym (c .before .before .before .before .before .before .before .before .before .before .before .before .before .before .before .is-tick .ensures) ∙ c .before .before .before .before .before .before .before .before .before .before .before .before .before .before .if14 .taken in
+    let tick = sym (c .before .before .before .before .before .before .before .before .before .before .before .before .before .before .before .is-tick .ensures) ∙ c .before .before .before .before .before .before .before .before .before .before .before .before .before .before .if15 .taken in
     let whole = c .before .before .before .before .before .before .before .before .before .before .before .device-of in
     let ahead = c .before .before .before .before .before .before .before .before .before .before .settled-ticks in
     let few = c .before .before .before .before .before .before .before .before .least-of in
@@ -662,8 +731,8 @@ loop-again-10 c =
     let moved = c .before .before .after-ticks in (
       two,
       ticked-on (given .settled) (given .events .now) (given .answers .now) (given .n) (given .from) (at .answers) (at .owner) (at .lines) kind (at .sides) (at .bus) (at .arb) (at .i) two known within (start .pre .0) (start .pre .1)
-          (whole .result) (whole .ensures) (ahead .result) (ahead .ensures) (c .before .before .before .before .before .before .before .before .before .if15 .left) settled r (event .ensures) tick (few .result) (few .ensures)
-          (played .result) (played .ensures .0) (played .ensures .1) (played .ensures .2) _ (c .before .before .before .before .before .before .answer-kept10 .ensures) _ (played .kept .1 .0) (played .ensures .3) (moved .result) (moved .ensures),
+          (whole .result) (whole .ensures) (ahead .result) (ahead .ensures) (c .before .before .before .before .before .before .before .before .before .if16 .left) settled r (event .ensures) tick (few .result) (few .ensures)
+          (played .result) (played .ensures .0) (played .ensures .1) (played .ensures .2) _ (c .before .before .before .before .before .before .answer-kept11 .ensures) _ (played .kept .1 .0) (played .ensures .3) (moved .result) (moved .ensures),
     )
 
 fits-one-requires-3 : tie.Need-fits-one-requires-3 Inv-loop μ-loop
@@ -672,20 +741,20 @@ fits-one-requires-3 c κs = search needs
 is-initialising-requires : tie.Need-is-initialising-requires Inv-loop μ-loop
 is-initialising-requires c κs = search needs
 
-answer-kept-requires-11 : tie.Need-answer-kept-requires-11 Inv-loop μ-loop
-answer-kept-requires-11 c κs = search needs
+answer-kept-requires-12 : tie.Need-answer-kept-requires-12 Inv-loop μ-loop
+answer-kept-requires-12 c κs = search needs
 
-put-answer-requires-10 : tie.Need-put-answer-requires-10 Inv-loop μ-loop
-put-answer-requires-10 c κs = search needs
+put-answer-requires-11 : tie.Need-put-answer-requires-11 Inv-loop μ-loop
+put-answer-requires-11 c κs = search needs
 
-add-i-10 : tie.Need-add-i-10 Inv-loop μ-loop
-add-i-10 c = omega (arith, c .before .before .before .before .before .before .before .before .before .before .before .before .before .loop-test .taken, c .before .before .before .before .before .before .before .before .before .before .before .before .before .before .before .before .before .before .before .before .before .before .before .good .1 .1 .1 .1)
+add-i-11 : tie.Need-add-i-11 Inv-loop μ-loop
+add-i-11 c = omega (arith, c .before .before .before .before .before .before .before .before .before .before .before .before .before .loop-test .taken, c .before .before .before .before .before .before .before .before .before .before .before .before .before .before .before .before .before .before .before .before .before .before .before .good .1 .1 .1 .1)
 
-loop-less-11 : tie.Need-loop-less-11 Inv-loop μ-loop
-loop-less-11 c = omega (arith, c .before .before .before .before .before .before .before .before .before .before .before .before .before .loop-test .taken)
+loop-less-12 : tie.Need-loop-less-12 Inv-loop μ-loop
+loop-less-12 c = omega (arith, c .before .before .before .before .before .before .before .before .before .before .before .before .before .loop-test .taken)
 
-loop-again-11 : tie.Need-loop-again-11 Inv-loop μ-loop
-loop-again-11 c =
+loop-again-12 : tie.Need-loop-again-12 Inv-loop μ-loop
+loop-again-12 c =
     let at = c .before .before .before .before .before .before .before .before .before .before .before .before .before .before .loop in
     let start = c .before .before .before .before .before .before .before .before .before .before .before .before .before .before .before .before .before .before .before .before .before .before .before in
     let given = start .args in
@@ -697,12 +766,12 @@ loop-again-11 c =
     let within = c .before .before .before .before .before .before .before .before .before .before .before .before .before .loop-test .taken in
     let told = told-kind (given .settled) r (c .before .before .before .before .before .before .before .before .before .before .before .kind-told .result) 7 (c .before .before .before .before .before .before .before .before .before .before .before .kind-told .ensures) (c .before .before .before .before .before .before .before .before .before .match .keys8) (omega arith) in
     let settled = known .4 (told .0) in
-    let fits = sym (c .before .before .before .before .before .before .before .before .fits-one3 .ensures) ∙ c .before .before .before .before .before .before .before .if16 .taken in
-    let closed = sym (c .before .before .before .before .before .before .is-initialising .ensures) ∙ c .before .before .before .before .before .if17 .left in
+    let fits = sym (c .before .before .before .before .before .before .before .before .fits-one3 .ensures) ∙ c .before .before .before .before .before .before .before .if17 .taken in
+    let closed = sym (c .before .before .before .before .before .before .is-initialising .ensures) ∙ c .before .before .before .before .before .if18 .left in
     let arm = pulse-refused kind (at .sides) (at .bus) (at .arb) two (at .owner) (at .lines) (known .5) (known .6) r (reads-pulse r (told .1) fits) closed in (
       two,
       turned (given .settled) (given .events .now) (given .answers .now) (given .n) (given .from) (at .answers) (at .owner) (at .lines) (held kind (at .sides) (at .bus) (at .arb)) (at .i) known within (start .pre .0) (start .pre .1)
-          (steppedWith (held kind (at .sides) (at .bus) (at .arb)) (kept 4 0 (at .owner) (at .lines))) r (event .ensures) (arm) _ _ (c .before .before .put-answer10 .kept .0) (c .before .before .put-answer10 .ensures) (c .before .before .before .answer-kept11 .ensures),
+          (steppedWith (held kind (at .sides) (at .bus) (at .arb)) (kept 4 0 (at .owner) (at .lines))) r (event .ensures) (arm) _ _ (c .before .before .put-answer11 .kept .0) (c .before .before .put-answer11 .ensures) (c .before .before .before .answer-kept12 .ensures),
     )
 
 fits-none-requires : tie.Need-fits-none-requires Inv-loop μ-loop
@@ -723,23 +792,23 @@ reset-device-requires c κs = search needs
 answered-requires-2 : tie.Need-answered-requires-2 Inv-loop μ-loop
 answered-requires-2 c κs = search needs
 
-put-answer-requires-11 : tie.Need-put-answer-requires-11 Inv-loop μ-loop
-put-answer-requires-11 c κs = search needs
+put-answer-requires-12 : tie.Need-put-answer-requires-12 Inv-loop μ-loop
+put-answer-requires-12 c κs = search needs
 
-array-set-from-sides-9 : tie.Need-array-set-from-sides-9 Inv-loop μ-loop
-array-set-from-sides-9 c = search needs
+array-set-from-sides-11 : tie.Need-array-set-from-sides-11 Inv-loop μ-loop
+array-set-from-sides-11 c = search needs
 
-array-set-from-sides-10 : tie.Need-array-set-from-sides-10 Inv-loop μ-loop
-array-set-from-sides-10 c = search needs
+array-set-from-sides-12 : tie.Need-array-set-from-sides-12 Inv-loop μ-loop
+array-set-from-sides-12 c = search needs
 
-add-i-11 : tie.Need-add-i-11 Inv-loop μ-loop
-add-i-11 c = omega (arith, c .before .before .before .before .before .before .before .before .before .before .before .before .before .before .before .before .before .before .before .loop-test .taken, c .before .before .before .before .before .before .before .before .before .before .before .before .before .before .before .before .before .before .before .before .before .before .before .before .before .before .before .before .before .good .1 .1 .1 .1)
+add-i-12 : tie.Need-add-i-12 Inv-loop μ-loop
+add-i-12 c = omega (arith, c .before .before .before .before .before .before .before .before .before .before .before .before .before .before .before .before .before .before .before .loop-test .taken, c .before .before .before .before .before .before .before .before .before .before .before .before .before .before .before .before .before .before .before .before .before .before .before .before .before .before .before .before .before .good .1 .1 .1 .1)
 
-loop-less-12 : tie.Need-loop-less-12 Inv-loop μ-loop
-loop-less-12 c = omega (arith, c .before .before .before .before .before .before .before .before .before .before .before .before .before .before .before .before .before .before .before .loop-test .taken)
+loop-less-13 : tie.Need-loop-less-13 Inv-loop μ-loop
+loop-less-13 c = omega (arith, c .before .before .before .before .before .before .before .before .before .before .before .before .before .before .before .before .before .before .before .loop-test .taken)
 
-loop-again-12 : tie.Need-loop-again-12 Inv-loop μ-loop
-loop-again-12 c =
+loop-again-13 : tie.Need-loop-again-13 Inv-loop μ-loop
+loop-again-13 c =
     let at = c .before .before .before .before .before .before .before .before .before .before .before .before .before .before .before .before .before .before .before .before .loop in
     let start = c .before .before .before .before .before .before .before .before .before .before .before .before .before .before .before .before .before .before .before .before .before .before .before .before .before .before .before .before .before in
     let given = start .args in
@@ -751,11 +820,11 @@ loop-again-12 c =
     let within = c .before .before .before .before .before .before .before .before .before .before .before .before .before .before .before .before .before .before .before .loop-test .taken in
     let told = told-kind (given .settled) r (c .before .before .before .before .before .before .before .before .before .before .before .before .before .before .before .before .before .kind-told .result) 8 (c .before .before .before .before .before .before .before .before .before .before .before .before .before .before .before .before .before .kind-told .ensures) (c .before .before .before .before .before .before .before .before .before .before .before .before .before .before .before .match .keys9) (omega arith) in
     let settled = known .4 (told .0) in
-    let fits = sym (c .before .before .before .before .before .before .before .before .before .before .before .before .before .before .fits-none .ensures) ∙ c .before .before .before .before .before .before .before .before .before .before .before .before .before .if18 .taken in
+    let fits = sym (c .before .before .before .before .before .before .before .before .before .before .before .before .before .before .fits-none .ensures) ∙ c .before .before .before .before .before .before .before .before .before .before .before .before .before .if19 .taken in
     let new = c .before .before .before .before .before .before .before .before .before .reset-device in
     let told-of = c .before .before .before .before .before .before .before .before .answered2 in
     let arm = reset-arm kind (at .sides) (at .bus) (at .arb) two (at .owner) (at .lines) (known .5) (known .6) r (reads-reset r (told .1) fits) (new .result) (told-of .result) (new .ensures ∙ ap (wasReset 0) (c .before .before .before .before .before .before .before .before .before .before .device-of2 .ensures)) (told-of .ensures) in
-    let put = c .before .before .before .before .before .before .put-answer11 in (
+    let put = c .before .before .before .before .before .before .put-answer12 in (
       two-on (set (at .sides) _ _) _ _ (two-on (at .sides) _ _ two),
       stepped-on (given .settled) (given .events .now) (given .answers .now) (given .n) (given .from) (at .answers) (at .owner) (at .lines) kind (at .sides) (at .bus) (at .arb) (at .i) two known within (start .pre .0) (start .pre .1)
           (steppedWith (new .result) (told-of .result)) r (event .ensures) arm _ _ (put .kept .0) (put .ensures) refl,
@@ -764,20 +833,84 @@ loop-again-12 c =
 fits-byte-requires-3 : tie.Need-fits-byte-requires-3 Inv-loop μ-loop
 fits-byte-requires-3 c κs = search needs
 
-answer-kept-requires-12 : tie.Need-answer-kept-requires-12 Inv-loop μ-loop
-answer-kept-requires-12 c κs = search needs
+mul-s-5 : tie.Need-mul-s-5 Inv-loop μ-loop
+mul-s-5 c = omega arith
 
-put-answer-requires-12 : tie.Need-put-answer-requires-12 Inv-loop μ-loop
-put-answer-requires-12 c κs = search needs
+array-copy-out-s-5 : tie.Need-array-copy-out-s-5 Inv-loop μ-loop
+array-copy-out-s-5 c = omega arith
 
-add-i-12 : tie.Need-add-i-12 Inv-loop μ-loop
-add-i-12 c = omega (arith, c .before .before .before .before .before .before .before .before .before .before .before .before .before .loop-test .taken, c .before .before .before .before .before .before .before .before .before .before .before .before .before .before .before .before .before .before .before .before .before .before .before .good .1 .1 .1 .1)
+array-copy-out-s0-7 : tie.Need-array-copy-out-s0-7 Inv-loop μ-loop
+array-copy-out-s0-7 c = search needs
 
-loop-less-13 : tie.Need-loop-less-13 Inv-loop μ-loop
-loop-less-13 c = omega (arith, c .before .before .before .before .before .before .before .before .before .before .before .before .before .loop-test .taken)
+array-copy-out-s1-7 : tie.Need-array-copy-out-s1-7 Inv-loop μ-loop
+array-copy-out-s1-7 c = search needs
 
-loop-again-13 : tie.Need-loop-again-13 Inv-loop μ-loop
-loop-again-13 c =
+hold-asked-requires : tie.Need-hold-asked-requires Inv-loop μ-loop
+hold-asked-requires c κs = search needs
+
+device-of-requires-3 : tie.Need-device-of-requires-3 Inv-loop μ-loop
+device-of-requires-3 c κs = search needs
+
+reset-device-requires-2 : tie.Need-reset-device-requires-2 Inv-loop μ-loop
+reset-device-requires-2 c κs = search needs
+
+answered-requires-3 : tie.Need-answered-requires-3 Inv-loop μ-loop
+answered-requires-3 c κs = search needs
+
+put-answer-requires-13 : tie.Need-put-answer-requires-13 Inv-loop μ-loop
+put-answer-requires-13 c κs = search needs
+
+array-set-from-sides-13 : tie.Need-array-set-from-sides-13 Inv-loop μ-loop
+array-set-from-sides-13 c = search needs
+
+array-set-from-sides-14 : tie.Need-array-set-from-sides-14 Inv-loop μ-loop
+array-set-from-sides-14 c = search needs
+
+add-i-13 : tie.Need-add-i-13 Inv-loop μ-loop
+add-i-13 c = omega (arith, c .before .before .before .before .before .before .before .before .before .before .before .before .before .before .before .before .before .before .before .before .before .before .before .loop-test .taken, c .before .before .before .before .before .before .before .before .before .before .before .before .before .before .before .before .before .before .before .before .before .before .before .before .before .before .before .before .before .before .before .before .before .good .1 .1 .1 .1)
+
+loop-less-14 : tie.Need-loop-less-14 Inv-loop μ-loop
+loop-less-14 c = omega (arith, c .before .before .before .before .before .before .before .before .before .before .before .before .before .before .before .before .before .before .before .before .before .before .before .loop-test .taken)
+
+loop-again-14 : tie.Need-loop-again-14 Inv-loop μ-loop
+loop-again-14 c =
+    let at = c .before .before .before .before .before .before .before .before .before .before .before .before .before .before .before .before .before .before .before .before .before .before .before .before .loop in
+    let start = c .before .before .before .before .before .before .before .before .before .before .before .before .before .before .before .before .before .before .before .before .before .before .before .before .before .before .before .before .before .before .before .before .before in
+    let given = start .args in
+    let kind = given .from .kind in
+    let two = at .inv .0 in
+    let known = at .inv .1 in
+    let event = c .before .before .before .before .before .before .before .before .before .before .before .before .before .before .before .before .before .before .before .before .before .before .event-at in
+    let r = event .result in
+    let within = c .before .before .before .before .before .before .before .before .before .before .before .before .before .before .before .before .before .before .before .before .before .before .before .loop-test .taken in
+    let told = told-kind (given .settled) r (c .before .before .before .before .before .before .before .before .before .before .before .before .before .before .before .before .before .before .before .before .before .kind-told .result) 9 (c .before .before .before .before .before .before .before .before .before .before .before .before .before .before .before .before .before .before .before .before .before .kind-told .ensures) (c .before .before .before .before .before .before .before .before .before .before .before .before .before .before .before .before .before .before .before .match .keys10) (omega arith) in
+    let settled = known .4 (told .0) in
+    let fits = sym (c .before .before .before .before .before .before .before .before .before .before .before .before .before .before .before .before .before .before .fits-byte3 .ensures) ∙ c .before .before .before .before .before .before .before .before .before .before .before .before .before .before .before .before .before .if20 .taken in
+    let soft = eq-eqb _ _ (c .before .before .before .before .before .before .before .before .before .before .before .before .before .before .before .if21 .taken) in
+    let hold = c .before .before .before .before .before .before .before .before .before .before .before .hold-asked in
+    let new = c .before .before .before .before .before .before .before .before .before .reset-device2 in
+    let told-of = c .before .before .before .before .before .before .before .before .answered3 in
+    let arm = soft-arm kind (at .sides) (at .bus) (at .arb) two (at .owner) (at .lines) (known .5) (known .6) r (first-holds _ _ fits) (reads-call r (told .1) fits) soft (hold .result) (hold .ensures) (new .result) (told-of .result) (new .ensures ∙ ap (wasReset (hold .result)) (c .before .before .before .before .before .before .before .before .before .before .device-of3 .ensures)) (told-of .ensures) in
+    let put = c .before .before .before .before .before .before .put-answer13 in (
+      two-on (set (at .sides) _ _) _ _ (two-on (at .sides) _ _ two),
+      stepped-on (given .settled) (given .events .now) (given .answers .now) (given .n) (given .from) (at .answers) (at .owner) (at .lines) kind (at .sides) (at .bus) (at .arb) (at .i) two known within (start .pre .0) (start .pre .1)
+          (steppedWith (new .result) (told-of .result)) r (event .ensures) arm _ _ (put .kept .0) (put .ensures) refl,
+    )
+
+answer-kept-requires-13 : tie.Need-answer-kept-requires-13 Inv-loop μ-loop
+answer-kept-requires-13 c κs = search needs
+
+put-answer-requires-14 : tie.Need-put-answer-requires-14 Inv-loop μ-loop
+put-answer-requires-14 c κs = search needs
+
+add-i-14 : tie.Need-add-i-14 Inv-loop μ-loop
+add-i-14 c = omega (arith, c .before .before .before .before .before .before .before .before .before .before .before .before .before .loop-test .taken, c .before .before .before .before .before .before .before .before .before .before .before .before .before .before .before .before .before .before .before .before .before .before .before .good .1 .1 .1 .1)
+
+loop-less-15 : tie.Need-loop-less-15 Inv-loop μ-loop
+loop-less-15 c = omega (arith, c .before .before .before .before .before .before .before .before .before .before .before .before .before .loop-test .taken)
+
+loop-again-15 : tie.Need-loop-again-15 Inv-loop μ-loop
+loop-again-15 c =
     let at = c .before .before .before .before .before .before .before .before .before .before .before .before .before .before .loop in
     let start = c .before .before .before .before .before .before .before .before .before .before .before .before .before .before .before .before .before .before .before .before .before .before .before in
     let given = start .args in
@@ -789,59 +922,45 @@ loop-again-13 c =
     let within = c .before .before .before .before .before .before .before .before .before .before .before .before .before .loop-test .taken in
     let told = told-kind (given .settled) r (c .before .before .before .before .before .before .before .before .before .before .before .kind-told .result) 9 (c .before .before .before .before .before .before .before .before .before .before .before .kind-told .ensures) (c .before .before .before .before .before .before .before .before .before .match .keys10) (omega arith) in
     let settled = known .4 (told .0) in
-    let fits = sym (c .before .before .before .before .before .before .before .before .fits-byte3 .ensures) ∙ c .before .before .before .before .before .before .before .if19 .taken in
-    let other = ne-eqb _ _ (c .before .before .before .before .before .if20 .left) in
+    let fits = sym (c .before .before .before .before .before .before .before .before .fits-byte3 .ensures) ∙ c .before .before .before .before .before .before .before .if20 .taken in
+    let other = ne-eqb _ _ (c .before .before .before .before .before .if21 .left) in
     let arm = call-arm kind (at .sides) (at .bus) (at .arb) two (at .owner) (at .lines) (known .5) (known .6) r (reads-call r (told .1) fits) settled other in (
       two,
       turned (given .settled) (given .events .now) (given .answers .now) (given .n) (given .from) (at .answers) (at .owner) (at .lines) (held kind (at .sides) (at .bus) (at .arb)) (at .i) known within (start .pre .0) (start .pre .1)
-          (steppedWith (held kind (at .sides) (at .bus) (at .arb)) (kept 1 0 (at .owner) (at .lines))) r (event .ensures) (arm) _ _ (c .before .before .put-answer12 .kept .0) (c .before .before .put-answer12 .ensures) (c .before .before .before .answer-kept12 .ensures),
+          (steppedWith (held kind (at .sides) (at .bus) (at .arb)) (kept 1 0 (at .owner) (at .lines))) r (event .ensures) (arm) _ _ (c .before .before .put-answer14 .kept .0) (c .before .before .put-answer14 .ensures) (c .before .before .before .answer-kept13 .ensures),
     )
 
-array-copy-out-s0-7 : tie.Need-array-copy-out-s0-7 Inv-loop μ-loop
-array-copy-out-s0-7 c = search needs
+unread-number-requires : tie.Need-unread-number-requires Inv-loop μ-loop
+unread-number-requires c κs = search needs
 
-array-copy-out-s1-7 : tie.Need-array-copy-out-s1-7 Inv-loop μ-loop
-array-copy-out-s1-7 c = search needs
+answer-kept-requires-14 : tie.Need-answer-kept-requires-14 Inv-loop μ-loop
+answer-kept-requires-14 c κs = search needs
 
-device-of-requires-3 : tie.Need-device-of-requires-3 Inv-loop μ-loop
-device-of-requires-3 c κs = search needs
+put-answer-requires-15 : tie.Need-put-answer-requires-15 Inv-loop μ-loop
+put-answer-requires-15 c κs = search needs
 
-step-one-requires : tie.Need-step-one-requires Inv-loop μ-loop
-step-one-requires c κs = search needs
+add-i-15 : tie.Need-add-i-15 Inv-loop μ-loop
+add-i-15 c = omega (arith, c .before .before .before .before .before .before .before .before .before .before .before .loop-test .taken, c .before .before .before .before .before .before .before .before .before .before .before .before .before .before .before .before .before .before .before .before .before .good .1 .1 .1 .1)
 
-put-answer-requires-13 : tie.Need-put-answer-requires-13 Inv-loop μ-loop
-put-answer-requires-13 c κs = search needs
+loop-less-16 : tie.Need-loop-less-16 Inv-loop μ-loop
+loop-less-16 c = omega (arith, c .before .before .before .before .before .before .before .before .before .before .before .loop-test .taken)
 
-array-set-from-sides-11 : tie.Need-array-set-from-sides-11 Inv-loop μ-loop
-array-set-from-sides-11 c = search needs
-
-array-set-from-sides-12 : tie.Need-array-set-from-sides-12 Inv-loop μ-loop
-array-set-from-sides-12 c = search needs
-
-add-i-13 : tie.Need-add-i-13 Inv-loop μ-loop
-add-i-13 c = omega (arith, c .before .before .before .before .before .before .before .before .before .before .before .before .before .before .before .before .before .before .loop-test .taken, c .before .before .before .before .before .before .before .before .before .before .before .before .before .before .before .before .before .before .before .before .before .before .before .before .before .before .before .before .good .1 .1 .1 .1)
-
-loop-less-14 : tie.Need-loop-less-14 Inv-loop μ-loop
-loop-less-14 c = omega (arith, c .before .before .before .before .before .before .before .before .before .before .before .before .before .before .before .before .before .before .loop-test .taken)
-
-loop-again-14 : tie.Need-loop-again-14 Inv-loop μ-loop
-loop-again-14 c =
-    let at = c .before .before .before .before .before .before .before .before .before .before .before .before .before .before .before .before .before .before .before .loop in
-    let start = c .before .before .before .before .before .before .before .before .before .before .before .before .before .before .before .before .before .before .before .before .before .before .before .before .before .before .before .before in
+loop-again-16 : tie.Need-loop-again-16 Inv-loop μ-loop
+loop-again-16 c =
+    let at = c .before .before .before .before .before .before .before .before .before .before .before .before .loop in
+    let start = c .before .before .before .before .before .before .before .before .before .before .before .before .before .before .before .before .before .before .before .before .before in
     let given = start .args in
     let kind = given .from .kind in
     let two = at .inv .0 in
     let known = at .inv .1 in
-    let event = c .before .before .before .before .before .before .before .before .before .before .before .before .before .before .before .before .before .event-at in
+    let event = c .before .before .before .before .before .before .before .before .before .before .event-at in
     let r = event .result in
-    let within = c .before .before .before .before .before .before .before .before .before .before .before .before .before .before .before .before .before .before .loop-test .taken in
-    let s = c .before .before .before .before .before .before .before .before .before .before .step-one in
-    let whole = c .before .before .before .before .before .before .before .before .before .before .before .device-of3 in
-    let put = c .before .before .before .before .before .before .before .put-answer13 in
-    let truly = told-step (at .owner) (at .lines) (held kind (at .sides) (at .bus) (at .arb)) r (s .result) (known .5) (known .6) (s .ensures ∙ ap (λ (x : Device). shortStep false (at .owner) (at .lines) x r) (whole .ensures)) in (
-      two-on (set (at .sides) _ _) _ _ (two-on (at .sides) _ _ two),
-      stepped-on (given .settled) (given .events .now) (given .answers .now) (given .n) (given .from) (at .answers) (at .owner) (at .lines) kind (at .sides) (at .bus) (at .arb) (at .i) two known within (start .pre .0) (start .pre .1)
-          (s .result) r (event .ensures) truly _ _ (put .kept .0) (put .ensures) refl,
+    let within = c .before .before .before .before .before .before .before .before .before .before .before .loop-test .taken in
+    let unread = c .before .before .before .before .before .before .unread-number in
+    let arm = unread-arm kind (at .sides) (at .bus) (at .arb) two (at .owner) (at .lines) (known .5) (known .6) r (unread .result) (unread .ensures) (c .before .before .before .before .before .if22 .left) in (
+      two,
+      turned (given .settled) (given .events .now) (given .answers .now) (given .n) (given .from) (at .answers) (at .owner) (at .lines) (held kind (at .sides) (at .bus) (at .arb)) (at .i) known within (start .pre .0) (start .pre .1)
+          (steppedWith (held kind (at .sides) (at .bus) (at .arb)) (kept (unread .result) 0 (at .owner) (at .lines))) r (event .ensures) (arm) _ _ (c .before .before .put-answer15 .kept .0) (c .before .before .put-answer15 .ensures) (c .before .before .before .answer-kept14 .ensures),
     )
 
 array-copy-out-s0-8 : tie.Need-array-copy-out-s0-8 Inv-loop μ-loop
@@ -853,6 +972,53 @@ array-copy-out-s1-8 c = search needs
 device-of-requires-4 : tie.Need-device-of-requires-4 Inv-loop μ-loop
 device-of-requires-4 c κs = search needs
 
+step-one-requires : tie.Need-step-one-requires Inv-loop μ-loop
+step-one-requires c κs = search needs
+
+put-answer-requires-16 : tie.Need-put-answer-requires-16 Inv-loop μ-loop
+put-answer-requires-16 c κs = search needs
+
+array-set-from-sides-15 : tie.Need-array-set-from-sides-15 Inv-loop μ-loop
+array-set-from-sides-15 c = search needs
+
+array-set-from-sides-16 : tie.Need-array-set-from-sides-16 Inv-loop μ-loop
+array-set-from-sides-16 c = search needs
+
+add-i-16 : tie.Need-add-i-16 Inv-loop μ-loop
+add-i-16 c = omega (arith, c .before .before .before .before .before .before .before .before .before .before .before .before .before .before .before .before .before .before .before .before .loop-test .taken, c .before .before .before .before .before .before .before .before .before .before .before .before .before .before .before .before .before .before .before .before .before .before .before .before .before .before .before .before .before .before .good .1 .1 .1 .1)
+
+loop-less-17 : tie.Need-loop-less-17 Inv-loop μ-loop
+loop-less-17 c = omega (arith, c .before .before .before .before .before .before .before .before .before .before .before .before .before .before .before .before .before .before .before .before .loop-test .taken)
+
+loop-again-17 : tie.Need-loop-again-17 Inv-loop μ-loop
+loop-again-17 c =
+    let at = c .before .before .before .before .before .before .before .before .before .before .before .before .before .before .before .before .before .before .before .before .before .loop in
+    let start = c .before .before .before .before .before .before .before .before .before .before .before .before .before .before .before .before .before .before .before .before .before .before .before .before .before .before .before .before .before .before in
+    let given = start .args in
+    let kind = given .from .kind in
+    let two = at .inv .0 in
+    let known = at .inv .1 in
+    let event = c .before .before .before .before .before .before .before .before .before .before .before .before .before .before .before .before .before .before .before .event-at in
+    let r = event .result in
+    let within = c .before .before .before .before .before .before .before .before .before .before .before .before .before .before .before .before .before .before .before .before .loop-test .taken in
+    let s = c .before .before .before .before .before .before .before .before .before .before .step-one in
+    let whole = c .before .before .before .before .before .before .before .before .before .before .before .device-of4 in
+    let put = c .before .before .before .before .before .before .before .put-answer16 in
+    let truly = s .ensures ∙ ap (λ (x : Device). step x r) (whole .ensures) in (
+      two-on (set (at .sides) _ _) _ _ (two-on (at .sides) _ _ two),
+      stepped-on (given .settled) (given .events .now) (given .answers .now) (given .n) (given .from) (at .answers) (at .owner) (at .lines) kind (at .sides) (at .bus) (at .arb) (at .i) two known within (start .pre .0) (start .pre .1)
+          (s .result) r (event .ensures) truly _ _ (put .kept .0) (put .ensures) refl,
+    )
+
+array-copy-out-s0-9 : tie.Need-array-copy-out-s0-9 Inv-loop μ-loop
+array-copy-out-s0-9 c = search needs
+
+array-copy-out-s1-9 : tie.Need-array-copy-out-s1-9 Inv-loop μ-loop
+array-copy-out-s1-9 c = search needs
+
+device-of-requires-5 : tie.Need-device-of-requires-5 Inv-loop μ-loop
+device-of-requires-5 c κs = search needs
+
 same-length : tie.Need-same-length Inv-loop μ-loop
 same-length c = search needs
 
@@ -861,7 +1027,7 @@ returns c =
     let given = c .before .before .before .before .before .before .before .before .before .before .before .before .before .args in
     let known = c .before .before .before .before .loop .inv .1 in
     let e : c .before .before .before .before .loop .i ≡ given .n = omega (arith, known .0, c .before .before .before) in (
-      c .device-of4 .ensures ∙ known .2 ∙ ap (λ (k : ℕ). runFrom (given .from) (rawsIn k (given .events .now))) e,
+      c .device-of5 .ensures ∙ known .2 ∙ ap (λ (k : ℕ). runFrom (given .from) (rawsIn k (given .events .now))) e,
       known .3 ∙ ap (λ (k : ℕ). bytesOf (answersFrom (given .from) (rawsIn k (given .events .now))) ++ drop (eventBytes * k) (given .answers .now)) e,
     )
 
@@ -956,7 +1122,7 @@ play-spec =
     add-i-6
     loop-less-6
     loop-again-6
-    claims-at-requires
+    is-granted-at-rest-requires
     stopped-side-requires
     mul-sides-6
     array-set-from-sides-6
@@ -969,11 +1135,25 @@ play-spec =
     array-copy-out-s1-3
     takes-bytes-requires-2
     takes-bytes-requires-3
+    pairs-lightly-requires
+    granted-at-requires-2
+    pair-side-requires
+    granted-at-requires-3
+    pair-side-requires-2
+    array-set-from-sides-7
+    array-set-from-sides-8
+    lines-shown-requires-3
+    paired-number-requires
     answer-kept-requires-8
     put-answer-requires-8
     add-i-8
     loop-less-8
     loop-again-8
+    answer-kept-requires-9
+    put-answer-requires-9
+    add-i-9
+    loop-less-9
+    loop-again-9
     fits-levels-requires
     array-copy-out-s0-4
     array-copy-out-s1-4
@@ -982,14 +1162,14 @@ play-spec =
     intin-fell-requires
     fallen-side-requires
     fallen-side-requires-2
-    array-set-from-sides-7
-    array-set-from-sides-8
-    lines-shown-requires-3
-    answer-kept-requires-9
-    put-answer-requires-9
-    add-i-9
-    loop-less-9
-    loop-again-9
+    array-set-from-sides-9
+    array-set-from-sides-10
+    lines-shown-requires-4
+    answer-kept-requires-10
+    put-answer-requires-10
+    add-i-10
+    loop-less-10
+    loop-again-10
     is-tick-requires
     array-copy-out-s0-5
     array-copy-out-s1-5
@@ -999,50 +1179,70 @@ play-spec =
     sub-least-of
     least-of-requires
     add-last
-    answer-kept-requires-10
+    answer-kept-requires-11
     play-ticks-requires
     sub-after-ticks
     cast-after-ticks
     after-ticks-requires
-    loop-less-10
-    loop-again-10
-    fits-one-requires-3
-    is-initialising-requires
-    answer-kept-requires-11
-    put-answer-requires-10
-    add-i-10
     loop-less-11
     loop-again-11
+    fits-one-requires-3
+    is-initialising-requires
+    answer-kept-requires-12
+    put-answer-requires-11
+    add-i-11
+    loop-less-12
+    loop-again-12
     fits-none-requires
     array-copy-out-s0-6
     array-copy-out-s1-6
     device-of-requires-2
     reset-device-requires
     answered-requires-2
-    put-answer-requires-11
-    array-set-from-sides-9
-    array-set-from-sides-10
-    add-i-11
-    loop-less-12
-    loop-again-12
-    fits-byte-requires-3
-    answer-kept-requires-12
     put-answer-requires-12
+    array-set-from-sides-11
+    array-set-from-sides-12
     add-i-12
     loop-less-13
     loop-again-13
+    fits-byte-requires-3
+    mul-s-5
+    array-copy-out-s-5
     array-copy-out-s0-7
     array-copy-out-s1-7
+    hold-asked-requires
     device-of-requires-3
-    step-one-requires
+    reset-device-requires-2
+    answered-requires-3
     put-answer-requires-13
-    array-set-from-sides-11
-    array-set-from-sides-12
+    array-set-from-sides-13
+    array-set-from-sides-14
     add-i-13
     loop-less-14
     loop-again-14
+    answer-kept-requires-13
+    put-answer-requires-14
+    add-i-14
+    loop-less-15
+    loop-again-15
+    unread-number-requires
+    answer-kept-requires-14
+    put-answer-requires-15
+    add-i-15
+    loop-less-16
+    loop-again-16
     array-copy-out-s0-8
     array-copy-out-s1-8
     device-of-requires-4
+    step-one-requires
+    put-answer-requires-16
+    array-set-from-sides-15
+    array-set-from-sides-16
+    add-i-16
+    loop-less-17
+    loop-again-17
+    array-copy-out-s0-9
+    array-copy-out-s1-9
+    device-of-requires-5
     same-length
     returns)

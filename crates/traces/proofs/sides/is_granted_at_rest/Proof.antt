@@ -1,0 +1,14 @@
+-- `traces::sides::is_granted_at_rest` meets its contract.
+-- Assumes nothing.
+use borrow.Author.Needs.{needs}
+use Rattle.traces.proofs.sides.is_granted_at_rest.Statement.{statement}
+use Rattle.traces.proofs.sides.is_granted_at_rest.Tie as tie
+
+claims-at-requires : tie.Need-claims-at-requires
+claims-at-requires c κs = search needs
+
+returns : tie.Need-returns
+returns c = simp (c .before .claims-at .ensures)
+
+pub is-granted-at-rest-spec : {M : Type 1} → statement M
+is-granted-at-rest-spec = tie.close (tie.spec claims-at-requires returns)
