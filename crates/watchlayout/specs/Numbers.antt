@@ -1,11 +1,9 @@
--- Numbers of four and of eight bytes, the low byte first, and the numbers that stand for a byte's purpose and for a master.
+-- Numbers of four and of eight bytes, the low byte first, and the numbers that stand for what a byte is for.
 -- Assumes nothing.
 use Prim.Native.Nat.{ℕ, _+_, _*_, _/_, _%_}
 use mathlib.Core.List.{List, [], _∷_, _++_}
 use lib.Dec.{eqb}
-use Rattle.arbiter.specs.Words.{if_then_else_, of}
-use Rattle.arbiter.specs.declared.Master.{Master}
-use Rattle.arbiter.specs.declared.Master.the-variants.{Zero, One}
+use Rattle.arbiter.specs.Words.{if_then_else_}
 use Rattle.capture.specs.declared.Awaited.{Awaited}
 use Rattle.capture.specs.declared.Awaited.the-variants.{NoByte, AddressByte, CommandByte, WriteByte, ReadByte, CallByte, SkippedByte}
 use Rattle.layout.specs.Layout.{wordAt}
