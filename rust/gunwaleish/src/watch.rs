@@ -31,7 +31,7 @@ mod at {
 pub struct WatchSettings {
     /// The part that is said to be fitted.
     pub part: Part,
-    /// The seven-bit address of the device.
+    /// The seven-bit address of the device, one of 08h to 77h.
     pub address: u8,
     /// So many samples are a TICK, a millisecond. With 0 there is none.
     pub every: u32,
@@ -98,8 +98,8 @@ pub struct Watch {
 }
 
 impl Watch {
-    /// A listener before its first sample, with a device after power-up. Refused with 11 for an address
-    /// above 7Fh.
+    /// A listener before its first sample, with a device after power-up. Refused with 11 if the address is
+    /// not one of 08h to 77h.
     pub fn fresh(settings: WatchSettings) -> Result<Watch, Refusal> {
         let WatchSettings { part, address, every, below } = settings;
         let mut bytes = [0; WATCH_LENGTH];

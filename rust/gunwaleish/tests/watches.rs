@@ -155,17 +155,24 @@ fn another_device() {
 
 #[test]
 fn what_is_refused_leaves_the_buffer() {
-    assert!(Watch::fresh(WatchSettings { address: 0x80, ..SETTINGS }).is_err());
-    assert!(Watch::fresh(WatchSettings { address: 0x7F, ..SETTINGS }).is_ok());
-    for (kind, address, below, length) in [
-        (2, 0x71, 0, 142),
-        (0, 0x80, 0, 142),
-        (0, 0x71, 2, 142),
-        (0, 0x71, 0, 141),
-        (0, 0x71, 0, 143),
-    ] {
+    for address in [0x00, 0x07, 0x78, 0x80, 0xFF] {
+        let none = Watch::fresh(WatchSettings { address, ..SETTINGS });
+        assert_eq!(none, Err(Refusal::AddressOutside), "{address:02X}h");
+    }
+    for address in [0x08, 0x77] {
+        assert!(Watch::fresh(WatchSettings { address, ..SETTINGS }).is_ok());
+    }
+    let cases = [
+        (2, 0x71, 0, 142, 3),
+        (0, 0x71, 2, 142, 3),
+        (0, 0x78, 0, 142, 11),
+        (2, 0x78, 2, 142, 3),
+        (0, 0x71, 0, 141, 9),
+        (2, 0x78, 0, 143, 9),
+    ];
+    for (kind, address, below, length, number) in cases {
         let mut buffer = vec![0xA5; length];
-        assert_ne!(boundary::watch_fresh(kind, address, 50, below, &mut buffer), 0);
+        assert_eq!(boundary::watch_fresh(kind, address, 50, below, &mut buffer), number);
         assert!(buffer.iter().all(|byte| *byte == 0xA5));
     }
     let good = *fresh().bytes();
@@ -175,8 +182,20 @@ fn what_is_refused_leaves_the_buffer() {
         assert_ne!(boundary::watch_listen(&[0x7F; 9], &mut buffer), 0);
         assert_eq!(buffer, bytes);
     }
-    // A kind of part that there is not, and settings that are none.
-    for (place, value) in [(31, 2), (38, 0x80), (43, 2), (44, 2)] {
+    // A kind of part that there is not, and flags, awaited bytes, masters and registers that are none.
+    let outside = [
+        (31, 2),
+        (43, 2),
+        (44, 2),
+        (50, 7),
+        (54, 7),
+        (53, 2),
+        (57, 2),
+        (114, 2),
+        (127, 8),
+        (139, 8),
+    ];
+    for (place, value) in outside {
         let mut damaged = good;
         damaged[place] = value;
         assert_eq!(Watch::from_bytes(&damaged), Err(Refusal::WatchOutOfRange), "{place}");
