@@ -1,6 +1,6 @@
 //! A watched bus: how many samples a second the proved listener takes, at rest and busy, against the plain
 //! decoder of this crate, which makes events and steps no device, and against sigrok-cli's decoder of the I2C
-//! bus where it is installed, in one run. `watch_rate [ROUNDS]`.
+//! bus where it is installed, in one run. It goes by the clock, so it wants a quiet machine. `watch_rate [ROUNDS]`.
 
 use std::fs;
 use std::hint::black_box;
@@ -9,6 +9,8 @@ use std::process::{Command, Stdio};
 use std::time::Instant;
 
 use gunwaleish::{Part, Watch, WatchSettings, MOST_SAMPLES};
+use model::wire::play::play;
+use model::wire::random::{scene, Sort};
 use speed::captures::{kinds, Captures};
 use speed::decoder;
 use speed::saying::say;
@@ -36,25 +38,36 @@ fn main() {
     let rest = Captures { name: "at rest", all: vec![(vec![REST; MOST_SAMPLES], 0x70); 8] };
     compare(&rest, rounds);
     sigrok(&rest, FOR_SIGROK[0]);
-    for captures in kinds() {
+    for captures in [right()].into_iter().chain(kinds()) {
         compare(&captures, rounds);
         sigrok(&captures, FOR_SIGROK[1]);
     }
 }
 
-/// The listener takes all captures of a kind one after the other, as one stream; the plain decoder takes
-/// each by itself.
+/// A right chip on busy buses, as the independent generator plays it. In the other kinds the bytes that are
+/// read are any, so that nearly every READ differs, and the listener stops there.
+fn right() -> Captures {
+    let played = (0..).map(|seed| play(&scene(Sort::Apart, seed)));
+    let short = played.filter(|played| played.samples.len() <= MOST_SAMPLES).take(8);
+    let all = short.map(|played| (played.samples, played.setting.address)).collect();
+    Captures { name: "a right chip", all }
+}
+
+/// The listener and the plain decoder take each capture by itself, the listener a fresh one each time.
 fn compare(captures: &Captures, rounds: usize) {
     let samples: usize = captures.all.iter().map(|(samples, _)| samples.len()).sum();
-    let mut watches: Vec<Watch> = captures.all.iter().map(|(_, address)| fresh(*address)).collect();
+    let mut heard = 0;
     let mut events = vec![0; 4 * 4096];
     let [library, plain] = by_turns(
         rounds,
         samples,
         [
             &mut || {
-                for ((samples, _), watch) in captures.all.iter().zip(&mut watches) {
-                    listen(watch, black_box(samples));
+                heard = 0;
+                for (samples, address) in &captures.all {
+                    let mut watch = fresh(*address);
+                    listen(&mut watch, black_box(samples));
+                    heard += watch.events();
                 }
             },
             &mut || {
@@ -65,14 +78,13 @@ fn compare(captures: &Captures, rounds: usize) {
             },
         ],
     );
-    let heard: u64 = watches.iter().map(Watch::events).sum();
     let rate =
         |times: Times| format!("{:6.1} ({:6.1})", 1000.0 / times.best, 1000.0 / times.median);
     let ratio = library.against(plain);
     say(&format!(
         "{:<17} {:4.1} samples an event: listener {}, plain decoder without a device {}; ratio {:.2} ({:.2})",
         captures.name,
-        (samples * rounds) as f64 / heard as f64,
+        samples as f64 / heard as f64,
         rate(library),
         rate(plain),
         ratio.best,
