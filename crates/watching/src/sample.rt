@@ -18,7 +18,7 @@ use capture::Both;
 use capture::Given;
 use capture::Heard;
 use capture::Listener;
-use hearing::hear_sample;
+use hearing::hear_watched;
 use importing::Few;
 use importing::few_of;
 use importing::raw_of;
@@ -101,7 +101,7 @@ fn heard_now(c: Settings, x: u8, e: Ear) -> Heard
     ensures { λ r. ⌜ r ≡ heardNow c x e ⌝ }
 {
     if e.begun {
-        hear_sample(c.address, e.before, x, e.both)
+        hear_watched(c.address, e.before, x, e.both)
     } else {
         nothing_heard(e.both)
     }

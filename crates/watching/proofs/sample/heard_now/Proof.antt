@@ -5,19 +5,19 @@ use Rattle.watch.specs.Sample.{heardNow}
 use Rattle.watching.proofs.sample.heard_now.Statement.{statement}
 use Rattle.watching.proofs.sample.heard_now.Tie as tie
 
-hear-sample-requires : tie.Need-hear-sample-requires
-hear-sample-requires c κs = search needs
+hear-watched-requires : tie.Need-hear-watched-requires
+hear-watched-requires c κs = search needs
 
 nothing-heard-requires : tie.Need-nothing-heard-requires
 nothing-heard-requires c κs = search needs
 
 returns : tie.Need-returns
 unfolding heardNow
-returns c = simp (← c .hear-sample .ensures, c .before .if1 .taken)
+returns c = simp (← c .hear-watched .ensures, c .before .if1 .taken)
 
 returns-2 : tie.Need-returns-2
 unfolding heardNow
 returns-2 c = simp (← c .nothing-heard .ensures, c .before .if1 .left)
 
 pub heard-now-spec : {M : Type 1} → statement M
-heard-now-spec = tie.close (tie.spec hear-sample-requires nothing-heard-requires returns returns-2)
+heard-now-spec = tie.close (tie.spec hear-watched-requires nothing-heard-requires returns returns-2)
