@@ -372,16 +372,39 @@ pub fn hear_sample(address: u8, before: u8, now: u8, s: Both) -> Heard
     }
 }
 
-// The same for a listener. A function of this size is inlined only where a single place calls it, and the walk through a capture, with hear_sample
-// inlined, is twice as fast.
+// ---- for a listener
+
+// One bus. The ways for a capture are inlined as they stand there only if nobody else calls them, and then its walk is twice as fast; so a listener has a
+// shorter one.
+fn hear_one(m: Master, address: u8, was: Levels, now: Levels, l: Listener) -> Told
+    ensures { λ r. ⌜ (r .bus ≡ heard address (sign was now) l) × (r .given ≡ gives m (sign was now) l) ⌝ }
+{
+    if is_light(was, now, l) {
+        Told {
+            bus: with_bit(was, now, l),
+            given: Given::Nothing,
+        }
+    } else {
+        heavily(m, address, was, now, l)
+    }
+}
+
+// One sample after the one before it, on both buses, for a listener.
 pub fn hear_watched(address: u8, before: u8, now: u8, s: Both) -> Heard
     ensures { λ r. ⌜ r ≡ sampled address before now s ⌝ }
 {
-    if is_still(before, now) {
-        nothing_given(s)
-    } else if are_light(before, now, s) {
-        nothing_given(with_bits(before, now, s))
-    } else {
-        not_light(address, before, now, s)
+    let old0 = s.bus0;
+    let old1 = s.bus1;
+    let t = hear_one(Master::Zero, address, levels_0(before), levels_0(now), old0);
+    let u = hear_one(Master::One, address, levels_1(before), levels_1(now), old1);
+    let bus0 = t.bus;
+    let bus1 = u.bus;
+    let given0 = t.given;
+    let given1 = u.given;
+    let both = Both { bus0, bus1 };
+    Heard {
+        both,
+        given0,
+        given1,
     }
 }

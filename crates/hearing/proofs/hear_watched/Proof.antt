@@ -1,52 +1,40 @@
 -- `hearing::hear_watched` meets its contract.
 -- Assumes nothing.
-use mathlib.Core.Path.{sym, ap, _∙_}
-use Rattle.hearing.specs.Light.{unheard}
-use Rattle.hearing.proofs.Light.{still-sampled, light-sampled}
+use Rattle.hearing.proofs.Heavy.{both-heard}
 use borrow.Author.Needs.{needs}
 use Rattle.hearing.proofs.hear_watched.Statement.{statement}
 use Rattle.hearing.proofs.hear_watched.Tie as tie
 
-is-still-requires : tie.Need-is-still-requires
-is-still-requires c κs = search needs
+levels-0-requires : tie.Need-levels-0-requires
+levels-0-requires c κs = search needs
 
-nothing-given-requires : tie.Need-nothing-given-requires
-nothing-given-requires c κs = search needs
+levels-0-requires-2 : tie.Need-levels-0-requires-2
+levels-0-requires-2 c κs = search needs
 
-are-light-requires : tie.Need-are-light-requires
-are-light-requires c κs = search needs
+hear-one-requires : tie.Need-hear-one-requires
+hear-one-requires c κs = search needs
 
-with-bits-requires : tie.Need-with-bits-requires
-with-bits-requires c κs = sym (c .before .are-light .ensures) ∙ c .if2 .taken
+levels-1-requires : tie.Need-levels-1-requires
+levels-1-requires c κs = search needs
 
-nothing-given-requires-2 : tie.Need-nothing-given-requires-2
-nothing-given-requires-2 c κs = search needs
+levels-1-requires-2 : tie.Need-levels-1-requires-2
+levels-1-requires-2 c κs = search needs
 
-not-light-requires : tie.Need-not-light-requires
-not-light-requires c κs = sym (c .before .are-light .ensures) ∙ c .if2 .left
+hear-one-requires-2 : tie.Need-hear-one-requires-2
+hear-one-requires-2 c κs = search needs
 
 returns : tie.Need-returns
-returns c = c .nothing-given .ensures ∙ still-sampled _ _ _ _ (sym (c .before .before .is-still .ensures) ∙ c .before .if1 .taken)
-
-returns-2 : tie.Need-returns-2
-returns-2 c =
-    c .nothing-given2 .ensures
-    ∙ ap unheard (c .before .with-bits .ensures)
-    ∙ light-sampled _ _ _ _ (sym (c .before .before .before .are-light .ensures) ∙ c .before .before .if2 .taken)
-
-returns-3 : tie.Need-returns-3
-returns-3 c = c .not-light .ensures
+returns c =
+    let last = c .before .before in
+    let first = last .before .before .before in
+    let s = first .before .before .before .before .before in
+    let t = first .hear-one .ensures in
+    let u = last .hear-one2 .ensures in
+    both-heard (s .args .address) (s .args .before) (s .args .now) (s .args .s) _ _ _ _
+    (first .before .before .levels-0 .ensures) (first .before .levels-02 .ensures) (last .before .before .levels-1 .ensures) (last .before .levels-12 .ensures)
+    _ _ _ _ (t .0) (u .0) (t .1) (u .1)
 
 pub hear-watched-spec : {M : Type 1} → statement M
 hear-watched-spec =
     tie.close
-    (tie.spec
-    is-still-requires
-    nothing-given-requires
-    are-light-requires
-    with-bits-requires
-    nothing-given-requires-2
-    not-light-requires
-    returns
-    returns-2
-    returns-3)
+    (tie.spec levels-0-requires levels-0-requires-2 hear-one-requires levels-1-requires levels-1-requires-2 hear-one-requires-2 returns)
