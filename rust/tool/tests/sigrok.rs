@@ -1,5 +1,6 @@
 //! Captures as sigrok's decoder of the I2C bus reads them, which is not ours: where sigrok-cli is
-//! installed, what it decodes becomes events, and they are those of the library.
+//! installed, what it decodes becomes events, and they are those of the library; and the bytes that it
+//! sees read are those that a listener hears.
 //!
 //! sigrok refuses nothing. It takes no notice of a START or STOP inside an address byte, and it sees a
 //! START also where SCL was low in the sample before. So the captures here have neither.
@@ -8,7 +9,7 @@ use std::fs;
 use std::path::Path;
 use std::process::Command;
 
-use gunwaleish::{import_capture, Event, Master};
+use gunwaleish::{import_capture, Event, Master, Part, Watch, WatchSettings};
 use model::captures::{capture, Manner};
 use model::rng::Rng;
 
@@ -74,6 +75,39 @@ fn event(bytes: &[u8], master: Master, address: u8) -> Option<Event> {
     }
 }
 
+/// The bytes that one controller reads of the device, each with the sample of its ninth clock.
+fn bytes_read(lines: &[Line], address: u8) -> Vec<(u64, u8)> {
+    let (mut bytes, mut read): (Vec<u8>, _) = (vec![], vec![]);
+    for (sample, words) in lines {
+        match words.as_str() {
+            "Start" | "Start repeat" => bytes.clear(),
+            "ACK" | "NACK" => match bytes[..] {
+                [first, .., last] if first == 2 * address + 1 => read.push((*sample as u64, last)),
+                _ => {}
+            },
+            _ => bytes.extend(
+                words.split_once(": ").map(|(_, hex)| u8::from_str_radix(hex, 16).unwrap()),
+            ),
+        }
+    }
+    read
+}
+
+/// The same as a listener hears it.
+fn bytes_heard(samples: &[u8], address: u8) -> [Vec<(u64, u8)>; 2] {
+    let settings = WatchSettings { part: Part::Pca9641, address, every: 0, below: false };
+    let mut watch = Watch::fresh(settings).unwrap();
+    let mut heard = [vec![], vec![]];
+    for sample in samples {
+        watch.listen(&[*sample]);
+        for master in Master::BOTH {
+            let last = watch.last_read(master).filter(|read| read.sample + 1 == watch.samples());
+            heard[master as usize].extend(last.map(|read| (read.sample, read.heard)));
+        }
+    }
+    heard
+}
+
 /// Both buses by the sample, controller 0 first, and two writes of one sample as PAIR.
 fn merged(buses: [Vec<(usize, Event)>; 2]) -> Vec<Event> {
     let mut all = buses.concat();
@@ -96,7 +130,7 @@ fn sigrok_decodes_the_same_transfers() {
     fs::create_dir_all(&folder).unwrap();
     let file = folder.join("a.capture");
     let mut rng = Rng::new(104);
-    let (mut events, mut pairs) = (0, 0);
+    let (mut events, mut pairs, mut reads) = (0, 0, 0);
     for twins in [false, true, false, true] {
         let manner = Manner { slowest: if twins { 3 } else { 1 }, twins, broken: 0 };
         let made = capture(&mut rng, manner, 30_000);
@@ -104,10 +138,13 @@ fn sigrok_decodes_the_same_transfers() {
         let bus = |bus| events_of(&decoded(&file, bus), bus, made.address);
         let expected = merged(Master::BOTH.map(bus));
         assert_eq!(import_capture(&made.samples, made.address).unwrap(), expected);
+        let read = Master::BOTH.map(|bus| bytes_read(&decoded(&file, bus), made.address));
+        assert_eq!(bytes_heard(&made.samples, made.address), read);
+        reads += read.iter().map(Vec::len).sum::<usize>();
         events += expected.len();
         pairs += expected.iter().filter(|event| matches!(event, Event::Pair { .. })).count();
     }
     fs::remove_dir_all(&folder).unwrap();
-    println!("sigrok agrees on {events} events, {pairs} of them PAIR");
-    assert!(events > 1000 && pairs > 50, "{events} events, {pairs} of them PAIR");
+    println!("sigrok agrees on {events} events, {pairs} of them PAIR, and on {reads} bytes read");
+    assert!(events > 1000 && pairs > 50 && reads > 100, "{events} events, {pairs} PAIRs, {reads} READs");
 }
