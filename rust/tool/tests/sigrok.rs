@@ -146,5 +146,8 @@ fn sigrok_decodes_the_same_transfers() {
     }
     fs::remove_dir_all(&folder).unwrap();
     println!("sigrok agrees on {events} events, {pairs} of them PAIR, and on {reads} bytes read");
-    assert!(events > 1000 && pairs > 50 && reads > 100, "{events} events, {pairs} PAIRs, {reads} READs");
+    assert!(
+        events > 1000 && pairs > 50 && reads > 100,
+        "{events} events, {pairs} PAIRs, {reads} READs"
+    );
 }
