@@ -12,7 +12,7 @@ use arbiter::Raw;
 use changes::is_changed;
 use quiet::after_ticks;
 use quiet::quiet_ticks;
-use traces::run_one;
+use step::step_device;
 
 pub mod changes;
 
@@ -64,7 +64,7 @@ fn least_of(x: u16, y: u16) -> u16
 fn ticked_once(d: Device) -> Device
     ensures { λ r. ⌜ r ≡ step d tick .device ⌝ }
 {
-    let s = run_one(
+    let s = step_device(
         d,
         Raw {
             kind: 6,

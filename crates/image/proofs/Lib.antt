@@ -1,2 +1,3 @@
+pub mod Padded
 pub mod Pointer
 pub mod Unique

@@ -1,8 +1,9 @@
 // An image read: as a device, whether it is one, and a register of it. By the table of crates/layout/specs/Layout.antt.
-ghost use Prim.Native.Nat.{_<_};
+ghost use Prim.Native.Nat.{_+_, _<_, _≤_};
 ghost use mathlib.Core.Path.{_≡_};
 ghost use mathlib.Core.Bool.{not, _&&_};
 ghost use lib.Dec.{leb};
+ghost use lib.ListN.{length};
 ghost use Rattle.arbiter.specs.Words.{bit};
 ghost use Rattle.arbiter.specs.Rules.{limitOf};
 ghost use Rattle.arbiter.specs.Registers.{controlOf, registerByte, readsAt};
@@ -11,7 +12,7 @@ ghost use Rattle.arbiter.specs.Effects.{registerAt};
 ghost use Rattle.arbiter.specs.Traces.{byteAt};
 ghost use Rattle.arbiter.specs.declared.Master.the-variants.{Zero, One};
 ghost use Rattle.layout.specs.Numbers.{portOf, lastOf, turnOf, switchOf};
-ghost use Rattle.layout.specs.Layout.{registers, counts, shared, port, kindIn, wordAt, flagAt, sideIn, busIn, arbIn, deviceIn, rowsFit, imageInRange};
+ghost use Rattle.layout.specs.Layout.{imageLength, registers, counts, shared, port, kindIn, wordAt, flagAt, sideIn, busIn, arbIn, deviceIn, rowsFit, imageInRange};
 ghost use Rattle.layout.specs.Images.{imageNumber, shownNumber, shown};
 use arbiter::Arbitration;
 use arbiter::Bus;
@@ -32,6 +33,7 @@ use arbiter::Side;
 use arbiter::Switch;
 use arbiter::TPT29641_IDLE_LIMIT;
 use arbiter::Turn;
+use bytes::copy;
 use fields::arb_with;
 use fields::owns_turn;
 use fields::port_of;
@@ -44,11 +46,12 @@ use registers::register_byte;
 
 // ---- bytes
 
-// A byte of a buffer, and 0 past its end: whoever steps or shows a device has asked for the length first.
+// A byte of a buffer that has it: the length is asked once, and not at each byte.
 fn byte_at(at: usize, b: &[u8]) -> u8
+    requires { ⌜ at < length (now b) ⌝ }
     ensures { λ r. ⌜ r ≡ byteAt at (now (b .entry)) ⌝ }
 {
-    if at < b.len() { b[at] } else { 0 }
+    b[at]
 }
 
 fn wide(x: u8) -> u16
@@ -59,19 +62,21 @@ fn wide(x: u8) -> u16
 
 // Two bytes, the low one first.
 fn word_at(at: usize, b: &[u8]) -> u16
-    requires { ⌜ at < 38 ⌝ }
+    requires { ⌜ at + 1 < length (now b) ⌝ }
     ensures { λ r. ⌜ r ≡ wordAt at (now (b .entry)) ⌝ }
 {
     wide(byte_at(at, b)) + 256 * wide(byte_at(at + 1, b))
 }
 
 fn flag_at(at: usize, b: &[u8]) -> bool
+    requires { ⌜ at < length (now b) ⌝ }
     ensures { λ r. ⌜ r ≡ flagAt at (now (b .entry)) ⌝ }
 {
     byte_at(at, b) == 1
 }
 
 fn kind_in(b: &[u8]) -> Kind
+    requires { ⌜ imageLength ≤ length (now b) ⌝ }
     ensures { λ r. ⌜ r ≡ kindIn (now (b .entry)) ⌝ }
 {
     kind_of(byte_at(31, b))
@@ -177,7 +182,7 @@ fn mail_with(low: u8, high: u8, full: bool) -> Mailbox
 
 // A master's registers from `at` on, and its port from `port` on.
 fn side_in(at: usize, port: usize, b: &[u8]) -> Side
-    requires { ⌜ (at < 38) × (port < 38) ⌝ }
+    requires { ⌜ (at < 32) × (port < 36) × (imageLength ≤ length (now b)) ⌝ }
     ensures { λ r. ⌜ r ≡ sideIn at port (now (b .entry)) ⌝ }
 {
     side_with(
@@ -193,6 +198,7 @@ fn side_in(at: usize, port: usize, b: &[u8]) -> Side
 }
 
 fn bus_in(b: &[u8]) -> Bus
+    requires { ⌜ imageLength ≤ length (now b) ⌝ }
     ensures { λ r. ⌜ r ≡ busIn (now (b .entry)) ⌝ }
 {
     Bus {
@@ -210,6 +216,7 @@ fn bus_in(b: &[u8]) -> Bus
 }
 
 fn arb_in(b: &[u8]) -> Arbitration
+    requires { ⌜ imageLength ≤ length (now b) ⌝ }
     ensures { λ r. ⌜ r ≡ arbIn (now (b .entry)) ⌝ }
 {
     arb_with(
@@ -221,8 +228,9 @@ fn arb_in(b: &[u8]) -> Arbitration
     )
 }
 
-// The device of an image.
-pub fn read_image(b: &[u8]) -> Device
+// The device of a buffer that is long enough.
+fn device_in(b: &[u8]) -> Device
+    requires { ⌜ imageLength ≤ length (now b) ⌝ }
     ensures { λ r. ⌜ r ≡ deviceIn (now (b .entry)) ⌝ }
 {
     Device {
@@ -234,10 +242,24 @@ pub fn read_image(b: &[u8]) -> Device
     }
 }
 
+// The device of an image. A shorter buffer is taken as if 0 followed it; whoever steps or shows a device has asked for the length first.
+pub fn read_image(b: &[u8]) -> Device
+    ensures { λ r. ⌜ r ≡ deviceIn (now (b .entry)) ⌝ }
+{
+    if b.len() < IMAGE_LENGTH {
+        let mut bytes = [0u8; 38];
+        copy(b, &mut bytes);
+        device_in(&bytes)
+    } else {
+        device_in(b)
+    }
+}
+
 // ---- ranges
 
 // A field of one byte is no more than its top.
 fn fits(at: usize, top: u8, b: &[u8]) -> bool
+    requires { ⌜ at < length (now b) ⌝ }
     ensures { λ r. ⌜ r ≡ leb (byteAt at (now (b .entry))) top ⌝ }
 {
     byte_at(at, b) <= top
@@ -245,7 +267,7 @@ fn fits(at: usize, top: u8, b: &[u8]) -> bool
 
 // And one of two bytes.
 fn word_fits(at: usize, top: u16, b: &[u8]) -> bool
-    requires { ⌜ at < 38 ⌝ }
+    requires { ⌜ at + 1 < length (now b) ⌝ }
     ensures { λ r. ⌜ r ≡ (leb (byteAt at (now (b .entry))) 255 && leb (wordAt at (now (b .entry))) top) ⌝ }
 {
     fits(at, 255, b) & (word_at(at, b) <= top)
@@ -253,12 +275,14 @@ fn word_fits(at: usize, top: u16, b: &[u8]) -> bool
 
 // CONTR has bit 1 clear.
 fn contr_fits(at: usize, b: &[u8]) -> bool
+    requires { ⌜ at < length (now b) ⌝ }
     ensures { λ r. ⌜ r ≡ (leb (byteAt at (now (b .entry))) 255 && not (bit 1 (byteAt at (now (b .entry))))) ⌝ }
 {
     fits(at, 255, b) & !(byte_at(at, b) / 2 % 2 == 1)
 }
 
 fn registers_0_fit(b: &[u8]) -> bool
+    requires { ⌜ imageLength ≤ length (now b) ⌝ }
     ensures { λ r. ⌜ r ≡ rowsFit 0 (registers Zero) (now (b .entry)) ⌝ }
 {
     contr_fits(0, b)
@@ -271,6 +295,7 @@ fn registers_0_fit(b: &[u8]) -> bool
 }
 
 fn registers_1_fit(b: &[u8]) -> bool
+    requires { ⌜ imageLength ≤ length (now b) ⌝ }
     ensures { λ r. ⌜ r ≡ rowsFit 7 (registers One) (now (b .entry)) ⌝ }
 {
     contr_fits(7, b)
@@ -293,6 +318,7 @@ fn limit_of(k: Kind) -> u8
 }
 
 fn counts_fit(b: &[u8]) -> bool
+    requires { ⌜ imageLength ≤ length (now b) ⌝ }
     ensures { λ r. ⌜ r ≡ rowsFit 14 counts (now (b .entry)) ⌝ }
 {
     let limit = limit_of(kind_in(b));
@@ -304,6 +330,7 @@ fn counts_fit(b: &[u8]) -> bool
 }
 
 fn shared_fit(b: &[u8]) -> bool
+    requires { ⌜ imageLength ≤ length (now b) ⌝ }
     ensures { λ r. ⌜ r ≡ rowsFit 21 shared (now (b .entry)) ⌝ }
 {
     fits(21, 1, b)
@@ -319,12 +346,14 @@ fn shared_fit(b: &[u8]) -> bool
 }
 
 fn port_0_fits(b: &[u8]) -> bool
+    requires { ⌜ imageLength ≤ length (now b) ⌝ }
     ensures { λ r. ⌜ r ≡ rowsFit 32 (port Zero) (now (b .entry)) ⌝ }
 {
     fits(32, 2, b) & fits(33, 7, b) & fits(34, 1, b)
 }
 
 fn port_1_fits(b: &[u8]) -> bool
+    requires { ⌜ imageLength ≤ length (now b) ⌝ }
     ensures { λ r. ⌜ r ≡ rowsFit 35 (port One) (now (b .entry)) ⌝ }
 {
     fits(35, 2, b) & fits(36, 7, b) & fits(37, 1, b)
@@ -332,6 +361,7 @@ fn port_1_fits(b: &[u8]) -> bool
 
 // Every field of an image is in its range.
 fn in_range(b: &[u8]) -> bool
+    requires { ⌜ imageLength ≤ length (now b) ⌝ }
     ensures { λ r. ⌜ r ≡ imageInRange (now (b .entry)) ⌝ }
 {
     registers_0_fit(b)

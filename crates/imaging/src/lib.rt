@@ -38,7 +38,7 @@ use image::image_number;
 use image::read_image;
 use layout::IMAGE_LENGTH;
 use step::fresh;
-use traces::run_one;
+use step::step_device;
 
 // What an advance tells: its number, and how many of its ticks changed anything but counts.
 pub struct Told {
@@ -275,7 +275,7 @@ fn step_good(image: &mut [u8], r: Raw) -> Answer
     requires { ⌜ isImage (now image) ≡ true ⌝ }
     ensures { λ a. ⌜ (a ≡ step (deviceIn (now (image .entry))) r .answer) × (now (image .exit) ≡ imageOf (step (deviceIn (now (image .entry))) r .device)) ⌝ }
 {
-    let s = run_one(read_image(image), r);
+    let s = step_device(read_image(image), r);
     write_image(s.device, image);
     s.answer
 }

@@ -1,4 +1,5 @@
 pub mod Settles
+pub mod Told
 pub mod Fits
 pub mod Light
 pub mod Ended

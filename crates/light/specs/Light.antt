@@ -1,7 +1,8 @@
 -- Request #114: settled devices. Every device that a run reaches is settled: parts 2 to 7 have nothing to do in it.
 -- Assumes nothing.
 use mathlib.Core.Path.{_≡_}
-use mathlib.Core.Bool.{true, false}
+use mathlib.Core.Bool.{Bool, true, false, not, _&&_, _||_}
+use lib.Dec.{eqb}
 use Rattle.arbiter.specs.State.{sclHigh, sdaHigh, isIdle}
 use Rattle.arbiter.specs.Effects.{powerUp}
 use Rattle.arbiter.specs.Steps.{step}
@@ -21,6 +22,13 @@ Still b = (sclHigh b ≡ true → b .lowscl ≡ 0) × (sdaHigh b ≡ true → b 
 abbrev pub Settled : Device → Type 0
 Settled d = Still (d .bus) × (isQuiet false d ≡ true)
 
+-- the same as tests, by which any device tells whether it is settled
+abbrev pub isStill : Bus → Bool
+isStill b = (not (sclHigh b) || eqb (b .lowscl) 0) && (not (sdaHigh b) || eqb (b .lowsda) 0) && (isIdle b || eqb (b .idle) 0)
+
+abbrev pub isSettled : Device → Bool
+isSettled d = isStill (d .bus) && isQuiet false d
+
 -- ---- what is proved
 
 -- A device is settled at power-up, and every event leaves a settled device settled.
@@ -29,3 +37,7 @@ SettledAtPowerUp = (k : Kind) → Settled (powerUp k)
 
 abbrev pub StaysSettled : Type 0
 StaysSettled = (d : Device) (r : Raw) → Settled d → Settled (step d r .device)
+
+-- The test says of a device that it is settled only if it is.
+abbrev pub SettledTold : Type 0
+SettledTold = (d : Device) → isSettled d ≡ true → Settled d

@@ -12,8 +12,9 @@ ghost use Rattle.orders.specs.Walk.{reachedWith, reached, bytesFrom, pou
 use arbiter::Device;
 use arbiter::Kind;
 use format::EVENT_BYTES;
+use format::event_at;
 use step::fresh;
-use traces::run_events;
+use step::step_device;
 
 // A script has so many events at most.
 const MOST_SCRIPTED: usize = 6;
@@ -67,15 +68,13 @@ fn start() -> Reached
     reached_with(fresh(Kind::Pca9641), 0)
 }
 
-// One event more, the first of these. It goes through the loop over events, with a count of one: a step of its own would be a second place
-// that calls the step, which then is inlined in neither, and the loop over a trace would be slower (docs/SPEED.md has by how much).
+// One event more, the first of these.
 fn reach(c: Reached, script: &[u8]) -> Reached
     requires { ⌜ eventBytes ≤ length (now script) ⌝ }
     ensures { λ r. ⌜ r ≡ reached c (rawIn (now (script .entry))) ⌝ }
 {
-    let mut answer = [0u8; 4];
-    let ran = run_events(c.device, &script[..EVENT_BYTES], &mut answer);
-    reached_with(ran.device, answer[2])
+    let s = step_device(c.device, event_at(script, 0));
+    reached_with(s.device, s.answer.owner)
 }
 
 // The byte of each order of what is left of the two scripts, from `at` on and below the limit: the place after the last. With each event

@@ -3,6 +3,7 @@ pub mod Ticks
 pub mod Tallied
 pub mod Rounds
 pub mod Quiet
+pub mod Others
 pub mod Own
 pub mod Runs
 pub mod Sound

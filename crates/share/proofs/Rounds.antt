@@ -35,7 +35,7 @@ listed false x ds y = refl
 -- ---- the events that are still to come
 
 module _ (b : List ℕ) (n i : ℕ) (more : i < n) (whole : eventBytes * n ≤ length b) where
-  event-is : eventAt i b ≡ rawIn (drop (eventBytes * i) b)
+  pub event-is : eventAt i b ≡ rawIn (drop (eventBytes * i) b)
   unfolding eventAt
   event-is = simp (lt-ltb i (eventCount b) (omega arith))
 

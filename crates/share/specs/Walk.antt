@@ -2,13 +2,13 @@
 -- Assumes nothing.
 use Prim.Native.Nat.{ℕ, _+_, _-_, _*_, _<_, _≤_}
 use mathlib.Core.Path.{_≡_}
-use mathlib.Core.Bool.{Bool, _&&_, _||_}
+use mathlib.Core.Bool.{Bool, false, _&&_, _||_}
 use mathlib.Core.List.{List, [], _∷_}
 use lib.Dec.{eqb, ltb}
 use lib.ListN.{drop}
 use Rattle.arbiter.specs.Words.{if_then_else_, worth}
 use Rattle.arbiter.specs.State.{owns, connected}
-use Rattle.arbiter.specs.Steps.{step}
+use Rattle.arbiter.specs.Steps.{step, runFrom}
 use Rattle.arbiter.specs.Traces.{eventBytes, mostEvents, rawsIn, eventCount}
 use Rattle.arbiter.specs.declared.Master.the-variants.{Zero, One}
 use Rattle.arbiter.specs.declared.Device.{Device}
@@ -143,6 +143,14 @@ quietTaken p j =
 -- each of the r events from number n on is a TICK
 abbrev pub AllTicks : ℕ → ℕ → List ℕ → Type 0
 AllTicks r n b = (k : ℕ) → k < r → eventAt (n + k) b ≡ tick
+
+-- none of them is
+abbrev pub NoTicks : ℕ → ℕ → List ℕ → Type 0
+NoTicks r n b = (k : ℕ) → k < r → isTickRaw (eventAt (n + k) b) ≡ false
+
+-- after k events more of which none is a TICK: nothing is noted
+abbrev pub othersTaken : Point → ℕ → List ℕ → Point
+othersTaken p k b = pointWith (runFrom (p .device) (rawsIn k (drop (eventBytes * p .at) b))) (p .tally) (p .at + k)
 
 -- the events of the first n from number i on
 abbrev pub left : List ℕ → ℕ → ℕ → List Raw

@@ -1,5 +1,5 @@
 // One trace counted: the states after its TICKs are looked at, and the counts handed from one to the next. Quiet TICKs in a row, which change
-// nothing but counts, are taken together.
+// nothing but counts, are taken together, and events in a row of which none is a TICK go through the loop over events.
 ghost use Prim.Native.Nat.{_+_, _-_, _*_, _<_, _≤_};
 ghost use mathlib.Core.Path.{_≡_};
 ghost use lib.ListN.{length};
@@ -10,7 +10,7 @@ ghost use Rattle.format.specs.Places.{eventAt};
 ghost use Rattle.quiet.specs.Quiet.{quietTicks};
 ghost use Rattle.share.specs.Numbers.{larger};
 ghost use Rattle.share.specs.States.{statesFrom};
-ghost use Rattle.share.specs.Walk.{isTickRaw, seenOf, waitedOn, noted, noTally, tallyFrom, Within, pointWith, oneTaken, quietTaken, AllTicks, Onward, countedIn};
+ghost use Rattle.share.specs.Walk.{isTickRaw, seenOf, waitedOn, noted, noTally, tallyFrom, Within, pointWith, oneTaken, quietTaken, AllTicks, NoTicks, othersTaken, Onward, countedIn};
 use crate::Point;
 use crate::Seen;
 use crate::Tally;
@@ -27,7 +27,8 @@ use format::MOST_EVENTS;
 use format::event_at;
 use quiet::after_ticks;
 use quiet::quiet_ticks;
-use traces::run_one;
+use step::step_device;
+use traces::run_events;
 
 // ---- one state
 
@@ -151,7 +152,7 @@ fn take_one(p: Point, events: &[u8]) -> Point
 {
     let at = p.at;
     let r = event_at(events, at);
-    let s = run_one(p.device, r);
+    let s = step_device(p.device, r);
     point_with(s.device, note_after(r, s.device, p.tally), at + 1)
 }
 
@@ -195,7 +196,37 @@ fn quiet_run(d: Device, events: &[u8], at: usize, n: usize) -> u16
     }
 }
 
-fn take_next(p: Point, events: &[u8], n: usize) -> Point
+// Events of which none is a TICK are run so many at a time, so that the answers, which nobody looks at, have room.
+const MOST_TOGETHER: u16 = 32;
+
+// How many events from here on are no TICK, up to a limit.
+fn other_run(events: &[u8], at: usize, limit: u16) -> u16
+    requires { ⌜ eventBytes * (at + limit) ≤ length (now events) ⌝ }
+    ensures { λ r. ⌜ (r ≤ limit) × NoTicks r at (now (events .entry)) ⌝ }
+{
+    let mut k: u16 = 0;
+    while k < limit && !is_tick(event_at(events, at + (k as usize))) {
+        k += 1;
+    }
+    k
+}
+
+// k events of which none is a TICK.
+fn take_others(p: Point, events: &[u8], k: u16) -> Point
+    requires { ⌜ (k ≤ 32) × (p .at + k ≤ mostEvents) × (eventBytes * (p .at + k) ≤ length (now events)) ⌝ }
+    ensures { λ r. ⌜ r ≡ othersTaken p k (now (events .entry)) ⌝ }
+{
+    let at = p.at;
+    let next = at + (k as usize);
+    let from = EVENT_BYTES * at;
+    let end = EVENT_BYTES * next;
+    let mut answers = [0u8; 128];
+    let ran = run_events(p.device, &events[from..end], &mut answers);
+    point_with(ran.device, p.tally, next)
+}
+
+// A TICK, and quiet ones that follow it.
+fn take_ticks(p: Point, events: &[u8], n: usize) -> Point
     requires { ⌜ (p .at < n) × (n ≤ mostEvents) × (eventBytes * n ≤ length (now events)) × Within (p .at) (p .tally) ⌝ }
     ensures { λ r. ⌜ Onward (now (events .entry)) n p r ⌝ }
 {
@@ -205,6 +236,19 @@ fn take_next(p: Point, events: &[u8], n: usize) -> Point
         take_one(p, events)
     } else {
         take_quiet(p, j)
+    }
+}
+
+fn take_next(p: Point, events: &[u8], n: usize) -> Point
+    requires { ⌜ (p .at < n) × (n ≤ mostEvents) × (eventBytes * n ≤ length (now events)) × Within (p .at) (p .tally) ⌝ }
+    ensures { λ r. ⌜ Onward (now (events .entry)) n p r ⌝ }
+{
+    let at = p.at;
+    let k = other_run(events, at, smaller_of(MOST_TOGETHER, n - at));
+    if k == 0 {
+        take_ticks(p, events, n)
+    } else {
+        take_others(p, events, k)
     }
 }
 

@@ -18,7 +18,8 @@ use routing::start;
 use shelf::Naming;
 use shelf::Reach;
 use shelf::Record;
-use traces::run_one;
+use step::answered;
+use step::step_device;
 
 // ---- what one record does
 
@@ -33,7 +34,7 @@ pub fn visit(c: Record, t: Task) -> Visited
 {
     let before = c.device;
     let event = t.event;
-    let s = run_one(before, event);
+    let s = step_device(before, event);
     let device = s.device;
     let answer = first_answer(t.told, t.answer, s.answer);
     Visited {
@@ -57,26 +58,11 @@ pub struct Looked {
     pub answer: Answer,
 }
 
-// A device as it stands: outcome 0 and no byte read. An event of unknown kind changes nothing, and its answer has the owner and the lines.
+// A device as it stands: outcome 0 and no byte read, with the owner and the lines.
 pub fn show_device(d: Device) -> Answer
     ensures { λ r. ⌜ r ≡ answer 0 0 d ⌝ }
 {
-    let s = run_one(
-        d,
-        Raw {
-            kind: 255,
-            x: 0,
-            y: 0,
-            z: 0,
-        },
-    );
-    let a = s.answer;
-    Answer {
-        outcome: 0,
-        read: 0,
-        owner: a.owner,
-        lines: a.lines,
-    }
+    answered(0, 0, d)
 }
 
 pub fn look_start(place: u8) -> Looked

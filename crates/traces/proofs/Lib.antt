@@ -2,6 +2,5 @@ pub mod Runs
 pub mod Batch
 pub mod Arms
 pub mod Turn
-pub mod One
 pub mod Reading
 pub mod Unique

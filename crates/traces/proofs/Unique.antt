@@ -4,7 +4,6 @@ use denote.Ref.{now}
 use Rattle.arbiter.proofs.Once.{OneResult, OneLeft, once}
 use Rattle.traces.proofs.read_trace.Reads as read-trace
 use Rattle.traces.proofs.run_events.Reads as run-events
-use Rattle.traces.proofs.run_one.Reads as run-one
 use Rattle.traces.proofs.run_trace.Reads as run-trace
 use Rattle.traces.proofs.answer_trace.Reads as answer-trace
 
@@ -13,9 +12,6 @@ read-trace-once κ a x y s t p q = once (p .0) (q .0)
 
 pub run-events-once : OneLeft (λ κ s. now (s .1 .1 .0)) run-events.Post
 run-events-once κ a x y s t p q = (once (p .0) (q .0), once (p .1) (q .1))
-
-pub run-one-once : OneResult run-one.Post
-run-one-once κ a x y s t p q = once p q
 
 pub run-trace-once : OneLeft (λ κ s. now (s .1 .0)) run-trace.Post
 run-trace-once κ a x y s t p q = (once (p .0) (q .0), once (p .1) (q .1))

@@ -66,6 +66,7 @@ use sides::intin_fell;
 use sides::is_granted_at_rest;
 use sides::is_initialising;
 use sides::is_resting;
+use sides::is_settled;
 use sides::kind_told;
 use sides::lines_shown;
 use sides::pair_side;
@@ -201,7 +202,7 @@ fn play_ticks(events: &[u8], answers: &mut [u8], i: usize, last: usize, a: Answe
     at
 }
 
-// The one place here that steps a device: a function as large as a step is inlined only where a single place calls it.
+// The one place here that steps a device.
 fn step_one(d: Device, r: Raw) -> Stepped
     ensures { λ s. ⌜ s ≡ step d r ⌝ }
 {
@@ -212,8 +213,7 @@ fn step_one(d: Device, r: Raw) -> Stepped
 // event that ends with its own effect does so here, on the one side or the two that it moves; so does what is refused. All else is stepped in full.
 //
 // It is one long function because it has to be fast: the two sides stand in an array of the loop and are taken by the number of their master, without a
-// branch on it, which no function over them by value or by reference keeps; and the step, which is as large as it is, is inlined only where a
-// single place calls it, as here.
+// branch on it, which no function over them by value or by reference keeps.
 fn play(settled: bool, from: Device, events: &[u8], answers: &mut [u8], n: usize) -> Device
     requires { ⌜ (eventBytes * n ≤ length (now events)) × (eventBytes * n ≤ length (now answers)) × (settled ≡ true → Settled from) ⌝ }
     ensures { λ r. ⌜ (r ≡ runFrom from (rawsIn n (now (events .entry)))) × (now (answers .exit) ≡ bytesOf (answersFrom from (rawsIn n (now (events .entry)))) ++ drop (eventBytes * n) (now (answers .entry))) ⌝ }
@@ -488,31 +488,12 @@ fn run_from(settled: bool, d: Device, events: &[u8], answers: &mut [u8]) -> Ran
 }
 
 // Raw events from any device, each answered in the lent buffer: the count of them and the device after them. Bytes that are not in fours,
-// and a buffer without room for the answers, are refused by number and leave device and buffer as they were.
+// and a buffer without room for the answers, are refused by number and leave device and buffer as they were. A device that tells that it is settled, as
+// every one does that a run reached, goes the short way.
 pub fn run_events(d: Device, events: &[u8], answers: &mut [u8]) -> Ran
     ensures { λ r. ⌜ (r ≡ ran d (now (events .entry)) (now (answers .entry))) × (now (answers .exit) ≡ bufferRan d (now (events .entry)) (now (answers .entry))) ⌝ }
 {
-    run_from(false, d, events, answers)
-}
-
-// One event from any device. It goes through the loop over events, with a count of one: a step of its own would be a second place that calls
-// the step, which then is inlined in neither, and the loop over a trace would be slower (docs/SPEED.md has by how much).
-pub fn run_one(d: Device, r: Raw) -> Stepped
-    ensures { λ s. ⌜ s ≡ step d r ⌝ }
-{
-    let event = [r.kind, r.x, r.y, r.z];
-    let mut answer = [0u8; 4];
-    let ran = run_events(d, &event, &mut answer);
-    let device = ran.device;
-    Stepped {
-        answer: Answer {
-            outcome: answer[0],
-            read: answer[1],
-            owner: answer[2],
-            lines: answer[3],
-        },
-        device,
-    }
+    run_from(is_settled(d), d, events, answers)
 }
 
 fn refusal_number(r: Refusal) -> u8

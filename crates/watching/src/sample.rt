@@ -22,7 +22,7 @@ use hearing::hear_watched;
 use importing::Few;
 use importing::few_of;
 use importing::raw_of;
-use traces::run_one;
+use step::step_device;
 use watch::Ear;
 use watch::Settings;
 use watch::Watcher;
@@ -34,7 +34,7 @@ fn follow(e: Event, w: Watcher) -> Watcher
 {
     let settings = w.settings;
     let ear = w.ear;
-    let stepped = run_one(w.device, raw_of(e));
+    let stepped = step_device(w.device, raw_of(e));
     let device = stepped.device;
     let tally = tally_with(e, ear.both, w.device, w.tally, stepped.answer.read);
     Watcher {

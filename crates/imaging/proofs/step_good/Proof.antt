@@ -16,13 +16,13 @@ use Rattle.imaging.proofs.step_good.Tie as tie
 read-image-requires : tie.Need-read-image-requires
 read-image-requires c κs = search needs
 
-run-one-requires : tie.Need-run-one-requires
-run-one-requires c κs = search needs
+step-device-requires : tie.Need-step-device-requires
+step-device-requires c κs = search needs
 
 write-image-requires : tie.Need-write-image-requires
 write-image-requires c κs =
     let start = c .before .before .before .before .before in
-    let ran = c .before .run-one .ensures ∙ ap (λ (d : Device). step d (start .args .r)) (c .before .before .read-image .ensures) in
+    let ran = c .before .step-device .ensures ∙ ap (λ (d : Device). step d (start .args .r)) (c .before .before .read-image .ensures) in
     let few = subst (λ (s : Stepped). pulses (s .device .arb .switch) < 9) (sym ran) (pulses-stay _ (start .args .r) (start .pre)) in
     (few, image-good _ (start .pre) .0)
 
@@ -33,10 +33,10 @@ returns : tie.Need-returns
 returns c =
     let r = c .before .before .before .before .before .before .before .before .before .args .r in
     let from = c .before .before .before .before .before in
-    let ran = from .run-one .ensures ∙ ap (λ (d : Device). step d r) (from .before .read-image .ensures) in
+    let ran = from .step-device .ensures ∙ ap (λ (d : Device). step d r) (from .before .read-image .ensures) in
     (ap (λ (s : Stepped). s .answer) ran, c .before .before .before .write-image .ensures ∙ ap (λ (s : Stepped). imageOf (s .device)) ran)
 
 pub step-good-spec : {M : Type 1} → statement M
 step-good-spec =
     tie.close
-    (tie.spec read-image-requires run-one-requires write-image-requires same-length returns)
+    (tie.spec read-image-requires step-device-requires write-image-requires same-length returns)

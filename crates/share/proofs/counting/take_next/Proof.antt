@@ -1,31 +1,45 @@
 -- `share::counting::take_next` meets its contract.
 -- Assumes nothing.
+use native.Mathlib.Omega.{arith}
 use borrow.Author.Needs.{needs}
-use Rattle.share.proofs.Quiet.{one-onward, quiet-onward}
+use Rattle.share.proofs.Others.{others-onward}
 use Rattle.share.proofs.counting.take_next.Statement.{statement}
 use Rattle.share.proofs.counting.take_next.Tie as tie
 
-quiet-run-requires : tie.Need-quiet-run-requires
-quiet-run-requires c κs = search needs
+sub-smaller-of : tie.Need-sub-smaller-of
+sub-smaller-of c = search needs
 
-take-one-requires : tie.Need-take-one-requires
-take-one-requires c κs = search needs
+smaller-of-requires : tie.Need-smaller-of-requires
+smaller-of-requires c κs = search needs
 
-take-quiet-requires : tie.Need-take-quiet-requires
-take-quiet-requires c κs = search needs
+other-run-requires : tie.Need-other-run-requires
+other-run-requires c κs = omega (arith, c .smaller-of .ensures .1)
+
+take-ticks-requires : tie.Need-take-ticks-requires
+take-ticks-requires c κs = search needs
+
+take-others-requires : tie.Need-take-others-requires
+take-others-requires c κs = search needs
 
 returns : tie.Need-returns
-returns c =
-    let start = c .before .before .before .before in
-    one-onward (start .args .events .now) (start .args .n) (start .pre .2) (start .args .p) _ (start .pre .0) (start .pre .3) (c .take-one .ensures)
+returns c = c .take-ticks .ensures
 
 returns-2 : tie.Need-returns-2
 returns-2 c =
     let test = c .before in
-    let run = test .before .quiet-run .ensures in
-    let start = test .before .before .before in
-    quiet-onward (start .args .events .now) (start .args .n) (start .pre .2) (start .args .p) _ _ (test .if1 .left) (start .pre .3) (run .0) (run .1) (run .2) (c .take-quiet .ensures)
+    let run = test .before .other-run .ensures in
+    let few = test .before .before .smaller-of .ensures in
+    let start = test .before .before .before .before in
+    others-onward (start .args .events .now) (start .args .n) (start .pre .2) (start .args .p) _ _ (test .if1 .left) (start .pre .3) (omega (arith, run .0, few .1, start .pre .0)) (run .1) (c .take-others .ensures)
 
 pub take-next-spec : {M : Type 1} → statement M
 take-next-spec =
-    tie.close (tie.spec quiet-run-requires take-one-requires take-quiet-requires returns returns-2)
+    tie.close
+    (tie.spec
+    sub-smaller-of
+    smaller-of-requires
+    other-run-requires
+    take-ticks-requires
+    take-others-requires
+    returns
+    returns-2)

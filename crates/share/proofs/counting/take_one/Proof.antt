@@ -8,8 +8,8 @@ use Rattle.share.proofs.counting.take_one.Tie as tie
 event-at-requires : tie.Need-event-at-requires
 event-at-requires c κs = search needs
 
-run-one-requires : tie.Need-run-one-requires
-run-one-requires c κs = search needs
+step-device-requires : tie.Need-step-device-requires
+step-device-requires c κs = search needs
 
 note-after-requires : tie.Need-note-after-requires
 note-after-requires c κs = search needs
@@ -24,14 +24,14 @@ returns : tie.Need-returns
 returns c =
     let noted-at = c .before in
     let ran = noted-at .before in
-    one-taken _ _ _ _ _ _ (ran .before .event-at .ensures) (ran .run-one .ensures) (noted-at .note-after .ensures) (c .point-with .ensures)
+    one-taken _ _ _ _ _ _ (ran .before .event-at .ensures) (ran .step-device .ensures) (noted-at .note-after .ensures) (c .point-with .ensures)
 
 pub take-one-spec : {M : Type 1} → statement M
 take-one-spec =
     tie.close
     (tie.spec
     event-at-requires
-    run-one-requires
+    step-device-requires
     note-after-requires
     add-point-with
     point-with-requires

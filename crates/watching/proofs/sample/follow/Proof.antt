@@ -8,16 +8,16 @@ use Rattle.watching.proofs.sample.follow.Tie as tie
 raw-of-requires : tie.Need-raw-of-requires
 raw-of-requires c κs = search needs
 
-run-one-requires : tie.Need-run-one-requires
-run-one-requires c κs = search needs
+step-device-requires : tie.Need-step-device-requires
+step-device-requires c κs = search needs
 
 tally-with-requires : tie.Need-tally-with-requires
 unfolding followed
-tally-with-requires c κs = simp (c .before .run-one .ensures, c .before .before .raw-of .ensures)
+tally-with-requires c κs = simp (c .before .step-device .ensures, c .before .before .raw-of .ensures)
 
 returns : tie.Need-returns
 unfolding followed
-returns c = simp (c .tally-with .ensures, c .before .before .run-one .ensures, c .before .before .before .raw-of .ensures)
+returns c = simp (c .tally-with .ensures, c .before .before .step-device .ensures, c .before .before .before .raw-of .ensures)
 
 pub follow-spec : {M : Type 1} → statement M
-follow-spec = tie.close (tie.spec raw-of-requires run-one-requires tally-with-requires returns)
+follow-spec = tie.close (tie.spec raw-of-requires step-device-requires tally-with-requires returns)
