@@ -9,7 +9,8 @@ use Rattle.arbiter.specs.State.{sclHigh, sdaHigh, isIdle}
 use Rattle.arbiter.specs.declared.Bus.{Bus}
 use Rattle.arbiter.specs.declared.Device.{Device}
 use Rattle.step.specs.Carried.{isQuiet}
-use Rattle.light.specs.Light.{Still, isStill, SettledTold}
+use Rattle.quiet.specs.Quiet.{isStill}
+use Rattle.light.specs.Light.{Still, SettledTold}
 
 -- a count that is 0 where this holds
 where-so : (t : Bool) (n : ℕ) → not t || eqb n 0 ≡ true → t ≡ true → n ≡ 0

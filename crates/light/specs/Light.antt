@@ -1,8 +1,7 @@
 -- Request #114: settled devices. Every device that a run reaches is settled: parts 2 to 7 have nothing to do in it.
 -- Assumes nothing.
 use mathlib.Core.Path.{_≡_}
-use mathlib.Core.Bool.{Bool, true, false, not, _&&_, _||_}
-use lib.Dec.{eqb}
+use mathlib.Core.Bool.{Bool, true, false, _&&_}
 use Rattle.arbiter.specs.State.{sclHigh, sdaHigh, isIdle}
 use Rattle.arbiter.specs.Effects.{powerUp}
 use Rattle.arbiter.specs.Steps.{step}
@@ -10,6 +9,7 @@ use Rattle.arbiter.specs.declared.Bus.{Bus}
 use Rattle.arbiter.specs.declared.Kind.{Kind}
 use Rattle.arbiter.specs.declared.Device.{Device}
 use Rattle.arbiter.specs.declared.Raw.{Raw}
+use Rattle.quiet.specs.Quiet.{isStill}
 use Rattle.step.specs.Carried.{isQuiet}
 
 -- ---- a settled device
@@ -22,10 +22,7 @@ Still b = (sclHigh b ≡ true → b .lowscl ≡ 0) × (sdaHigh b ≡ true → b 
 abbrev pub Settled : Device → Type 0
 Settled d = Still (d .bus) × (isQuiet false d ≡ true)
 
--- the same as tests, by which any device tells whether it is settled
-abbrev pub isStill : Bus → Bool
-isStill b = (not (sclHigh b) || eqb (b .lowscl) 0) && (not (sdaHigh b) || eqb (b .lowsda) 0) && (isIdle b || eqb (b .idle) 0)
-
+-- the same as a test, by which any device tells whether it is settled; isStill is that of crate quiet
 abbrev pub isSettled : Device → Bool
 isSettled d = isStill (d .bus) && isQuiet false d
 

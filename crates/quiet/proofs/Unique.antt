@@ -6,6 +6,7 @@ use Rattle.quiet.proofs.scl_ticks.Reads as scl-ticks
 use Rattle.quiet.proofs.sda_ticks.Reads as sda-ticks
 use Rattle.quiet.proofs.idle_ticks.Reads as idle-ticks
 use Rattle.quiet.proofs.owner_ticks.Reads as owner-ticks
+use Rattle.quiet.proofs.is_still.Reads as is-still
 use Rattle.quiet.proofs.is_calm.Reads as is-calm
 use Rattle.quiet.proofs.quiet_ticks.Reads as quiet-ticks
 use Rattle.quiet.proofs.settled_ticks.Reads as settled-ticks
@@ -25,6 +26,9 @@ idle-ticks-once κ a x y s t p q = once p q
 
 pub owner-ticks-once : OneResult owner-ticks.Post
 owner-ticks-once κ a x y s t p q = once p q
+
+pub is-still-once : OneResult is-still.Post
+is-still-once κ a x y s t p q = once p q
 
 pub is-calm-once : OneResult is-calm.Post
 is-calm-once κ a x y s t p q = once p q

@@ -121,7 +121,7 @@ fn turn_ticks(t: Turn, d: Device) -> u16
 // ---- nothing else to settle
 
 // Part 2 has nothing to settle: counts stand at 0 where they do not run.
-fn is_still(b: Bus) -> bool
+pub fn is_still(b: Bus) -> bool
     ensures { λ r. ⌜ r ≡ isStill b ⌝ }
 {
     (!scl_high(b) | (b.lowscl == 0))

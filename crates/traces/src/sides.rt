@@ -1,6 +1,6 @@
 // What the loop over events asks of one event, and of the two sides that it holds beside each other (request #114).
 ghost use mathlib.Core.Path.{_≡_};
-ghost use mathlib.Core.Bool.{false, _&&_, not};
+ghost use mathlib.Core.Bool.{_&&_, not};
 ghost use lib.Dec.{eqb};
 ghost use Rattle.arbiter.specs.Words.{if_then_else_, partner};
 ghost use Rattle.arbiter.specs.State.{claimsTurn, ownsTurn, isInitialising, atRest, forWriting};
@@ -10,8 +10,8 @@ ghost use Rattle.arbiter.specs.Effects.{writeRisen, holdAsked};
 ghost use Rattle.arbiter.specs.declared.Master.the-variants.{Zero, One};
 ghost use Rattle.arbiter.specs.declared.Outcome.the-variants.{Done, NotAcknowledged};
 ghost use Rattle.arbitration.specs.Quiet.{noLoss};
-ghost use Rattle.step.specs.Carried.{isQuiet, kept};
-ghost use Rattle.light.specs.Light.{isStill, isSettled};
+ghost use Rattle.step.specs.Carried.{kept};
+ghost use Rattle.light.specs.Light.{isSettled};
 ghost use Rattle.light.specs.Ended.{leavesTurn, linedBus};
 ghost use Rattle.traces.specs.Sides.{kindTold, byteIsLight, linesShown, deviceOf};
 use arbiter::Answer;
@@ -26,21 +26,17 @@ use arbiter::Raw;
 use arbiter::Register;
 use arbiter::Side;
 use arbiter::Turn;
-use arbitration::claims::no_claim;
-use arbitration::claims::no_grant;
 use arbitration::losses::no_cut;
 use arbitration::losses::no_loss;
 use bits::bit_0;
 use bits::pick_bool;
 use bits::worth_of;
 use bus::bus_hung;
-use bus::is_idle;
 use bus::outside_of;
 use bus::scl_high;
 use bus::sda_high;
 use bus::settled_bus;
 use connection::initialises;
-use connection::switch_stays;
 use events::acknowledged_number;
 use fields::owns_turn;
 use fields::pointer_of;
@@ -50,6 +46,8 @@ use fields::switch_of;
 use fields::turn_of;
 use ports::is_at_rest;
 use ports::is_for_writing;
+use quiet::is_calm;
+use quiet::is_still;
 use registers::byte_handed_out;
 use registers::is_asserted_by;
 use writing::light_partner;
@@ -288,30 +286,14 @@ pub(crate) fn intin_fell(r: Raw, b: Bus) -> bool
 
 // ---- a settled device
 
-fn is_still(b: Bus) -> bool
-    ensures { λ r. ⌜ r ≡ isStill b ⌝ }
-{
-    (!scl_high(b) | (b.lowscl == 0))
-        & (!sda_high(b) | (b.lowsda == 0))
-        & (is_idle(b) | (b.idle == 0))
-}
-
-// Parts 3 to 7 have nothing to do.
-fn is_calm(d: Device) -> bool
-    ensures { λ r. ⌜ r ≡ isQuiet false d ⌝ }
-{
-    switch_stays(turn_of(d.arb), d)
-        & no_grant(turn_of(d.arb), d)
-        & no_claim(turn_of(d.arb), d)
-        & no_cut(false, turn_of(d.arb), d)
-        & no_loss(turn_of(d.arb), d)
-}
-
 // A device tells whether it is settled.
 pub(crate) fn is_settled(d: Device) -> bool
     ensures { λ r. ⌜ r ≡ isSettled d ⌝ }
 {
-    is_still(d.bus) & is_calm(d)
+    is_still(d.bus)
+        & (is_calm(turn_of(d.arb), d)
+            & no_cut(false, turn_of(d.arb), d)
+            & no_loss(turn_of(d.arb), d))
 }
 
 // ---- the device and its answer
