@@ -1,4 +1,4 @@
-//! The names that `docs/SENTENCES.md` uses, each told by its form:
+//! The names that `docs/SENTENCES.md` and `docs/RULES.md` use, each told by its form:
 //!
 //! - `bus/Quiet`, one capital after the crate: a statement of that crate, as `docs/STATEMENTS.md` lists it.
 //! - `bus::idle`: a public call of that crate with a promise.

@@ -49,6 +49,7 @@ const TABLES: &Openers = &[
     ("recovery/proofs/CrashWitnesses.antt", &["reached", "keptOut"]),
     ("recovery/proofs/RecipeWitnesses.antt", &["refused-out", "recipe-witnesses-meet"]),
     ("recovery/proofs/ToldWitnesses.antt", &["told-witnesses-meet"]),
+    ("rulebook/proofs/Rows.antt", &["rule-rows-hold"]),
     ("share/proofs/Examples.antt", &["rows-hold"]),
     ("sheets/proofs/Examples.antt", &["examples-hold"]),
     ("sheets/proofs/InTime.antt", &["premises-met"]),

@@ -145,7 +145,7 @@ fn placed(row: &Row, fault: &str) -> String {
 }
 
 /// Names go with the file that defines them, and it does.
-fn definition_faults(names: &Names, cell: &str) -> Vec<String> {
+pub fn definition_faults(names: &Names, cell: &str) -> Vec<String> {
     let mut told = Vec::new();
     for (name, file) in definitions_in(cell) {
         if !names.is_defined(&name, &file) {

@@ -5,8 +5,20 @@ use std::fs;
 use std::path::Path;
 
 /// The ends of the files that are read. A program's stored output need not be text.
-const READ: [&str; 9] =
-    [".rt", ".antt", ".edit", ".md", ".rs", "/stdout", ".stdout", "/Cargo.toml", ".h"];
+const READ: [&str; 12] = [
+    ".rt",
+    ".antt",
+    ".edit",
+    ".md",
+    ".rs",
+    "/stdout",
+    ".stdout",
+    "/Cargo.toml",
+    ".h",
+    ".script",
+    ".listing",
+    ".svg",
+];
 
 /// The files beside the folders that are read.
 const BESIDE: [&str; 1] = ["VERSION"];
@@ -22,7 +34,7 @@ impl Tree {
     pub fn of_this_repository() -> Tree {
         let root = Path::new(env!("CARGO_MANIFEST_DIR")).join("../..");
         let mut tree = Tree::default();
-        for folder in ["c", "crates", "docs", "rust"] {
+        for folder in ["c", "crates", "docs", "rust", "traces"] {
             tree.add(&root, folder);
         }
         for name in BESIDE {
