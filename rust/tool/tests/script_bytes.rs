@@ -146,7 +146,7 @@ fn written_scripts_give_no_warning() {
         reserves += String::from_utf8(script).unwrap().matches("ms\n").count();
     }
     assert!(reserves > 30, "{reserves}");
-    let folders = ["traces", "traces/orders"].map(|folder| root().join(folder));
+    let folders = ["traces", "traces/orders", "traces/rules"].map(|folder| root().join(folder));
     let entries = folders.iter().flat_map(|folder| fs::read_dir(folder).unwrap());
     for path in entries.map(|entry| entry.unwrap().path()) {
         if path.extension().is_some_and(|ending| ending == "script") {
