@@ -10,7 +10,7 @@
 //! - "- Definition: " with names and then their file, as on `docs/SENTENCES.md`;
 //! - "- Carried by: " with statements and promises, as there.
 //!
-//! A name between backquotes outside of these lines has any form of `names.rs`.
+//! A name between backquotes outside of the last three has any form of `names.rs`.
 
 use crate::list::quoted;
 use crate::names::Names;
@@ -34,19 +34,18 @@ pub fn rule_faults(tree: &Tree) -> Vec<String> {
         return vec![format!("There is no {RULES}.")];
     };
     let names = Names::of(tree);
-    let (prose, rules) = read_page(text);
+    let rules = read_rules(text);
     let mut found = Vec::new();
     for rule in &rules {
         let told = rule.faults(tree, &names);
         found.extend(told.iter().map(|fault| format!("{RULES}, \"{}\": {fault}", rule.title)));
     }
-    found.extend(
-        prose.iter().flat_map(|line| quoted(line)).filter(|name| !names.is_known(name)).map(
-            |name| {
-                format!("{RULES} names `{name}` outside of its rules, and there is no such thing.")
-            },
-        ),
-    );
+    let cites =
+        |line: &str| [SCRIPT, DEFINITION, CARRIED].iter().any(|part| line.starts_with(part));
+    let others = text.lines().filter(|line| !cites(line)).flat_map(quoted);
+    found.extend(others.filter(|name| !names.is_known(name)).map(|name| {
+        format!("{RULES} names `{name}` beside what its rules cite, and there is no such thing.")
+    }));
     found.extend(file_faults(tree, &rules));
     found
 }
@@ -57,9 +56,8 @@ struct Rule<'a> {
     lines: Vec<&'a str>,
 }
 
-/// The lines outside of rules, and the rules.
-fn read_page(text: &str) -> (Vec<&str>, Vec<Rule<'_>>) {
-    let (mut prose, mut rules) = (Vec::new(), Vec::<Rule>::new());
+fn read_rules(text: &str) -> Vec<Rule<'_>> {
+    let mut rules = Vec::<Rule>::new();
     let mut inside = false;
     for line in text.lines() {
         if let Some(title) = line.strip_prefix("### ") {
@@ -67,13 +65,11 @@ fn read_page(text: &str) -> (Vec<&str>, Vec<Rule<'_>>) {
             inside = true;
         } else if line.starts_with('#') {
             inside = false;
-        }
-        match rules.last_mut().filter(|_| inside) {
-            Some(rule) => rule.lines.push(line),
-            None => prose.push(line),
+        } else if let Some(rule) = rules.last_mut().filter(|_| inside) {
+            rule.lines.push(line);
         }
     }
-    (prose, rules)
+    rules
 }
 
 impl Rule<'_> {
@@ -121,7 +117,7 @@ impl Rule<'_> {
 
     /// The first paragraph is one sentence.
     fn sentence_fault(&self) -> Option<String> {
-        let lines = self.lines.iter().skip(1).skip_while(|line| line.is_empty());
+        let lines = self.lines.iter().skip_while(|line| line.is_empty());
         let words: Vec<&str> = lines.take_while(|line| !line.is_empty()).copied().collect();
         let sentence = words.join(" ");
         let is_one = sentence.ends_with('.') && !sentence.contains(". ");

@@ -78,11 +78,14 @@ fn names_that_are_not_there() {
     );
     let told = fault_after(RULES, "by: `lamp/AllLit`", "by: nobody");
     assert_eq!(told, "nothing is named that carries it.");
-    let told = fault_after(RULES, "See `lamp/AllLit`", "See `lamp/AllDark`");
-    assert_eq!(
-        told,
-        "docs/RULES.md names `lamp/AllDark` outside of its rules, and there is no such thing."
-    );
+    for (old, new) in
+        [("See `lamp/AllLit`", "See `lamp/AllDark`"), ("It is not dark.", "Not `lamp/AllDark`.")]
+    {
+        assert_eq!(
+            fault_after(RULES, old, new),
+            "docs/RULES.md names `lamp/AllDark` beside what its rules cite, and there is no such thing."
+        );
+    }
 }
 
 #[test]
