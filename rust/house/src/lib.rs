@@ -1,9 +1,11 @@
 //! Holds `docs/PROMISES.md` to the code and `docs/IMAGE.md` to its definition. [`faults`] and [`image_faults`] tell in sentences where they
 //! differ; a repository in order has none. [`unsealed`] tells of proofs that open the rules of a kind of part. [`statement_faults`] tells of
 //! statements that no record holds, or that `docs/STATEMENTS.md` does not list. [`sentence_faults`] tells of names in `docs/SENTENCES.md` that
-//! are not there, and [`rule_faults`] of such in `docs/RULES.md`. [`version_faults`] tells of places with another version than the file VERSION has.
+//! are not there, and [`rule_faults`] of such in `docs/RULES.md`. [`definition_faults`] tells of files of definitions that `docs/DEFINITIONS.md` does not have, in reading order and with their
+//! counts of lines. [`version_faults`] tells of places with another version than the file VERSION has.
 
 mod calls;
+mod definitions;
 mod edits;
 mod image;
 mod list;
@@ -16,6 +18,7 @@ mod statements;
 mod tree;
 mod version;
 
+pub use definitions::{counted, definition_faults, DEFINITIONS};
 pub use image::{image_faults, LAYOUT, PAGE};
 pub use rules::{rule_faults, RULES};
 pub use sealed::unsealed;

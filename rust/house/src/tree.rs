@@ -20,8 +20,17 @@ const READ: [&str; 12] = [
     ".svg",
 ];
 
-/// The files beside the folders that are read.
-const BESIDE: [&str; 1] = ["VERSION"];
+/// The files that are read beside these and beside the folders.
+const BESIDE: [&str; 8] = [
+    "VERSION",
+    "README.md",
+    "CONTRIBUTING.md",
+    "CHANGELOG.md",
+    "crates.txt",
+    "docs/pictures/house.svg",
+    "traces/README.md",
+    "releases/README.md",
+];
 
 /// Texts by their path from the repository's root.
 #[derive(Clone, Default)]
@@ -37,7 +46,7 @@ impl Tree {
         for folder in ["c", "crates", "docs", "rust", "traces"] {
             tree.add(&root, folder);
         }
-        for name in BESIDE {
+        for name in BESIDE.into_iter().filter(|name| root.join(name).is_file()) {
             tree.add_file(&root, name);
         }
         tree
