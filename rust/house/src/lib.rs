@@ -4,13 +4,18 @@
 //! are not there, and [`rule_faults`] of such in `docs/RULES.md`. [`definition_faults`] tells of files of definitions that `docs/DEFINITIONS.md` does not have, in reading order and with their
 //! counts of lines. [`version_faults`] tells of places with another version than the file VERSION has.
 
+mod arrows;
 mod calls;
 mod definitions;
 mod edits;
+mod flows;
+mod groups;
 mod image;
 mod list;
 mod names;
 mod rules;
+mod picture;
+mod plan;
 mod sealed;
 mod sentences;
 mod stated;
@@ -19,8 +24,10 @@ mod tree;
 mod version;
 
 pub use definitions::{counted, definition_faults, DEFINITIONS};
+pub use groups::CRATES;
 pub use image::{image_faults, LAYOUT, PAGE};
 pub use rules::{rule_faults, RULES};
+pub use picture::{house_picture, HOUSE};
 pub use sealed::unsealed;
 pub use sentences::{sentence_faults, SENTENCES};
 pub use statements::{statement_faults, STATEMENTS};

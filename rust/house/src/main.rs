@@ -1,6 +1,6 @@
-//! Writes again what the pages have by computation: the counts of lines in `docs/DEFINITIONS.md`.
+//! Writes again what the pages have by computation: the counts of lines in `docs/DEFINITIONS.md`, and the picture of the house.
 
-use house::{counted, Tree, DEFINITIONS};
+use house::{counted, house_picture, Tree, DEFINITIONS, HOUSE};
 use std::fs;
 use std::path::Path;
 use std::process::ExitCode;
@@ -8,7 +8,7 @@ use std::process::ExitCode;
 fn main() -> ExitCode {
     let tree = Tree::of_this_repository();
     let mut code = ExitCode::SUCCESS;
-    for (path, text) in [(DEFINITIONS, counted(&tree))] {
+    for (path, text) in [(DEFINITIONS, counted(&tree)), (HOUSE, house_picture(&tree))] {
         if let Err(said) = write(&tree, path, text) {
             eprintln!("{path}: {said}");
             code = ExitCode::FAILURE;
