@@ -3,6 +3,8 @@
 //! statements that no record holds, or that `docs/STATEMENTS.md` does not list. [`sentence_faults`] tells of names in `docs/SENTENCES.md` that
 //! are not there, and [`rule_faults`] of such in `docs/RULES.md`. [`definition_faults`] tells of files of definitions that `docs/DEFINITIONS.md` does not have, in reading order and with their
 //! counts of lines. [`version_faults`] tells of places with another version than the file VERSION has.
+//! are not there. [`definition_faults`] tells of files of definitions that `docs/DEFINITIONS.md` does not have, in reading order and with their
+//! counts of lines. [`map_faults`] tells what README's map lacks, and [`link_faults`] what pages name that is not there. [`version_faults`] tells of places with another version than the file VERSION has.
 
 mod arrows;
 mod calls;
@@ -11,7 +13,9 @@ mod edits;
 mod flows;
 mod groups;
 mod image;
+mod links;
 mod list;
+mod map;
 mod names;
 mod rules;
 mod picture;
@@ -27,6 +31,8 @@ pub use definitions::{counted, definition_faults, DEFINITIONS};
 pub use groups::CRATES;
 pub use image::{image_faults, LAYOUT, PAGE};
 pub use rules::{rule_faults, RULES};
+pub use links::link_faults;
+pub use map::{map_faults, CONTRIBUTING, INDEX, README};
 pub use picture::{house_picture, HOUSE};
 pub use sealed::unsealed;
 pub use sentences::{sentence_faults, SENTENCES};

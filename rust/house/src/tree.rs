@@ -1,6 +1,6 @@
 //! The files of a repository that the checks read.
 
-use std::collections::BTreeMap;
+use std::collections::{BTreeMap, BTreeSet};
 use std::fs;
 use std::path::Path;
 
@@ -20,22 +20,18 @@ const READ: [&str; 12] = [
     ".svg",
 ];
 
-/// The files that are read beside these and beside the folders.
-const BESIDE: [&str; 8] = [
-    "VERSION",
-    "README.md",
-    "CONTRIBUTING.md",
-    "CHANGELOG.md",
-    "crates.txt",
-    "docs/pictures/house.svg",
-    "traces/README.md",
-    "releases/README.md",
-];
+/// The files that are read beside these; pages are, wherever they stand.
+const BESIDE: [&str; 3] = ["VERSION", "crates.txt", "docs/pictures/house.svg"];
+const PAGE: &str = ".md";
 
-/// Texts by their path from the repository's root.
+/// The folders that git does not keep.
+const NOT_KEPT: [&str; 4] = [".git", "build", "target", "__pycache__"];
+
+/// Texts by their path from the repository's root, and the paths of all files, read or not.
 #[derive(Clone, Default)]
 pub struct Tree {
     files: BTreeMap<String, String>,
+    names: BTreeSet<String>,
 }
 
 impl Tree {
@@ -46,10 +42,24 @@ impl Tree {
         for folder in ["c", "crates", "docs", "rust", "traces"] {
             tree.add(&root, folder);
         }
-        for name in BESIDE.into_iter().filter(|name| root.join(name).is_file()) {
+        tree.add_names(&root, "");
+        let names: Vec<String> = tree.names.iter().cloned().collect();
+        for name in names.iter().filter(|name| name.ends_with(PAGE) || BESIDE.contains(&&***name)) {
             tree.add_file(&root, name);
         }
         tree
+    }
+
+    /// True if there is such a file or folder.
+    pub fn has(&self, path: &str) -> bool {
+        let inside = format!("{path}/");
+        let first = self.names.range(inside.clone()..).next();
+        self.names.contains(path) || first.is_some_and(|name| name.starts_with(&inside))
+    }
+
+    /// The paths of all files, read or not, in order.
+    pub fn names(&self) -> impl Iterator<Item = &str> {
+        self.names.iter().map(String::as_str)
     }
 
     /// The text of a file, if it is there.
@@ -68,6 +78,7 @@ impl Tree {
     /// Puts a file there, or another text in its place.
     pub fn put(&mut self, path: &str, text: &str) {
         self.files.insert(path.to_string(), text.to_string());
+        self.names.insert(path.to_string());
     }
 
     /// The same with another text in the place of one that the file has once.
@@ -81,6 +92,23 @@ impl Tree {
     /// Takes a file away.
     pub fn remove(&mut self, path: &str) {
         self.files.remove(path);
+        self.names.remove(path);
+    }
+
+    /// The paths of all files in a folder that git keeps.
+    fn add_names(&mut self, root: &Path, path: &str) {
+        let folder = root.join(path);
+        let entries = fs::read_dir(&folder)
+            .unwrap_or_else(|e| panic!("cannot read {}: {e}", folder.display()));
+        for entry in entries.flatten() {
+            let name = entry.file_name().to_string_lossy().into_owned();
+            let path = if path.is_empty() { name.clone() } else { format!("{path}/{name}") };
+            if !entry.path().is_dir() {
+                self.names.insert(path);
+            } else if !NOT_KEPT.contains(&&*name) {
+                self.add_names(root, &path);
+            }
+        }
     }
 
     fn add(&mut self, root: &Path, path: &str) {
