@@ -1,8 +1,8 @@
 //! The arrows in the picture of the house: up from floor to floor, and through doors between groups that stand on each other.
 
 use crate::flows::Flows;
-use crate::picture::text;
 use crate::plan::{Placed, EDGE, WIDTH};
+use crate::svg::text;
 
 /// The most letters that an arrow tells in names, up and through a door; of more it tells how many crates there are.
 const UP: usize = 30;

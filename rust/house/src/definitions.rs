@@ -8,7 +8,7 @@ use crate::tree::Tree;
 pub const DEFINITIONS: &str = "docs/DEFINITIONS.md";
 
 /// What writes the counts again.
-const MENDS: &str = "cargo run --release --offline --manifest-path rust/house/Cargo.toml";
+const MENDS: &str = "cargo run --release --offline --manifest-path rust/house/Cargo.toml --bin map";
 
 /// What a file can be of, beside a section of document 01 and a request.
 const OTHERS: [&str; 4] = ["01", "demand 3", "asked next", "the code"];

@@ -24,6 +24,7 @@ mod sealed;
 mod sentences;
 mod stated;
 mod statements;
+mod svg;
 mod tree;
 mod version;
 
@@ -38,7 +39,7 @@ pub use sealed::unsealed;
 pub use sentences::{sentence_faults, SENTENCES};
 pub use statements::{statement_faults, STATEMENTS};
 pub use tree::Tree;
-pub use version::{version_faults, DEFINITION, HEADER, VERSION};
+pub use version::{version_faults, DEFINITION, HEADER, PACKAGES, VERSION};
 
 use calls::{calls_of, Call};
 use edits::{edits_in, fault_of, GATE, TRIED};

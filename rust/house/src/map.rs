@@ -12,7 +12,7 @@ pub const CONTRIBUTING: &str = "CONTRIBUTING.md";
 pub const INDEX: &str = "docs/README.md";
 
 /// What draws the picture again.
-const DRAWS: &str = "cargo run --release --offline --manifest-path rust/house/Cargo.toml";
+const DRAWS: &str = "cargo run --release --offline --manifest-path rust/house/Cargo.toml --bin map";
 
 /// What is not on the map, or on it and not there, a sentence each.
 pub fn map_faults(tree: &Tree) -> Vec<String> {

@@ -5,6 +5,7 @@ use crate::arrows::arrows;
 use crate::flows::Flows;
 use crate::groups::{groups_of, CRATES};
 use crate::plan::{floors_of, lines_of, Placed, EDGE, LINE, WIDTH};
+use crate::svg::text;
 use crate::tree::Tree;
 
 /// Where the picture stands.
@@ -42,12 +43,6 @@ pub fn house_picture(tree: &Tree) -> Option<String> {
     svg += &arrows(&flows, &boxes);
     svg += &legend(height - LEGEND);
     Some(svg + "</svg>\n")
-}
-
-/// A line of text; `style` has its further attributes.
-pub fn text(x: f64, y: f64, style: &str, words: &str) -> String {
-    let words = words.replace('&', "&amp;").replace('<', "&lt;");
-    format!("<text x=\"{x:.0}\" y=\"{y:.0}\"{style}>{words}</text>\n")
 }
 
 fn roof(flows: &Flows) -> String {

@@ -20,9 +20,8 @@ const READ: [&str; 12] = [
     ".svg",
 ];
 
-/// The files that are read beside these; pages are, wherever they stand.
-const BESIDE: [&str; 3] = ["VERSION", "crates.txt", "docs/pictures/house.svg"];
-const PAGE: &str = ".md";
+/// The files beside the folders that are read.
+const BESIDE: [&str; 2] = ["VERSION", "crates.txt"];
 
 /// The folders that git does not keep.
 const NOT_KEPT: [&str; 4] = [".git", "build", "target", "__pycache__"];
@@ -42,11 +41,13 @@ impl Tree {
         for folder in ["c", "crates", "docs", "rust", "traces"] {
             tree.add(&root, folder);
         }
-        tree.add_names(&root, "");
-        let names: Vec<String> = tree.names.iter().cloned().collect();
-        for name in names.iter().filter(|name| name.ends_with(PAGE) || BESIDE.contains(&&***name)) {
+        for name in BESIDE {
             tree.add_file(&root, name);
         }
+        tree.add_names(&root, "");
+        let pages: Vec<String> =
+            tree.names.iter().filter(|name| name.ends_with(".md")).cloned().collect();
+        pages.iter().for_each(|page| tree.add_file(&root, page));
         tree
     }
 

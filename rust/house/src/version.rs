@@ -6,6 +6,7 @@ use crate::Tree;
 pub const VERSION: &str = "VERSION";
 pub const HEADER: &str = "c/gunwaleish.h";
 pub const DEFINITION: &str = "crates/gunwaleish/specs/Version.antt";
+pub const PACKAGES: &str = "docs/INSTALL.md";
 
 /// The three numbers by their names.
 const NAMES: [&str; 3] = ["major", "minor", "patch"];
@@ -34,7 +35,19 @@ pub fn version_faults(tree: &Tree) -> Vec<String> {
         found.extend(lacks(tree, HEADER, &macro_line));
         found.extend(lacks(tree, DEFINITION, &format!("{name} = {number}")));
     }
+    found.extend(page_fault(tree, version));
     found
+}
+
+/// The page of the packages has their names, and these the version; it names no other.
+fn page_fault(tree: &Tree, version: &str) -> Option<String> {
+    let words = tree.text(PACKAGES)?.split(|c: char| !c.is_ascii_digit() && c != '.');
+    let is_version = |word: &&str| word.split('.').filter(|part| !part.is_empty()).count() == 3;
+    let other = words
+        .map(|word| word.trim_matches('.'))
+        .filter(is_version)
+        .find(|word| *word != version)?;
+    Some(format!("{PACKAGES} names the version {other}, and {VERSION} has {version}."))
 }
 
 /// A number as it is written, up to 255: each has a byte in the packed number.

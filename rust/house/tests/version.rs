@@ -1,6 +1,6 @@
 //! The version stands in the file VERSION, and every other place agrees with it.
 
-use house::{version_faults, Tree, DEFINITION, HEADER, VERSION};
+use house::{version_faults, Tree, DEFINITION, HEADER, PACKAGES, VERSION};
 
 #[test]
 fn every_place_has_the_version() {
@@ -38,6 +38,14 @@ fn another_version_is_told() {
 }
 
 #[test]
+fn another_version_on_the_page_of_the_packages_is_told() {
+    let tree = Tree::of_this_repository();
+    for word in ["/dist-", "dpkg -i gunwaleish_", "tar -xzf gunwaleish-", "\ngunwaleish "] {
+        assert_eq!(told(&tree, PACKAGES, word, &format!("{word}9")), 1, "{word}");
+    }
+}
+
+#[test]
 fn a_file_that_is_no_version_is_told() {
     let mut tree = Tree::of_this_repository();
     for text in ["", "1.0", "1.0.0", "1.0.0.0\n", "1.0.256\n", "01.0.0\n", "1.0.x\n", "v1.0.0\n"] {
@@ -57,5 +65,6 @@ fn another_version_in_the_file_is_told_of_every_place() {
         .count();
     assert!(manifests >= 7, "{manifests}");
     tree.put(VERSION, "201.202.203\n");
-    assert_eq!(version_faults(&tree).len(), manifests + 6);
+    // Three of the header and three of the definition, and the page of the packages.
+    assert_eq!(version_faults(&tree).len(), manifests + 7);
 }
