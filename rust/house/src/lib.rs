@@ -1,10 +1,9 @@
 //! Holds `docs/PROMISES.md` to the code and `docs/IMAGE.md` to its definition. [`faults`] and [`image_faults`] tell in sentences where they
 //! differ; a repository in order has none. [`unsealed`] tells of proofs that open the rules of a kind of part. [`statement_faults`] tells of
 //! statements that no record holds, or that `docs/STATEMENTS.md` does not list. [`sentence_faults`] tells of names in `docs/SENTENCES.md` that
-//! are not there, and [`rule_faults`] of such in `docs/RULES.md`. [`definition_faults`] tells of files of definitions that `docs/DEFINITIONS.md` does not have, in reading order and with their
-//! counts of lines. [`version_faults`] tells of places with another version than the file VERSION has.
-//! are not there. [`definition_faults`] tells of files of definitions that `docs/DEFINITIONS.md` does not have, in reading order and with their
-//! counts of lines. [`map_faults`] tells what README's map lacks, and [`link_faults`] what pages name that is not there. [`version_faults`] tells of places with another version than the file VERSION has.
+//! are not there, and [`rule_faults`] of such in `docs/RULES.md`. [`definition_faults`] tells of files of definitions that
+//! `docs/DEFINITIONS.md` does not have, in reading order and with their counts of lines. [`map_faults`] tells what README's map lacks, and
+//! [`link_faults`] what pages name that is not there. [`version_faults`] tells of places with another version than the file VERSION has.
 
 mod arrows;
 mod calls;
@@ -17,9 +16,9 @@ mod links;
 mod list;
 mod map;
 mod names;
-mod rules;
 mod picture;
 mod plan;
+mod rules;
 mod sealed;
 mod sentences;
 mod stated;
@@ -31,10 +30,10 @@ mod version;
 pub use definitions::{counted, definition_faults, DEFINITIONS};
 pub use groups::CRATES;
 pub use image::{image_faults, LAYOUT, PAGE};
-pub use rules::{rule_faults, RULES};
 pub use links::link_faults;
 pub use map::{map_faults, CONTRIBUTING, INDEX, README};
 pub use picture::{house_picture, HOUSE};
+pub use rules::{rule_faults, RULES};
 pub use sealed::unsealed;
 pub use sentences::{sentence_faults, SENTENCES};
 pub use statements::{statement_faults, STATEMENTS};
