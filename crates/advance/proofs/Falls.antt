@@ -23,7 +23,7 @@ use Rattle.arbiter.specs.declared.Clock.the-variants.{NoClock}
 use Rattle.arbiter.proofs.Choice.{split, if-true, if-false}
 use Rattle.arbiter.proofs.Settled.{Still}
 use Rattle.arbitration.specs.Quiet.{noLoss, noCut}
-use Rattle.connection.specs.Quiet.{isApart}
+use Rattle.fields.specs.Apart.{isApart}
 use Rattle.step.specs.Carried.{partsThreeToSeven, isQuiet}
 use Rattle.step.proofs.Quiet.{quiet-law}
 use Rattle.quiet.specs.Counts.{withCounts}

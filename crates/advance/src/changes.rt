@@ -1,9 +1,8 @@
 // Two devices compared in everything but counts, and in what the counts show.
 ghost use mathlib.Core.Path.{_≡_};
-ghost use Rattle.arbiter.specs.Registers.{registerNumber};
 ghost use Rattle.arbiter.specs.Steps.{groundNumber};
 ghost use Rattle.arbiter.specs.declared.Last.the-variants.{Never, Was};
-ghost use Rattle.arbiter.specs.declared.Switch.the-variants.{Apart, Initialising, Closed};
+ghost use Rattle.arbiter.specs.declared.Switch.the-variants.{Initialising};
 ghost use Rattle.arbiter.specs.declared.Turn.the-variants.{Nobody, Claims, Owns};
 ghost use Rattle.advance.specs.Changes.{agree, samePort, sameRegister, sameGround, sameTurn, sameLast, sameSwitch, sameControl, sameMail, sameSide, sameLines, sameArb, sameKind, sameButCounts, sameShown, changes};
 use arbiter::Arbitration;
@@ -23,9 +22,12 @@ use arbiter::Turn;
 use bus::bus_hung;
 use bus::scl_high;
 use bus::sda_high;
+use fields::closed_for;
+use fields::is_apart;
 use fields::last_of;
 use fields::pointer_of;
 use fields::port_of;
+use fields::register_number;
 use fields::same_master;
 use fields::switch_of;
 use fields::turn_of;
@@ -45,21 +47,6 @@ fn same_port(p: Port, q: Port) -> bool
     ensures { λ r. ⌜ r ≡ samePort p q ⌝ }
 {
     agrees(is_at_rest(p), is_at_rest(q)) & agrees(is_for_writing(p), is_for_writing(q))
-}
-
-fn register_number(r: Register) -> u8
-    ensures { λ n. ⌜ n ≡ registerNumber r ⌝ }
-{
-    match r {
-        Register::Id => 0,
-        Register::Contr => 1,
-        Register::Status => 2,
-        Register::Rt => 3,
-        Register::IntStatus => 4,
-        Register::IntMask => 5,
-        Register::MailLow => 6,
-        Register::MailHigh => 7,
-    }
 }
 
 fn same_register(r: Register, s: Register) -> bool
@@ -151,16 +138,6 @@ fn same_last(l: Last, n: Last) -> bool
     }
 }
 
-fn is_apart(w: Switch) -> bool
-    ensures { λ r. ⌜ r ≡ sameSwitch Apart w ⌝ }
-{
-    match w {
-        Switch::Apart => true,
-        Switch::Initialising(_, _) => false,
-        Switch::Closed(_) => false,
-    }
-}
-
 fn is_initialising(m: Master, n: u8, w: Switch) -> bool
     ensures { λ r. ⌜ r ≡ sameSwitch (Initialising m n) w ⌝ }
 {
@@ -171,23 +148,13 @@ fn is_initialising(m: Master, n: u8, w: Switch) -> bool
     }
 }
 
-fn is_closed(m: Master, w: Switch) -> bool
-    ensures { λ r. ⌜ r ≡ sameSwitch (Closed m) w ⌝ }
-{
-    match w {
-        Switch::Apart => false,
-        Switch::Initialising(_, _) => false,
-        Switch::Closed(k) => same_master(m, k),
-    }
-}
-
 fn same_switch(v: Switch, w: Switch) -> bool
     ensures { λ r. ⌜ r ≡ sameSwitch v w ⌝ }
 {
     match v {
         Switch::Apart => is_apart(w),
         Switch::Initialising(m, n) => is_initialising(m, n, w),
-        Switch::Closed(m) => is_closed(m, w),
+        Switch::Closed(m) => closed_for(m, w),
     }
 }
 

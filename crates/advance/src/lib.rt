@@ -1,14 +1,14 @@
 // An advance by many ticks at once (request #113): quiet ticks are jumped over, and the others are taken one by one and compared.
 ghost use Prim.Native.Nat.{_+_, _≤_, _<_};
 ghost use mathlib.Core.Path.{_≡_};
-ghost use Rattle.arbiter.specs.Words.{worth};
-ghost use Rattle.quiet.specs.Counts.{least};
 ghost use Rattle.quiet.specs.Quiet.{tick, ticks};
 ghost use Rattle.arbiter.specs.Steps.{step};
 ghost use Rattle.advance.specs.Changes.{changes};
 ghost use Rattle.advance.specs.Advance.{changing, mostTicks, advancedWith, advanced, wayWith, tickOn, jumpOn, onward};
 use arbiter::Device;
 use arbiter::Raw;
+use bits::least_u16;
+use bits::one_if_u32;
 use changes::is_changed;
 use quiet::after_ticks;
 use quiet::quiet_ticks;
@@ -55,12 +55,6 @@ fn way_with(device: Device, left: u16, reported: u32) -> Way
 
 // ---- on the way
 
-fn least_of(x: u16, y: u16) -> u16
-    ensures { λ r. ⌜ r ≡ least x y ⌝ }
-{
-    if x < y { x } else { y }
-}
-
 fn ticked_once(d: Device) -> Device
     ensures { λ r. ⌜ r ≡ step d tick .device ⌝ }
 {
@@ -77,19 +71,13 @@ fn ticked_once(d: Device) -> Device
     device
 }
 
-fn one_if(changed: bool) -> u32
-    ensures { λ r. ⌜ (r ≡ worth 1 changed) × (r ≤ 1) ⌝ }
-{
-    if changed { 1 } else { 0 }
-}
-
 // One tick, taken and compared.
 fn tick_on(w: Way) -> Way
     requires { ⌜ (0 < w .left) × (w .reported + w .left ≤ mostTicks) ⌝ }
     ensures { λ r. ⌜ r ≡ tickOn w ⌝ }
 {
     let next = ticked_once(w.device);
-    let one = one_if(is_changed(w.device, next));
+    let one = one_if_u32(is_changed(w.device, next));
     way_with(next, w.left - 1, w.reported + one)
 }
 
@@ -105,7 +93,7 @@ fn go_on(w: Way) -> Way
     requires { ⌜ (0 < w .left) × (w .reported + w .left ≤ mostTicks) ⌝ }
     ensures { λ r. ⌜ r ≡ onward w ⌝ }
 {
-    let j = least_of(quiet_ticks(w.device), w.left);
+    let j = least_u16(quiet_ticks(w.device), w.left);
     if j == 0 { tick_on(w) } else { jump_on(j, w) }
 }
 

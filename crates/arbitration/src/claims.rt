@@ -3,7 +3,6 @@ ghost use Prim.Native.Nat.{_≤_};
 ghost use mathlib.Core.Path.{_≡_};
 ghost use Rattle.arbiter.specs.Words.{if_then_else_, side};
 ghost use Rattle.arbiter.specs.Parts.{withInts};
-ghost use Rattle.arbiter.specs.State.{claimsTurn};
 ghost use Rattle.arbiter.specs.Registers.{grantedInt, raised};
 ghost use Rattle.arbiter.specs.Order.{column, winner, groundOf, claimBy, newClaim, claimAfter, claim, grantedArb, grant};
 ghost use Rattle.arbitration.specs.Cleared.{groundIn};
@@ -21,12 +20,12 @@ use bits::pick_u8;
 use bits::worth_of;
 use bus::idle_kept;
 use fields::arb_with;
+use fields::claims_turn;
 use fields::device_with;
 use fields::last_of;
 use fields::pick_turn;
 use fields::pointer_of;
 use fields::port_of;
-use fields::same_master;
 use fields::side_with;
 use fields::switch_of;
 use fields::turn_of;
@@ -154,16 +153,6 @@ pub fn no_claim(t: Turn, d: Device) -> bool
 }
 
 // ---- 6. grant
-
-fn claims_turn(m: Master, t: Turn) -> bool
-    ensures { λ r. ⌜ r ≡ claimsTurn m t ⌝ }
-{
-    match t {
-        Turn::Nobody => false,
-        Turn::Claims(k, _) => same_master(m, k),
-        Turn::Owns(_, _) => false,
-    }
-}
 
 fn pick_last(test: bool, x: Last, y: Last) -> Last
     ensures { λ r. ⌜ r ≡ (if test then x else y) ⌝ }

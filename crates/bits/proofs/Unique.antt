@@ -10,6 +10,12 @@ use Rattle.bits.proofs.byte_of.Reads as byte-of
 use Rattle.bits.proofs.less_one.Reads as less-one
 use Rattle.bits.proofs.counted_u8.Reads as counted-u8
 use Rattle.bits.proofs.counted_u16.Reads as counted-u16
+use Rattle.bits.proofs.one_if_u32.Reads as one-if-u32
+use Rattle.bits.proofs.one_if_u64.Reads as one-if-u64
+use Rattle.bits.proofs.least_u16.Reads as least-u16
+use Rattle.bits.proofs.least_usize.Reads as least-usize
+use Rattle.bits.proofs.wide_u16.Reads as wide-u16
+use Rattle.bits.proofs.wide_u32.Reads as wide-u32
 
 pub pick-bool-once : OneResult pick-bool.Post
 pick-bool-once κ a x y s t p q = once p q
@@ -37,3 +43,21 @@ counted-u8-once κ a x y s t p q = once p q
 
 pub counted-u16-once : OneResult counted-u16.Post
 counted-u16-once κ a x y s t p q = once p q
+
+pub one-if-u32-once : OneResult one-if-u32.Post
+one-if-u32-once κ a x y s t p q = once (p .0) (q .0)
+
+pub one-if-u64-once : OneResult one-if-u64.Post
+one-if-u64-once κ a x y s t p q = once p q
+
+pub least-u16-once : OneResult least-u16.Post
+least-u16-once κ a x y s t p q = once p q
+
+pub least-usize-once : OneResult least-usize.Post
+least-usize-once κ a x y s t p q = once p q
+
+pub wide-u16-once : OneResult wide-u16.Post
+wide-u16-once κ a x y s t p q = once (p .0) (q .0)
+
+pub wide-u32-once : OneResult wide-u32.Post
+wide-u32-once κ a x y s t p q = once (p .0) (q .0)

@@ -1,6 +1,7 @@
-// Choices by a test without a branch over structs, and a byte and its bits.
-ghost use Prim.Native.Nat.{_-_, _≤_};
+// Choices by a test without a branch over structs, a byte and its bits, and numbers: counts, the smaller of two, a byte in a wider type.
+ghost use Prim.Native.Nat.{_-_, _≤_, _<_};
 ghost use mathlib.Core.Path.{_≡_};
+ghost use lib.Dec.{ltb};
 ghost use Rattle.arbiter.specs.Words.{if_then_else_, bit, worth, byteOf};
 ghost use Rattle.arbiter.specs.Effects.{countedTo};
 
@@ -78,4 +79,45 @@ pub fn counted_u16(top: u16, up: bool, n: u16) -> u16
     } else {
         n
     }
+}
+
+// 1 for a test that holds, to be added to a count.
+pub fn one_if_u32(test: bool) -> u32
+    ensures { λ r. ⌜ (r ≡ worth 1 test) × (r ≤ 1) ⌝ }
+{
+    if test { 1 } else { 0 }
+}
+
+pub fn one_if_u64(test: bool) -> u64
+    ensures { λ r. ⌜ r ≡ worth 1 test ⌝ }
+{
+    if test { 1 } else { 0 }
+}
+
+// ---- the smaller of two
+
+pub fn least_u16(x: u16, y: u16) -> u16
+    ensures { λ r. ⌜ r ≡ (if ltb x y then x else y) ⌝ }
+{
+    if x < y { x } else { y }
+}
+
+pub fn least_usize(x: usize, y: usize) -> usize
+    ensures { λ r. ⌜ r ≡ (if ltb x y then x else y) ⌝ }
+{
+    if x < y { x } else { y }
+}
+
+// ---- a byte in a wider type
+
+pub fn wide_u16(x: u8) -> u16
+    ensures { λ r. ⌜ (r ≡ x) × (r < 256) ⌝ }
+{
+    x as u16
+}
+
+pub fn wide_u32(x: u8) -> u32
+    ensures { λ r. ⌜ (r ≡ x) × (r < 256) ⌝ }
+{
+    x as u32
 }

@@ -1,4 +1,4 @@
--- The small value that says what becomes of the switch, put into the device, is part 7.
+-- Laws of `connection`: the small value that says what becomes of the switch, put into the device, is part 7.
 -- Assumes nothing.
 use mathlib.Core.Path.{_≡_, refl, sym, ap, _∙_}
 use mathlib.Core.Bool.{Bool, true, false, _&&_}

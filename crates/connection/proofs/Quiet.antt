@@ -1,4 +1,5 @@
--- Where its test says that part 7 has nothing to do, it changes nothing: true of every device value, at an event that is no clock.
+-- Quiet of `connection`: where its test says that part 7 has nothing to do, it changes nothing: true of every device value, at an event that is
+-- no clock.
 -- Assumes nothing.
 use mathlib.Core.Path.{_≡_, refl, sym, ap}
 use mathlib.Core.Bool.{Bool, true, false, false≢true}
@@ -12,7 +13,8 @@ use Rattle.arbiter.specs.declared.Switch.the-variants.{Apart, Initialising, Clo
 use Rattle.arbiter.specs.declared.Clock.the-variants.{NoClock}
 use Rattle.arbiter.specs.declared.Device.{Device}
 use Rattle.arbiter.proofs.Choice.{if-true}
-use Rattle.connection.specs.Quiet.{isApart, linked, switchStays}
+use Rattle.fields.specs.Apart.{isApart}
+use Rattle.connection.specs.Quiet.{linked, switchStays}
 
 switched-same : (w : Switch) (d : Device) → w ≡ d .arb .switch → switched w d ≡ d
 switched-same w d e = ap (λ (x : Switch). switched x d) e

@@ -1,6 +1,6 @@
--- When part 7 has nothing to do, by the turn, at an event that is no clock.
+-- Quiet of `connection`: when part 7 has nothing to do, by the turn, at an event that is no clock.
 -- Assumes nothing.
-use mathlib.Core.Bool.{Bool, true, false, not, _&&_}
+use mathlib.Core.Bool.{Bool, not, _&&_}
 use Rattle.arbiter.specs.Words.{sameMaster, side}
 use Rattle.arbiter.specs.declared.Master.{Master}
 use Rattle.arbiter.specs.declared.Turn.{Turn}
@@ -8,11 +8,7 @@ use Rattle.arbiter.specs.declared.Turn.the-variants.{Nobody, Claims, Owns}
 use Rattle.arbiter.specs.declared.Switch.{Switch}
 use Rattle.arbiter.specs.declared.Switch.the-variants.{Apart, Initialising, Closed}
 use Rattle.arbiter.specs.declared.Device.{Device}
-
-abbrev pub isApart : Switch → Bool
-isApart Apart = true
-isApart (Initialising m n) = false
-isApart (Closed m) = false
+use Rattle.fields.specs.Apart.{isApart}
 
 -- the switch is as m's grant and BUS_CONNECT have it
 abbrev pub linked : Master → Bool → Switch → Bool

@@ -3,7 +3,7 @@ ghost use mathlib.Core.Path.{_≡_};
 ghost use Rattle.arbiter.specs.Parts.{withContr};
 ghost use Rattle.arbiter.specs.State.{isInitialising};
 ghost use Rattle.arbiter.specs.Order.{connect};
-ghost use Rattle.connection.specs.Quiet.{isApart, linked, switchStays};
+ghost use Rattle.connection.specs.Quiet.{linked, switchStays};
 ghost use Rattle.connection.specs.Links.{still, joining, clocking, linking, linkOf, contrEnded, arbLinked};
 use arbiter::Arbitration;
 use arbiter::Clock;
@@ -15,6 +15,7 @@ use arbiter::Switch;
 use arbiter::Turn;
 use fields::arb_with;
 use fields::device_with;
+use fields::is_apart;
 use fields::last_of;
 use fields::owns_turn;
 use fields::pointer_of;
@@ -200,16 +201,6 @@ pub fn connect_of(c: Clock, d: Device) -> Device
 }
 
 // ---- when part 7 has nothing to do
-
-fn is_apart(w: Switch) -> bool
-    ensures { λ r. ⌜ r ≡ isApart w ⌝ }
-{
-    match w {
-        Switch::Apart => true,
-        Switch::Initialising(_, _) => false,
-        Switch::Closed(_) => false,
-    }
-}
 
 // The switch is as m's grant and its BUS_CONNECT have it.
 fn is_linked(m: Master, busconnect: bool, w: Switch) -> bool

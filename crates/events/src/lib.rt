@@ -1,21 +1,15 @@
 // Four bytes as an event, and what the parts of a step ask of one.
 ghost use mathlib.Core.Path.{_≡_};
 ghost use Rattle.arbiter.specs.Words.{if_then_else_};
-ghost use Rattle.arbiter.specs.Events.{master, fitting, decode, decodedNumber, rawNumber, outcomeNumber};
+ghost use Rattle.arbiter.specs.Events.{fitting, decode, decodedNumber, rawNumber, outcomeNumber};
 ghost use Rattle.arbiter.specs.Order.{isTick, clockOf};
 ghost use Rattle.arbiter.specs.declared.Outcome.the-variants.{Done, NotAcknowledged};
 use arbiter::Clock;
 use arbiter::Decoded;
 use arbiter::Event;
-use arbiter::Master;
 use arbiter::Outcome;
 use arbiter::Raw;
-
-fn master_of(x: u8) -> Master
-    ensures { λ r. ⌜ r ≡ master x ⌝ }
-{
-    if x == 0 { Master::Zero } else { Master::One }
-}
+use fields::master_of;
 
 // The event if its fields fit, else refusal 3.
 fn fitting_if(ok: bool, e: Event) -> Decoded

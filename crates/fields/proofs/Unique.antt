@@ -16,6 +16,14 @@ use Rattle.fields.proofs.idle_limit.Reads as idle-limit
 use Rattle.fields.proofs.rolls_over.Reads as rolls-over
 use Rattle.fields.proofs.same_master.Reads as same-master
 use Rattle.fields.proofs.owns_turn.Reads as owns-turn
+use Rattle.fields.proofs.is_connect.Reads as is-connect
+use Rattle.fields.proofs.limit_of.Reads as limit-of
+use Rattle.fields.proofs.claims_turn.Reads as claims-turn
+use Rattle.fields.proofs.closed_for.Reads as closed-for
+use Rattle.fields.proofs.is_apart.Reads as is-apart
+use Rattle.fields.proofs.master_of.Reads as master-of
+use Rattle.fields.proofs.register_number.Reads as register-number
+use Rattle.fields.proofs.register_at.Reads as register-at
 
 pub pointer-of-once : OneResult pointer-of.Post
 pointer-of-once κ a x y s t p q = once p q
@@ -61,3 +69,27 @@ same-master-once κ a x y s t p q = once p q
 
 pub owns-turn-once : OneResult owns-turn.Post
 owns-turn-once κ a x y s t p q = once p q
+
+pub is-connect-once : OneResult is-connect.Post
+is-connect-once κ a x y s t p q = once p q
+
+pub limit-of-once : OneResult limit-of.Post
+limit-of-once κ a x y s t p q = once p q
+
+pub claims-turn-once : OneResult claims-turn.Post
+claims-turn-once κ a x y s t p q = once p q
+
+pub closed-for-once : OneResult closed-for.Post
+closed-for-once κ a x y s t p q = once p q
+
+pub is-apart-once : OneResult is-apart.Post
+is-apart-once κ a x y s t p q = once p q
+
+pub master-of-once : OneResult master-of.Post
+master-of-once κ a x y s t p q = once p q
+
+pub register-number-once : OneResult register-number.Post
+register-number-once κ a x y s t p q = once p q
+
+pub register-at-once : OneResult register-at.Post
+register-at-once κ a x y s t p q = once p q

@@ -1,12 +1,17 @@
-// The fields of a device: taken out, put together, one replaced; and what belongs to one of the two masters.
+// The fields of a device: taken out, put together, one replaced; what belongs to one of the two masters; and the numbers of masters and
+// registers.
 //
 // Structs are passed on as they stand and built by one call, never through a local copy: the step runs half as fast otherwise, since
 // the compiler then packs neighbouring fields into one word and takes them apart again at every step.
 ghost use mathlib.Core.Path.{_≡_};
-ghost use Rattle.arbiter.specs.Rules.{idleLimit, rolls};
+ghost use Rattle.arbiter.specs.Rules.{limitOf, idleLimit, rolls};
 ghost use Rattle.arbiter.specs.Words.{if_then_else_, sameMaster};
-ghost use Rattle.arbiter.specs.State.{ownsTurn};
+ghost use Rattle.arbiter.specs.State.{ownsTurn, claimsTurn, closedFor};
 ghost use Rattle.arbiter.specs.Parts.{withTurn};
+ghost use Rattle.arbiter.specs.Events.{master};
+ghost use Rattle.arbiter.specs.Effects.{registerAt};
+ghost use Rattle.arbiter.specs.Registers.{registerNumber};
+ghost use Rattle.fields.specs.Apart.{isApart};
 ghost use Rattle.fields.specs.Whole.{sideWith, arbWith, deviceWith};
 use arbiter::Arbitration;
 use arbiter::Bus;
@@ -59,6 +64,12 @@ pub fn switch_of(a: Arbitration) -> Switch
 {
     let w = a.switch;
     w
+}
+
+pub fn is_connect(c: Control) -> bool
+    ensures { λ r. ⌜ r ≡ c .busconnect ⌝ }
+{
+    c.busconnect
 }
 
 // ---- put together
@@ -137,14 +148,20 @@ pub fn pick_register(test: bool, x: Register, y: Register) -> Register
 
 // ---- the rules of a device's kind
 
+pub fn limit_of(k: Kind) -> u8
+    ensures { λ r. ⌜ r ≡ limitOf k ⌝ }
+{
+    match k {
+        Kind::Pca9641 => PCA9641_IDLE_LIMIT,
+        Kind::Tpt29641 => TPT29641_IDLE_LIMIT,
+    }
+}
+
 pub fn idle_limit(d: Device) -> u8
     ensures { λ r. ⌜ r ≡ idleLimit d ⌝ }
 {
     let kind = d.kind;
-    match kind {
-        Kind::Pca9641 => PCA9641_IDLE_LIMIT,
-        Kind::Tpt29641 => TPT29641_IDLE_LIMIT,
-    }
+    limit_of(kind)
 }
 
 // The pointer of a WRITE rolls from 7 to 0.
@@ -195,5 +212,78 @@ pub fn owns_turn(m: Master, t: Turn) -> bool
         Turn::Nobody => false,
         Turn::Claims(_, _) => false,
         Turn::Owns(k, _) => same_master(m, k),
+    }
+}
+
+// m claims, and is not granted yet.
+pub fn claims_turn(m: Master, t: Turn) -> bool
+    ensures { λ r. ⌜ r ≡ claimsTurn m t ⌝ }
+{
+    match t {
+        Turn::Nobody => false,
+        Turn::Claims(k, _) => same_master(m, k),
+        Turn::Owns(_, _) => false,
+    }
+}
+
+// m is connected: the switch is closed for it.
+pub fn closed_for(m: Master, w: Switch) -> bool
+    ensures { λ r. ⌜ r ≡ closedFor m w ⌝ }
+{
+    match w {
+        Switch::Apart => false,
+        Switch::Initialising(_, _) => false,
+        Switch::Closed(k) => same_master(m, k),
+    }
+}
+
+// The switch is open, and no initialisation is under way.
+pub fn is_apart(w: Switch) -> bool
+    ensures { λ r. ⌜ r ≡ isApart w ⌝ }
+{
+    match w {
+        Switch::Apart => true,
+        Switch::Initialising(_, _) => false,
+        Switch::Closed(_) => false,
+    }
+}
+
+// ---- by their numbers
+
+// The master of an event's byte, which is 0 or 1.
+pub fn master_of(x: u8) -> Master
+    ensures { λ r. ⌜ r ≡ master x ⌝ }
+{
+    if x == 0 { Master::Zero } else { Master::One }
+}
+
+pub fn register_number(r: Register) -> u8
+    ensures { λ n. ⌜ n ≡ registerNumber r ⌝ }
+{
+    match r {
+        Register::Id => 0,
+        Register::Contr => 1,
+        Register::Status => 2,
+        Register::Rt => 3,
+        Register::IntStatus => 4,
+        Register::IntMask => 5,
+        Register::MailLow => 6,
+        Register::MailHigh => 7,
+    }
+}
+
+// The register of a number from 0 to 7.
+pub fn register_at(n: u8) -> Register
+    ensures { λ r. ⌜ r ≡ registerAt n ⌝ }
+{
+    match n {
+        0 => Register::Id,
+        1 => Register::Contr,
+        2 => Register::Status,
+        3 => Register::Rt,
+        4 => Register::IntStatus,
+        5 => Register::IntMask,
+        6 => Register::MailLow,
+        _ => Register::MailHigh,
     }
 }

@@ -22,6 +22,9 @@ use Rattle.format.proofs.kind_of.Reads as kind-of
 use Rattle.format.proofs.kind_number.Reads as kind-number
 use Rattle.format.proofs.put_kind.Reads as put-kind
 use Rattle.format.proofs.put_answer.Reads as put-answer
+use Rattle.format.proofs.byte_at.Reads as byte-at
+use Rattle.format.proofs.kind_byte.Reads as kind-byte
+use Rattle.format.proofs.refusal_number.Reads as refusal-number
 
 pub events-end-once : OneResult events-end.Post
 events-end-once κ a x y s t p q = once p q
@@ -68,3 +71,12 @@ put-kind-once κ a x y s t p q = (refl, once p q)
 
 pub put-answer-once : OneLeft (λ κ s. now (s .0)) put-answer.Post
 put-answer-once κ a x y s t p q = (refl, once p q)
+
+pub byte-at-once : OneResult byte-at.Post
+byte-at-once κ a x y s t p q = once p q
+
+pub kind-byte-once : OneResult kind-byte.Post
+kind-byte-once κ a x y s t p q = once p q
+
+pub refusal-number-once : OneResult refusal-number.Post
+refusal-number-once κ a x y s t p q = once p q

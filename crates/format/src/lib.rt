@@ -1,16 +1,19 @@
 // The format of a trace: its sections, where each begins and how long it is. Whoever reads, runs, lists or writes a trace has these from
-// here. A trace is a count byte and the four pins, a two-byte count of events, then the events, four bytes each, and last a count byte and
-// the kind of part.
-ghost use Prim.Native.Nat.{_+_, _<_, _≤_};
+// here, and the number of a refusal. A trace is a count byte and the four pins, a two-byte count of events, then the events, four bytes each,
+// and last a count byte and the kind of part.
+ghost use Prim.Native.Nat.{_+_, _≤_};
 ghost use mathlib.Core.Path.{_≡_};
 ghost use lib.ListN.{length};
 ghost use lib.Seq.{paste};
-ghost use Rattle.arbiter.specs.Traces.{byteAt, pinsIn, countIn, eventsEnd, wholeBytes, kindNumber, isKind, kindOf, kindAt};
+ghost use Rattle.arbiter.specs.Traces.{byteAt, pinsIn, countIn, eventsEnd, wholeBytes, kindNumber, isKind, kindOf, kindAt, refusalNumber};
 ghost use Rattle.format.specs.Places.{withHead, withBytes, eventsPart, eventAt, withKind, withAnswer};
 use arbiter::Answer;
+use arbiter::Device;
 use arbiter::Kind;
 use arbiter::Pins;
 use arbiter::Raw;
+use arbiter::Refusal;
+use bits::wide_u16;
 
 // ---- sizes
 
@@ -54,34 +57,28 @@ pub fn whole_bytes(n: u16) -> usize
 
 // ---- the head
 
-// A byte of a trace, and 0 past the end: whoever asks for pins, count or kind has seen that the trace is long enough.
-fn byte_at(t: &[u8], i: usize) -> u8
-    ensures { λ r. ⌜ r ≡ byteAt i (now (t .entry)) ⌝ }
+// A byte of a buffer, and 0 past its end: whoever asks for a part of a trace or an image has seen that the buffer is long enough.
+pub fn byte_at(at: usize, b: &[u8]) -> u8
+    ensures { λ r. ⌜ r ≡ byteAt at (now (b .entry)) ⌝ }
 {
-    if i < t.len() { t[i] } else { 0 }
+    if at < b.len() { b[at] } else { 0 }
 }
 
 pub fn pins_in(t: &[u8]) -> Pins
     ensures { λ r. ⌜ r ≡ pinsIn (now (t .entry)) ⌝ }
 {
     Pins {
-        ad3: byte_at(t, 1),
-        ad2: byte_at(t, 2),
-        ad1: byte_at(t, 3),
-        ad0: byte_at(t, 4),
+        ad3: byte_at(1, t),
+        ad2: byte_at(2, t),
+        ad1: byte_at(3, t),
+        ad0: byte_at(4, t),
     }
-}
-
-fn wide(x: u8) -> u16
-    ensures { λ r. ⌜ (r ≡ x) × (r < 256) ⌝ }
-{
-    x as u16
 }
 
 pub fn count_in(t: &[u8]) -> u16
     ensures { λ r. ⌜ r ≡ countIn (now (t .entry)) ⌝ }
 {
-    wide(byte_at(t, 5)) + 256 * wide(byte_at(t, 6))
+    wide_u16(byte_at(5, t)) + 256 * wide_u16(byte_at(6, t))
 }
 
 // The head of a trace of n events, in a buffer that has room for it.
@@ -164,13 +161,13 @@ pub fn event_at(events: &[u8], i: usize) -> Raw
 pub fn kind_count_at(t: &[u8], n: u16) -> u8
     ensures { λ r. ⌜ r ≡ byteAt (eventsEnd n) (now (t .entry)) ⌝ }
 {
-    byte_at(t, events_end(n))
+    byte_at(events_end(n), t)
 }
 
 pub fn kind_at(t: &[u8], n: u16) -> u8
     ensures { λ r. ⌜ r ≡ kindAt n (now (t .entry)) ⌝ }
 {
-    byte_at(t, events_end(n) + 1)
+    byte_at(events_end(n) + 1, t)
 }
 
 // A byte names a kind of part, and which.
@@ -199,6 +196,13 @@ pub fn kind_number(k: Kind) -> u8
     }
 }
 
+pub fn kind_byte(d: Device) -> u8
+    ensures { λ r. ⌜ r ≡ kindNumber (d .kind) ⌝ }
+{
+    let kind = d.kind;
+    kind_number(kind)
+}
+
 // The count byte and the kind after n events, in a buffer that has room for the whole trace.
 pub fn put_kind(out: &mut [u8], n: u16, k: Kind)
     ensures { λ _. ⌜ now (out .exit) ≡ withKind (now (out .entry)) n k ⌝ }
@@ -222,5 +226,21 @@ pub fn put_answer(answers: &mut [u8], i: usize, a: Answer)
         answers[at + 1] = a.read;
         answers[at + 2] = a.owner;
         answers[at + 3] = a.lines;
+    }
+}
+
+// ---- a refusal
+
+pub fn refusal_number(r: Refusal) -> u8
+    ensures { λ n. ⌜ n ≡ refusalNumber r ⌝ }
+{
+    match r {
+        Refusal::TraceCut => 5,
+        Refusal::TooManyEvents => 6,
+        Refusal::BytesAfterEnd => 7,
+        Refusal::BadStraps => 8,
+        Refusal::NoRoom => 9,
+        Refusal::BadCount => 10,
+        Refusal::UnknownPart => 3,
     }
 }

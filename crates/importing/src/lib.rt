@@ -7,7 +7,6 @@ ghost use mathlib.Core.List.{[], _∷_};
 ghost use lib.ListN.{length};
 ghost use lib.Seq.{sets};
 ghost use Rattle.arbiter.specs.Marks.{raw};
-ghost use Rattle.arbiter.specs.Straps.{inRange};
 ghost use Rattle.capture.specs.Answers.{mostGiven};
 ghost use Rattle.capture.specs.OneBus.{isCut};
 ghost use Rattle.capture.specs.Events.{fromOne, besideWrite, together, masterByte, rawOf, fourBytes, eventBytes, captured};
@@ -25,6 +24,7 @@ use capture::Given;
 use capture::Imported;
 use capture::Listener;
 use hearing::hear_sample;
+use straps::in_range;
 
 // What a walk through the samples finds: both buses at the end, and how many bytes the events take.
 pub struct Walked {
@@ -206,12 +206,6 @@ fn walk(samples: &[u8], address: u8, out: &mut [u8]) -> Walked
 
 // ---- the call
 
-fn is_address(address: u8) -> bool
-    ensures { λ r. ⌜ r ≡ inRange address ⌝ }
-{
-    !(address < 8) & (address < 120)
-}
-
 // Room for four bytes an event, for the most events that a capture gives. It stands on the caller's stack.
 fn empty_list() -> [u8; 14560]
     ensures { λ r. ⌜ length r ≡ 4 * mostGiven ⌝ }
@@ -232,7 +226,7 @@ pub fn import_capture(samples: &[u8], address: u8, events: &mut [u8]) -> Importe
     if 32768 < samples.len() {
         return refused(13);
     }
-    if is_address(address) {
+    if in_range(address) {
         let mut list = empty_list();
         let found = walk(samples, address, &mut list);
         let both = found.both;

@@ -21,7 +21,8 @@ use Rattle.arbiter.proofs.Settled.{loses, isDue, Ready, parts-ready}
 use Rattle.arbiter.proofs.Choice.{not-true, same-self, turn-owns}
 use Rattle.arbiter.proofs.Connected.{serves, asksOn, Served, unserved, serves-owner, step-served}
 use Rattle.arbiter.proofs.Raws.{refuses, takes, met}
-use Rattle.connection.specs.Quiet.{isApart, linked}
+use Rattle.fields.specs.Apart.{isApart}
+use Rattle.connection.specs.Quiet.{linked}
 use Rattle.step.specs.Carried.{quietFrom, isQuiet}
 use Rattle.light.specs.Light.{Settled, SettledAtPowerUp, StaysSettled}
 

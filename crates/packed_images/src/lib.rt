@@ -5,11 +5,11 @@ ghost use Rattle.imaging.specs.Advancing.{imageTold, imageAdvanced};
 ghost use Rattle.packing.specs.Packed.{packedAnswer};
 ghost use Rattle.packed_images.specs.Packed.{packedShown, packedTold};
 use arbiter::Raw;
+use bits::wide_u32;
 use image::read_register;
 use imaging::advancing::advance_image;
 use imaging::fresh_image;
 use imaging::step_image;
-use packing::int_of;
 use packing::packed_answer;
 
 // A fresh image of this kind of part.
@@ -32,7 +32,7 @@ pub fn advance_packed(ticks: u32, image: &mut [u8]) -> u32
     ensures { λ r. ⌜ (r ≡ packedTold (imageTold ticks (now (image .entry)))) × (now (image .exit) ≡ imageAdvanced ticks (now (image .entry))) ⌝ }
 {
     let told = advance_image(image, ticks);
-    int_of(told.number) + 256 * told.reported
+    wide_u32(told.number) + 256 * told.reported
 }
 
 // What a master reads of a register of an image, without an event.
@@ -40,5 +40,5 @@ pub fn read_packed(master: u8, register: u8, image: &[u8]) -> u32
     ensures { λ r. ⌜ r ≡ packedShown (shown master register (now (image .entry))) ⌝ }
 {
     let s = read_register(master, register, image);
-    int_of(s.number) + 256 * int_of(s.byte)
+    wide_u32(s.number) + 256 * wide_u32(s.byte)
 }

@@ -3,14 +3,14 @@ ghost use mathlib.Core.Path.{_≡_};
 ghost use Rattle.arbiter.specs.Words.{if_then_else_};
 ghost use Rattle.arbiter.specs.Parts.{withPort};
 ghost use Rattle.arbiter.specs.State.{atRest, forWriting};
-ghost use Rattle.arbiter.specs.Effects.{registerAt, commanded};
+ghost use Rattle.arbiter.specs.Effects.{commanded};
 ghost use Rattle.arbiter.specs.declared.Port.the-variants.{Rest, Open, Writing};
 use arbiter::Port;
-use arbiter::Register;
 use arbiter::Side;
 use bits::pick_bool;
 use fields::pick_register;
 use fields::pointer_of;
+use fields::register_at;
 use fields::side_with;
 
 pub fn is_at_rest(p: Port) -> bool
@@ -34,22 +34,6 @@ pub fn is_for_writing(p: Port) -> bool
 }
 
 // ---- COMMAND
-
-// The register that a command names.
-fn register_at(n: u8) -> Register
-    ensures { λ r. ⌜ r ≡ registerAt n ⌝ }
-{
-    match n {
-        0 => Register::Id,
-        1 => Register::Contr,
-        2 => Register::Status,
-        3 => Register::Rt,
-        4 => Register::IntStatus,
-        5 => Register::IntMask,
-        6 => Register::MailLow,
-        _ => Register::MailHigh,
-    }
-}
 
 fn opened(for_writing: bool) -> Port
     ensures { λ r. ⌜ r ≡ (if «for_writing» then Writing else Open) ⌝ }

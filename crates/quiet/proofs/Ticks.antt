@@ -26,7 +26,8 @@ use Rattle.arbiter.proofs.Choice.{split, if-true, if-false, not-true}
 use Rattle.arbiter.proofs.KindKept.{limit-some}
 use Rattle.arbiter.proofs.Settled.{Still}
 use Rattle.arbitration.specs.Quiet.{noLoss, noCut, noClaim, noGrant}
-use Rattle.connection.specs.Quiet.{isApart, switchStays}
+use Rattle.fields.specs.Apart.{isApart}
+use Rattle.connection.specs.Quiet.{switchStays}
 use Rattle.quiet.specs.Counts.{least, risen, countedBus, withCounts, afterTicks}
 use Rattle.quiet.specs.Quiet.{holdLeft, sclLeft, sdaLeft, idleLeft, ownerLeft, turnLeft, isStill, isCalm, countsLeft, quietTicks, tick, Quiet, ticks, Same, QuietTogether}
 use Rattle.quiet.proofs.Counts.{least-first, least-second, risen-more, risen-none, hold-kept, scl-uncut, scl-hung, sda-hung, idle-unexpired}

@@ -1,7 +1,7 @@
 // Quiet ticks: how many TICKs from a device on change nothing but counts, and the device after them. Both are true of every device value.
 ghost use Prim.Native.Nat.{_-_};
 ghost use mathlib.Core.Path.{_≡_};
-ghost use Rattle.quiet.specs.Counts.{least, risen, countedBus, withCounts, afterTicks};
+ghost use Rattle.quiet.specs.Counts.{risen, countedBus, withCounts, afterTicks};
 ghost use Rattle.quiet.specs.Quiet.{holdLeft, sclLeft, sdaLeft, idleLeft, ownerLeft, turnLeft, isStill, isCalm, countsLeft, quietTicks};
 use arbiter::Bus;
 use arbiter::CUT_TICKS;
@@ -13,6 +13,7 @@ use arbiter::Side;
 use arbiter::Turn;
 use arbitration::claims::no_claim;
 use arbitration::claims::no_grant;
+use bits::least_u16;
 use bits::less_one;
 use bus::is_idle;
 use bus::scl_high;
@@ -29,12 +30,6 @@ use fields::turn_of;
 pub const NO_END: u16 = 65535;
 
 // ---- what each count has left
-
-fn least_of(x: u16, y: u16) -> u16
-    ensures { λ r. ⌜ r ≡ least x y ⌝ }
-{
-    if x < y { x } else { y }
-}
 
 pub fn hold_ticks(hold: u8) -> u16
     ensures { λ r. ⌜ r ≡ holdLeft hold ⌝ }
@@ -141,9 +136,9 @@ pub fn is_calm(t: Turn, d: Device) -> bool
 fn counts_left(d: Device) -> u16
     ensures { λ r. ⌜ r ≡ countsLeft d ⌝ }
 {
-    least_of(
-        least_of(hold_ticks(d.bus.hold), turn_ticks(turn_of(d.arb), d)),
-        least_of(
+    least_u16(
+        least_u16(hold_ticks(d.bus.hold), turn_ticks(turn_of(d.arb), d)),
+        least_u16(
             scl_ticks(scl_high(d.bus), d.bus.lowscl),
             sda_ticks(sda_high(d.bus), d.bus.lowsda),
         ),
@@ -159,7 +154,7 @@ pub fn settled_ticks(d: Device) -> u16
     let turn = turn_ticks(turn_of(d.arb), d);
     let scl = scl_ticks(scl_high(d.bus), d.bus.lowscl);
     let sda = sda_ticks(sda_high(d.bus), d.bus.lowsda);
-    least_of(least_of(hold, turn), least_of(scl, sda))
+    least_u16(least_u16(hold, turn), least_u16(scl, sda))
 }
 
 // So many TICKs from here on change nothing but counts: each is answered 0, 0 and the last two bytes of now.

@@ -15,7 +15,8 @@ use arbiter::Pins;
 use arbiter::Strapped;
 use arbiter::Strapping;
 
-fn in_range(address: u8) -> bool
+// The addresses that straps can give: 08h to 77h.
+pub fn in_range(address: u8) -> bool
     ensures { λ r. ⌜ r ≡ inRange address ⌝ }
 {
     !(address < 0x08) & (address < 0x78)

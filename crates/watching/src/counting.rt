@@ -1,6 +1,6 @@
 // What is counted of a stream: events, READs and those that differ, samples and faults.
 ghost use mathlib.Core.Path.{_≡_};
-ghost use Rattle.arbiter.specs.Words.{worth, of};
+ghost use Rattle.arbiter.specs.Words.{of};
 ghost use Rattle.arbiter.specs.Steps.{step};
 ghost use Rattle.arbiter.specs.declared.Event.the-variants.{Read};
 ghost use Rattle.capture.specs.Events.{rawOf};
@@ -9,18 +9,13 @@ use arbiter::Device;
 use arbiter::Event;
 use arbiter::Master;
 use arbiter::Register;
+use bits::one_if_u64;
 use capture::Both;
 use fields::pointer_of;
 use watch::Check;
 use watch::Tally;
 
 // ---- numbers
-
-fn one_if(b: bool) -> u64
-    ensures { λ r. ⌜ r ≡ worth 1 b ⌝ }
-{
-    if b { 1 } else { 0 }
-}
 
 // Counts stop at the top of 64 bits.
 pub(crate) fn plus_of(a: u64, b: u64) -> u64
@@ -134,7 +129,7 @@ fn with_read(k: Check, t: Tally) -> Tally
         samples: t.samples,
         events: plus_of(t.events, 1),
         reads: plus_of(t.reads, 1),
-        differences: plus_of(t.differences, one_if(is_different(k))),
+        differences: plus_of(t.differences, one_if_u64(is_different(k))),
         faults: t.faults,
         fault: t.fault,
         first,

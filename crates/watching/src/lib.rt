@@ -10,6 +10,7 @@ ghost use lib.ListN.{length, take, drop};
 ghost use Rattle.watch.specs.Told.{tells, taken, listened};
 ghost use Rattle.watching.specs.Resting.{areAll, isReady, withSamples, sinceMore, earRested, rested};
 ghost use Rattle.watching.specs.Turns.{turned, goesOn};
+use bits::least_usize;
 use counting::plus_of;
 use sample::watch_sample;
 use watch::Ear;
@@ -50,18 +51,12 @@ fn room_of(c: Settings, e: Ear) -> usize
     }
 }
 
-fn smaller_of(a: usize, b: usize) -> usize
-    ensures { λ r. ⌜ (r ≤ a) × (r ≤ b) ⌝ }
-{
-    if a < b { a } else { b }
-}
-
 // How many samples from one on are this one.
 fn count_still(samples: &[u8], from: usize, x: u8, room: usize) -> usize
     requires { ⌜ from ≤ length (now samples) ⌝ }
     ensures { λ r. ⌜ (r ≤ room) × (from + r ≤ length (now (samples .entry))) × (areAll x (take r (drop from (now (samples .entry)))) ≡ true) ⌝ }
 {
-    let most = smaller_of(room, samples.len() - from);
+    let most = least_usize(room, samples.len() - from);
     let mut n: usize = 0;
     while n < most {
         if samples[from + n] == x {

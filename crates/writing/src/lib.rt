@@ -2,7 +2,7 @@
 // turn; and so to the device, at a WRITE or a PAIR.
 ghost use mathlib.Core.Path.{_≡_};
 ghost use Rattle.arbiter.specs.Words.{if_then_else_};
-ghost use Rattle.arbiter.specs.Registers.{registerNumber, ownWritten, mailWritten, drivesWritten, turnWritten};
+ghost use Rattle.arbiter.specs.Registers.{ownWritten, mailWritten, drivesWritten, turnWritten};
 ghost use Rattle.arbiter.specs.Events.{writable};
 ghost use Rattle.arbiter.specs.Effects.{afterWrite, writeRisen, written, paired};
 ghost use Rattle.arbiter.specs.declared.Master.the-variants.{Zero, One};
@@ -19,11 +19,13 @@ use bits::bit_0;
 use bits::pick_bool;
 use bits::pick_u8;
 use fields::device_with;
+use fields::is_connect;
 use fields::owns_turn;
 use fields::pick_register;
 use fields::pick_turn;
 use fields::pointer_of;
 use fields::port_of;
+use fields::register_number;
 use fields::rolls_over;
 use fields::side_with;
 use fields::turn_of;
@@ -31,21 +33,6 @@ use fields::with_turn;
 use registers::raised_in;
 
 // ---- the register
-
-fn register_number(r: Register) -> u8
-    ensures { λ n. ⌜ n ≡ registerNumber r ⌝ }
-{
-    match r {
-        Register::Id => 0,
-        Register::Contr => 1,
-        Register::Status => 2,
-        Register::Rt => 3,
-        Register::IntStatus => 4,
-        Register::IntMask => 5,
-        Register::MailLow => 6,
-        Register::MailHigh => 7,
-    }
-}
 
 // A WRITE there is acknowledged.
 pub fn writable_at(r: Register) -> bool
@@ -196,12 +183,6 @@ fn turn_written(granted: bool, r: Register, v: u8, t: Turn) -> Turn
 }
 
 // ---- the device
-
-fn is_connect(c: Control) -> bool
-    ensures { λ r. ⌜ r ≡ c .busconnect ⌝ }
-{
-    c.busconnect
-}
 
 // WRITE by master 0.
 pub fn written_by_0(v: u8, d: Device) -> Device

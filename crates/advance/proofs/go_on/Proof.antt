@@ -10,14 +10,14 @@ use Rattle.advance.proofs.go_on.Tie as tie
 quiet-ticks-requires : tie.Need-quiet-ticks-requires
 quiet-ticks-requires c κs = search needs
 
-least-of-requires : tie.Need-least-of-requires
-least-of-requires c κs = search needs
+least-u16-requires : tie.Need-least-u16-requires
+least-u16-requires c κs = search needs
 
 tick-on-requires : tie.Need-tick-on-requires
 tick-on-requires c κs = search needs
 
 jump-on-requires : tie.Need-jump-on-requires
-jump-on-requires c κs = rw (c .before .least-of .ensures) (least-second _ _)
+jump-on-requires c κs = rw (c .before .least-u16 .ensures) (least-second _ _)
 
 returns : tie.Need-returns
 unfolding onward
@@ -25,7 +25,7 @@ returns c =
     simp (
       ← c .tick-on .ensures,
       eq-eqb _ _ (c .before .if1 .taken),
-      ← c .before .before .least-of .ensures,
+      ← c .before .before .least-u16 .ensures,
       ← c .before .before .before .quiet-ticks .ensures,
     )
 
@@ -35,7 +35,7 @@ returns-2 c =
     simp (
       ← c .jump-on .ensures,
       ne-eqb _ _ (c .before .if1 .left),
-      ← c .before .before .least-of .ensures,
+      ← c .before .before .least-u16 .ensures,
       ← c .before .before .before .quiet-ticks .ensures,
     )
 
@@ -44,7 +44,7 @@ go-on-spec =
     tie.close
     (tie.spec
     quiet-ticks-requires
-    least-of-requires
+    least-u16-requires
     tick-on-requires
     jump-on-requires
     returns

@@ -10,8 +10,8 @@ ticked-once-requires c κs = search needs
 is-changed-requires : tie.Need-is-changed-requires
 is-changed-requires c κs = search needs
 
-one-if-requires : tie.Need-one-if-requires
-one-if-requires c κs = search needs
+one-if-u32-requires : tie.Need-one-if-u32-requires
+one-if-u32-requires c κs = search needs
 
 sub-way-with : tie.Need-sub-way-with
 sub-way-with c = search needs
@@ -26,7 +26,7 @@ returns : tie.Need-returns
 returns c =
     simp (
       c .way-with .ensures,
-      c .before .before .before .one-if .ensures .0,
+      c .before .before .before .one-if-u32 .ensures .0,
       c .before .before .before .before .is-changed .ensures,
       c .before .before .before .before .before .ticked-once .ensures,
     )
@@ -37,7 +37,7 @@ tick-on-spec =
     (tie.spec
     ticked-once-requires
     is-changed-requires
-    one-if-requires
+    one-if-u32-requires
     sub-way-with
     add-way-with
     way-with-requires

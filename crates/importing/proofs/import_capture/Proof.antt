@@ -22,8 +22,8 @@ returns c =
     let s = c .before .before .before .before .args in
     refused-13 (s .address) (s .samples .now) (s .events .now) _ (c .before .if1 .taken) (c .refused .ensures)
 
-is-address-requires : tie.Need-is-address-requires
-is-address-requires c κs = search needs
+in-range-requires : tie.Need-in-range-requires
+in-range-requires c κs = search needs
 
 empty-list-requires : tie.Need-empty-list-requires
 empty-list-requires c κs = search needs
@@ -46,7 +46,7 @@ refused-requires-2 c κs = search needs
 returns-2 : tie.Need-returns-2
 returns-2 c =
     let s = c .before .before .before .before .before .before .before .before .before .before .before .before .before .args in
-    let a = sym (c .before .before .before .before .before .before .before .before .before .is-address .ensures) ∙ c .before .before .before .before .before .before .before .before .if2 .taken in
+    let a = sym (c .before .before .before .before .before .before .before .before .before .in-range .ensures) ∙ c .before .before .before .before .before .before .before .before .if2 .taken in
     let x = cut-found (s .address) (s .samples .now) _ _ (c .before .before .before .before .before .walk .ensures .0 .0) (c .before .before .is-any-cut .ensures) ∙ c .before .if3 .taken in
     refused-12 (s .address) (s .samples .now) (s .events .now) (c .before .before .before .before .before .before .before .before .before .before .if1 .left) a _ x (c .refused2 .ensures)
 
@@ -57,7 +57,7 @@ returns-3 : tie.Need-returns-3
 returns-3 c =
     let s = c .before .before .before .before .before .before .before .before .before .before .before .before .before .before .args in
     let found = c .before .before .before .before .before .before .walk .ensures .0 in
-    let a = sym (c .before .before .before .before .before .before .before .before .before .before .is-address .ensures) ∙ c .before .before .before .before .before .before .before .before .before .if2 .taken in
+    let a = sym (c .before .before .before .before .before .before .before .before .before .before .in-range .ensures) ∙ c .before .before .before .before .before .before .before .before .before .if2 .taken in
     let x = cut-found (s .address) (s .samples .now) _ _ (found .0) (c .before .before .before .is-any-cut .ensures) ∙ c .before .before .if3 .left in
     let room : length (s .events .now) < 4 * length (captured (s .address) (s .samples .now)) = omega (arith, found .1, c .before .if4 .taken) in
     refused-9 (s .address) (s .samples .now) (s .events .now) (c .before .before .before .before .before .before .before .before .before .before .before .if1 .left) a _ x room (c .refused3 .ensures)
@@ -89,7 +89,7 @@ returns-4 c =
     let s = c .before .before .before .before .before .before .before .before .before .before .before .before .before .before .before .before .before .before .args in
     let w = c .before .before .before .before .before .before .before .before .before .before .walk .ensures in
     let es = captured (s .address) (s .samples .now) in
-    let a = sym (c .before .before .before .before .before .before .before .before .before .before .before .before .before .before .is-address .ensures) ∙ c .before .before .before .before .before .before .before .before .before .before .before .before .before .if2 .taken in
+    let a = sym (c .before .before .before .before .before .before .before .before .before .before .before .before .before .before .in-range .ensures) ∙ c .before .before .before .before .before .before .before .before .before .before .before .before .before .if2 .taken in
     let x = cut-found (s .address) (s .samples .now) _ _ (w .0 .0) (c .before .before .before .before .before .before .before .is-any-cut .ensures) ∙ c .before .before .before .before .before .before .if3 .left in
     let room : 4 * length es ≤ length (s .events .now) = omega (arith, w .0 .1, c .before .before .before .before .before .if4 .left) in
     let most = most-captured (s .address) (s .samples .now) (c .before .before .before .before .before .before .before .before .before .before .before .before .before .before .before .if1 .left) in
@@ -100,7 +100,7 @@ returns-4 c =
 returns-5 : tie.Need-returns-5
 returns-5 c =
     let s = c .before .before .before .before .before .before .args in
-    let a = sym (c .before .before .is-address .ensures) ∙ c .before .if2 .left in
+    let a = sym (c .before .before .in-range .ensures) ∙ c .before .if2 .left in
     refused-11 (s .address) (s .samples .now) (s .events .now) (c .before .before .before .if1 .left) _ a (c .refused4 .ensures)
 
 pub import-capture-spec : {M : Type 1} → statement M
@@ -109,7 +109,7 @@ import-capture-spec =
     (tie.spec
     refused-requires
     returns
-    is-address-requires
+    in-range-requires
     empty-list-requires
     slice-aggregate-walk
     walk-requires

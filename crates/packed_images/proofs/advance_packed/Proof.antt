@@ -14,8 +14,8 @@ use Rattle.packed_images.proofs.advance_packed.Tie as tie
 advance-image-requires : tie.Need-advance-image-requires
 advance-image-requires c κs = search needs
 
-int-of-requires : tie.Need-int-of-requires
-int-of-requires c κs = search needs
+wide-u32-requires : tie.Need-wide-u32-requires
+wide-u32-requires c κs = search needs
 
 mul-result : tie.Need-mul-result
 mul-result c =
@@ -33,9 +33,9 @@ same-length c = search needs
 returns : tie.Need-returns
 returns c =
     let got = c .before .before .before .before .advance-image .ensures in
-    (simp (c .before .int-of .ensures .0) (ap packedTold (got .0)), got .1)
+    (simp (c .before .wide-u32 .ensures .0) (ap packedTold (got .0)), got .1)
 
 pub advance-packed-spec : {M : Type 1} → statement M
 advance-packed-spec =
     tie.close
-    (tie.spec advance-image-requires int-of-requires mul-result add-result same-length returns)
+    (tie.spec advance-image-requires wide-u32-requires mul-result add-result same-length returns)

@@ -14,8 +14,8 @@ turn-of-requires c κs = search needs
 turn-ticks-requires : tie.Need-turn-ticks-requires
 turn-ticks-requires c κs = search needs
 
-least-of-requires : tie.Need-least-of-requires
-least-of-requires c κs = search needs
+least-u16-requires : tie.Need-least-u16-requires
+least-u16-requires c κs = search needs
 
 scl-high-requires : tie.Need-scl-high-requires
 scl-high-requires c κs = search needs
@@ -29,23 +29,23 @@ sda-high-requires c κs = search needs
 sda-ticks-requires : tie.Need-sda-ticks-requires
 sda-ticks-requires c κs = search needs
 
-least-of-requires-2 : tie.Need-least-of-requires-2
-least-of-requires-2 c κs = search needs
+least-u16-requires-2 : tie.Need-least-u16-requires-2
+least-u16-requires-2 c κs = search needs
 
-least-of-requires-3 : tie.Need-least-of-requires-3
-least-of-requires-3 c κs = search needs
+least-u16-requires-3 : tie.Need-least-u16-requires-3
+least-u16-requires-3 c κs = search needs
 
 returns : tie.Need-returns
 unfolding countsLeft
 returns c =
     simp (
-      c .least-of3 .ensures,
-      c .before .least-of2 .ensures,
+      c .least-u163 .ensures,
+      c .before .least-u162 .ensures,
       c .before .before .sda-ticks .ensures,
       c .before .before .before .sda-high .ensures,
       c .before .before .before .before .scl-ticks .ensures,
       c .before .before .before .before .before .scl-high .ensures,
-      c .before .before .before .before .before .before .least-of .ensures,
+      c .before .before .before .before .before .before .least-u16 .ensures,
       c .before .before .before .before .before .before .before .turn-ticks .ensures,
       c .before .before .before .before .before .before .before .before .turn-of .ensures,
       c .before .before .before .before .before .before .before .before .before .hold-ticks .ensures,
@@ -58,11 +58,11 @@ counts-left-spec =
     hold-ticks-requires
     turn-of-requires
     turn-ticks-requires
-    least-of-requires
+    least-u16-requires
     scl-high-requires
     scl-ticks-requires
     sda-high-requires
     sda-ticks-requires
-    least-of-requires-2
-    least-of-requires-3
+    least-u16-requires-2
+    least-u16-requires-3
     returns)

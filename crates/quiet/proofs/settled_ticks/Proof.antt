@@ -26,22 +26,22 @@ sda-high-requires c κs = search needs
 sda-ticks-requires : tie.Need-sda-ticks-requires
 sda-ticks-requires c κs = search needs
 
-least-of-requires : tie.Need-least-of-requires
-least-of-requires c κs = search needs
+least-u16-requires : tie.Need-least-u16-requires
+least-u16-requires c κs = search needs
 
-least-of-requires-2 : tie.Need-least-of-requires-2
-least-of-requires-2 c κs = search needs
+least-u16-requires-2 : tie.Need-least-u16-requires-2
+least-u16-requires-2 c κs = search needs
 
-least-of-requires-3 : tie.Need-least-of-requires-3
-least-of-requires-3 c κs = search needs
+least-u16-requires-3 : tie.Need-least-u16-requires-3
+least-u16-requires-3 c κs = search needs
 
 returns : tie.Need-returns
 unfolding countsLeft
 returns c =
     simp (
-      c .least-of3 .ensures,
-      c .before .least-of2 .ensures,
-      c .before .before .least-of .ensures,
+      c .least-u163 .ensures,
+      c .before .least-u162 .ensures,
+      c .before .before .least-u16 .ensures,
       c .before .before .before .sda-ticks .ensures,
       c .before .before .before .before .sda-high .ensures,
       c .before .before .before .before .before .scl-ticks .ensures,
@@ -62,7 +62,7 @@ settled-ticks-spec =
     scl-ticks-requires
     sda-high-requires
     sda-ticks-requires
-    least-of-requires
-    least-of-requires-2
-    least-of-requires-3
+    least-u16-requires
+    least-u16-requires-2
+    least-u16-requires-3
     returns)

@@ -6,6 +6,7 @@ use mathlib.Core.Bool.{true}
 use native.Mathlib.Omega.{arith}
 use lib.ListN.{length, take, drop, length-drop}
 use borrow.Author.Needs.{needs}
+use Rattle.traces.proofs.Batch.{least-both}
 use Rattle.watching.specs.Resting.{areAll}
 use Rattle.watching.proofs.Resting.{all-more}
 use Rattle.watching.proofs.count_still.Statement.{statement}
@@ -18,17 +19,17 @@ Inv-loop samples from x room most n₀ n =
 abbrev μ-loop : tie.MeasureT-loop
 μ-loop samples from x room most n₀ n = most - n
 
-sub-smaller-of : tie.Need-sub-smaller-of Inv-loop μ-loop
-sub-smaller-of c = omega (arith, c .before .pre)
+sub-least-usize : tie.Need-sub-least-usize Inv-loop μ-loop
+sub-least-usize c = omega (arith, c .before .pre)
 
-smaller-of-requires : tie.Need-smaller-of-requires Inv-loop μ-loop
-smaller-of-requires c κs = search needs
+least-usize-requires : tie.Need-least-usize-requires Inv-loop μ-loop
+least-usize-requires c κs = search needs
 
 loop-holds : tie.Need-loop-holds Inv-loop μ-loop
 unfolding areAll
 loop-holds c =
     let s = c .before .before in
-    let least = c .smaller-of .ensures in
+    let least = least-both _ _ _ (c .least-usize .ensures) in
     (omega arith, least .0, omega (arith, least .1, s .pre), refl)
 
 add-if1 : tie.Need-add-if1 Inv-loop μ-loop
@@ -72,8 +73,8 @@ count-still-spec =
     (tie.spec
     Inv-loop
     μ-loop
-    sub-smaller-of
-    smaller-of-requires
+    sub-least-usize
+    least-usize-requires
     loop-holds
     add-if1
     shared-slice-read-if1

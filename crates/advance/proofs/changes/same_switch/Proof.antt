@@ -1,8 +1,25 @@
 -- `advance::changes::same_switch` meets its contract.
 -- Assumes nothing.
+use mathlib.Core.Path.{_≡_, refl, _∙_}
+use Rattle.arbiter.specs.State.{closedFor}
+use Rattle.arbiter.specs.declared.Master.{Master}
+use Rattle.arbiter.specs.declared.Switch.{Switch}
+use Rattle.arbiter.specs.declared.Switch.the-variants.{Apart, Initialising, Closed}
 use borrow.Author.Needs.{needs}
+use Rattle.fields.specs.Apart.{isApart}
+use Rattle.advance.specs.Changes.{sameSwitch}
 use Rattle.advance.proofs.changes.same_switch.Statement.{statement}
 use Rattle.advance.proofs.changes.same_switch.Tie as tie
+
+apart-same : (w : Switch) → isApart w ≡ sameSwitch Apart w
+apart-same Apart = refl
+apart-same (Initialising m n) = refl
+apart-same (Closed m) = refl
+
+closed-same : (m : Master) (w : Switch) → closedFor m w ≡ sameSwitch (Closed m) w
+closed-same m Apart = refl
+closed-same m (Initialising k n) = refl
+closed-same m (Closed k) = refl
 
 enum-told : tie.Need-enum-told
 enum-told c = search needs
@@ -19,17 +36,17 @@ is-initialising-requires c κs = search needs
 enum-known-v-2 : tie.Need-enum-known-v-2
 enum-known-v-2 c = search needs
 
-is-closed-requires : tie.Need-is-closed-requires
-is-closed-requires c κs = search needs
+closed-for-requires : tie.Need-closed-for-requires
+closed-for-requires c κs = search needs
 
 returns : tie.Need-returns
-returns c = search needs
+returns c = simp (← (c .is-apart .ensures ∙ apart-same _), c .before .enum-told .given .1)
 
 returns-2 : tie.Need-returns-2
 returns-2 c = simp (← c .is-initialising .ensures, c .before .before .v .given .1)
 
 returns-3 : tie.Need-returns-3
-returns-3 c = simp (← c .is-closed .ensures, c .before .before .v2 .given .1)
+returns-3 c = simp (← (c .closed-for .ensures ∙ closed-same _ _), c .before .before .v2 .given .1)
 
 pub same-switch-spec : {M : Type 1} → statement M
 same-switch-spec =
@@ -40,7 +57,7 @@ same-switch-spec =
     enum-known-v
     is-initialising-requires
     enum-known-v-2
-    is-closed-requires
+    closed-for-requires
     returns
     returns-2
     returns-3)

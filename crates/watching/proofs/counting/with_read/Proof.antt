@@ -23,8 +23,8 @@ plus-of-requires-2 c κs = search needs
 is-different-requires : tie.Need-is-different-requires
 is-different-requires c κs = search needs
 
-one-if-requires : tie.Need-one-if-requires
-one-if-requires c κs = search needs
+one-if-u64-requires : tie.Need-one-if-u64-requires
+one-if-u64-requires c κs = search needs
 
 plus-of-requires-3 : tie.Need-plus-of-requires-3
 plus-of-requires-3 c κs = search needs
@@ -34,7 +34,7 @@ unfolding withRead
 returns c =
     simp (
       c .plus-of3 .ensures,
-      c .before .one-if .ensures,
+      c .before .one-if-u64 .ensures,
       c .before .before .is-different .ensures,
       c .before .before .before .plus-of2 .ensures,
       c .before .before .before .before .plus-of .ensures,
@@ -53,6 +53,6 @@ with-read-spec =
     plus-of-requires
     plus-of-requires-2
     is-different-requires
-    one-if-requires
+    one-if-u64-requires
     plus-of-requires-3
     returns)

@@ -1,8 +1,8 @@
--- `advance::changes::is_closed` meets its contract.
+-- `fields::closed_for` meets its contract.
 -- Assumes nothing.
 use borrow.Author.Needs.{needs}
-use Rattle.advance.proofs.changes.is_closed.Statement.{statement}
-use Rattle.advance.proofs.changes.is_closed.Tie as tie
+use Rattle.fields.proofs.closed_for.Statement.{statement}
+use Rattle.fields.proofs.closed_for.Tie as tie
 
 enum-told : tie.Need-enum-told
 enum-told c = search needs
@@ -25,7 +25,7 @@ returns-2 c = search needs
 returns-3 : tie.Need-returns-3
 returns-3 c = simp (← c .same-master .ensures, c .before .before .w .given .1)
 
-pub is-closed-spec : {M : Type 1} → statement M
-is-closed-spec =
+pub closed-for-spec : {M : Type 1} → statement M
+closed-for-spec =
     tie.close
     (tie.spec enum-told enum-told-2 enum-known-w same-master-requires returns returns-2 returns-3)

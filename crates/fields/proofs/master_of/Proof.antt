@@ -1,8 +1,8 @@
--- `events::master_of` meets its contract.
+-- `fields::master_of` meets its contract.
 -- Assumes nothing.
 use borrow.Author.Tests.{eq-eqb, ne-eqb}
-use Rattle.events.proofs.master_of.Statement.{statement}
-use Rattle.events.proofs.master_of.Tie as tie
+use Rattle.fields.proofs.master_of.Statement.{statement}
+use Rattle.fields.proofs.master_of.Tie as tie
 
 returns : tie.Need-returns
 returns c = simp (eq-eqb _ _ (c .if1 .taken))

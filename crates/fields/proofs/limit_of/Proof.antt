@@ -1,9 +1,9 @@
--- `fields::idle_limit` meets its contract.
+-- `fields::limit_of` meets its contract.
 -- Assumes nothing.
 use Rattle.arbiter.specs.Rules.{rulesOf}
 use borrow.Author.Needs.{needs}
-use Rattle.fields.proofs.idle_limit.Statement.{statement}
-use Rattle.fields.proofs.idle_limit.Tie as tie
+use Rattle.fields.proofs.limit_of.Statement.{statement}
+use Rattle.fields.proofs.limit_of.Tie as tie
 
 enum-told : tie.Need-enum-told
 enum-told c = search needs
@@ -19,5 +19,5 @@ returns-2 : tie.Need-returns-2
 unfolding rulesOf
 returns-2 c = simp (c .enum-told2 .given .1)
 
-pub idle-limit-spec : {M : Type 1} → statement M
-idle-limit-spec = tie.close (tie.spec enum-told enum-told-2 returns returns-2)
+pub limit-of-spec : {M : Type 1} → statement M
+limit-of-spec = tie.close (tie.spec enum-told enum-told-2 returns returns-2)

@@ -1,8 +1,8 @@
--- `ports::register_at` meets its contract.
+-- `fields::register_at` meets its contract.
 -- Assumes nothing.
 use borrow.Author.Tests.{ne-eqb}
-use Rattle.ports.proofs.register_at.Statement.{statement}
-use Rattle.ports.proofs.register_at.Tie as tie
+use Rattle.fields.proofs.register_at.Statement.{statement}
+use Rattle.fields.proofs.register_at.Tie as tie
 
 returns : tie.Need-returns
 returns c = simp (c .match .keys1)

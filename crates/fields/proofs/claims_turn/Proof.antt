@@ -1,8 +1,8 @@
--- `arbitration::claims::claims_turn` meets its contract.
+-- `fields::claims_turn` meets its contract.
 -- Assumes nothing.
 use borrow.Author.Needs.{needs}
-use Rattle.arbitration.proofs.claims.claims_turn.Statement.{statement}
-use Rattle.arbitration.proofs.claims.claims_turn.Tie as tie
+use Rattle.fields.proofs.claims_turn.Statement.{statement}
+use Rattle.fields.proofs.claims_turn.Tie as tie
 
 enum-told : tie.Need-enum-told
 enum-told c = search needs
