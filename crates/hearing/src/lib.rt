@@ -1,15 +1,28 @@
-// Two samples after each other on both buses: what they show, and what becomes of the bytes in hand.
+// Two samples after each other on both buses: what becomes of the bytes in hand. The end of a byte is in `ends`, and the ways for samples that
+// change nothing or add a bit, which most are, in `short`.
+mod ends;
+mod short;
+
 ghost use mathlib.Core.Path.{_≡_};
 ghost use mathlib.Core.Bool.{true, false};
-ghost use Prim.Native.Nat.{_<_};
 ghost use Rattle.arbiter.specs.declared.Master.the-variants.{Zero, One};
 ghost use Rattle.capture.specs.declared.Sign.the-variants.{Stops};
-ghost use Rattle.capture.specs.OneBus.{levels, rises, sign, addressed, awaitedAfter, byteGives, owes, isOutside, started, stopped, shifted, ended, heard, gives};
+ghost use Rattle.capture.specs.OneBus.{levels, sign, started, stopped, heard, gives};
 ghost use Rattle.capture.specs.Samples.{sampled};
-ghost use Rattle.hearing.specs.Light.{isStill, isMarked, hasRoom, isLight, lightly, areLight, bothLightly, unheard};
+ghost use Rattle.hearing.specs.Light.{isLight, areLight, unheard};
+use crate::ends::awaited_after;
+use crate::ends::byte_gives;
+use crate::ends::is_outside;
+use crate::ends::is_owing;
+use crate::short::are_light;
+use crate::short::is_light;
+use crate::short::is_still;
+use crate::short::levels_0;
+use crate::short::levels_1;
+use crate::short::with_bit;
+use crate::short::with_bits;
 use arbiter::Event;
 use arbiter::Master;
-use bits::worth_of;
 use capture::Awaited;
 use capture::Both;
 use capture::Given;
@@ -23,187 +36,8 @@ pub struct Told {
     pub given: Given,
 }
 
-// ---- two samples after each other
-
-fn levels_0(x: u8) -> Levels
-    ensures { λ r. ⌜ r ≡ levels Zero x ⌝ }
-{
-    Levels {
-        scl: x / 1 % 2 == 1,
-        sda: x / 2 % 2 == 1,
-    }
-}
-
-fn levels_1(x: u8) -> Levels
-    ensures { λ r. ⌜ r ≡ levels One x ⌝ }
-{
-    Levels {
-        scl: x / 4 % 2 == 1,
-        sda: x / 8 % 2 == 1,
-    }
-}
-
-fn is_marked(was: Levels, now: Levels) -> bool
-    ensures { λ r. ⌜ r ≡ isMarked was now ⌝ }
-{
-    was.scl & now.scl & ((was.sda & !now.sda) | (!was.sda & now.sda))
-}
-
-fn is_rise(was: Levels, now: Levels) -> bool
-    ensures { λ r. ⌜ r ≡ rises was now ⌝ }
-{
-    !was.scl & now.scl
-}
-
-// ---- a byte's end
-
-fn addressed_by(address: u8, v: u8) -> Awaited
-    ensures { λ r. ⌜ r ≡ addressed address v ⌝ }
-{
-    if v == 0 {
-        Awaited::CallByte
-    } else if v / 2 == address {
-        if v / 1 % 2 == 1 {
-            Awaited::ReadByte
-        } else {
-            Awaited::CommandByte
-        }
-    } else {
-        Awaited::SkippedByte
-    }
-}
-
-fn awaited_after(address: u8, awaited: Awaited, v: u8) -> Awaited
-    ensures { λ r. ⌜ r ≡ awaitedAfter address awaited v ⌝ }
-{
-    match awaited {
-        Awaited::NoByte => Awaited::NoByte,
-        Awaited::AddressByte => addressed_by(address, v),
-        Awaited::CommandByte => Awaited::WriteByte,
-        Awaited::WriteByte => Awaited::WriteByte,
-        Awaited::ReadByte => Awaited::ReadByte,
-        Awaited::CallByte => Awaited::SkippedByte,
-        Awaited::SkippedByte => Awaited::SkippedByte,
-    }
-}
-
-fn byte_gives(m: Master, awaited: Awaited, v: u8) -> Given
-    ensures { λ r. ⌜ r ≡ byteGives m awaited v ⌝ }
-{
-    match awaited {
-        Awaited::NoByte => Given::Nothing,
-        Awaited::AddressByte => Given::Nothing,
-        Awaited::CommandByte => Given::Gives(Event::Command(m, v)),
-        Awaited::WriteByte => Given::Written(v),
-        Awaited::ReadByte => Given::Gives(Event::Read(m)),
-        Awaited::CallByte => Given::Gives(Event::GeneralCall(m, v)),
-        Awaited::SkippedByte => Given::Nothing,
-    }
-}
-
-fn is_owing(awaited: Awaited) -> bool
-    ensures { λ r. ⌜ r ≡ owes awaited ⌝ }
-{
-    match awaited {
-        Awaited::NoByte => false,
-        Awaited::AddressByte => false,
-        Awaited::CommandByte => true,
-        Awaited::WriteByte => false,
-        Awaited::ReadByte => true,
-        Awaited::CallByte => false,
-        Awaited::SkippedByte => false,
-    }
-}
-
-fn is_outside(awaited: Awaited) -> bool
-    ensures { λ r. ⌜ r ≡ isOutside awaited ⌝ }
-{
-    match awaited {
-        Awaited::NoByte => true,
-        Awaited::AddressByte => false,
-        Awaited::CommandByte => false,
-        Awaited::WriteByte => false,
-        Awaited::ReadByte => false,
-        Awaited::CallByte => false,
-        Awaited::SkippedByte => false,
-    }
-}
-
-// ---- the short ways, for most samples of a capture
-
-fn is_still(before: u8, now: u8) -> bool
-    ensures { λ r. ⌜ r ≡ isStill before now ⌝ }
-{
-    (before == now) | (!(now / 1 % 2 == 1) & !(now / 4 % 2 == 1))
-}
-
-fn has_room(l: Listener) -> bool
-    ensures { λ r. ⌜ r ≡ hasRoom l ⌝ }
-{
-    let awaited = l.awaited;
-    !is_outside(awaited) & (l.clocks < 8)
-}
-
-// By branches and not by one formula, so that a bus where SCL does not rise is not asked for its byte.
-fn is_light(was: Levels, now: Levels, l: Listener) -> bool
-    ensures { λ r. ⌜ r ≡ isLight was now l ⌝ }
-{
-    if is_rise(was, now) {
-        has_room(l)
-    } else {
-        !is_marked(was, now)
-    }
-}
-
-fn are_light(before: u8, now: u8, s: Both) -> bool
-    ensures { λ r. ⌜ r ≡ areLight before now s ⌝ }
-{
-    let bus0 = s.bus0;
-    let bus1 = s.bus1;
-    if is_light(levels_0(before), levels_0(now), bus0) {
-        is_light(levels_1(before), levels_1(now), bus1)
-    } else {
-        false
-    }
-}
-
-fn on_bit(b: bool, l: Listener) -> Listener
-    requires { ⌜ (l .clocks) < 8 ⌝ }
-    ensures { λ r. ⌜ r ≡ shifted b l ⌝ }
-{
-    let awaited = l.awaited;
-    Listener {
-        awaited,
-        clocks: l.clocks + 1,
-        value: l.value % 128 * 2 + worth_of(1, b),
-        owed: l.owed,
-        broken: l.broken,
-    }
-}
-
-fn with_bit(was: Levels, now: Levels, l: Listener) -> Listener
-    requires { ⌜ isLight was now l ≡ true ⌝ }
-    ensures { λ r. ⌜ r ≡ lightly was now l ⌝ }
-{
-    if is_rise(was, now) {
-        on_bit(now.sda, l)
-    } else {
-        l
-    }
-}
-
-fn with_bits(before: u8, now: u8, s: Both) -> Both
-    requires { ⌜ areLight before now s ≡ true ⌝ }
-    ensures { λ r. ⌜ r ≡ bothLightly before now s ⌝ }
-{
-    let old0 = s.bus0;
-    let old1 = s.bus1;
-    let bus0 = with_bit(levels_0(before), levels_0(now), old0);
-    let bus1 = with_bit(levels_1(before), levels_1(now), old1);
-    Both { bus0, bus1 }
-}
-
-fn nothing_given(both: Both) -> Heard
+// A sample that gives nothing.
+pub fn nothing_given(both: Both) -> Heard
     ensures { λ r. ⌜ r ≡ unheard both ⌝ }
 {
     Heard {

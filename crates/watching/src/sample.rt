@@ -5,7 +5,6 @@ ghost use mathlib.Core.Path.{_≡_};
 ghost use mathlib.Core.Bool.{true, _&&_};
 ghost use Rattle.arbiter.specs.Words.{bit};
 ghost use Rattle.arbiter.specs.declared.Event.the-variants.{Lines};
-ghost use Rattle.capture.specs.declared.Given.the-variants.{Nothing};
 ghost use Rattle.capture.specs.Events.{together};
 ghost use Rattle.importing.specs.Listed.{listed};
 ghost use Rattle.watch.specs.Sample.{levelsBelow, belowBefore, linesGiven, heardNow, mended, bothMended, faultsIn, isTimed, isDue, ticksGiven, sinceAfter, earAfter};
@@ -15,10 +14,10 @@ use crate::counting::with_sample;
 use arbiter::Event;
 use bits::worth_of;
 use capture::Both;
-use capture::Given;
 use capture::Heard;
 use capture::Listener;
 use hearing::hear_watched;
+use hearing::nothing_given;
 use importing::Few;
 use importing::few_of;
 use importing::raw_of;
@@ -87,23 +86,13 @@ fn lines_given(c: Settings, x: u8, e: Ear) -> Few
 
 // ---- both buses above
 
-fn nothing_heard(both: Both) -> Heard
-    ensures { λ r. ⌜ r ≡ record { both = both; given0 = Nothing; given1 = Nothing } ⌝ }
-{
-    Heard {
-        both,
-        given0: Given::Nothing,
-        given1: Given::Nothing,
-    }
-}
-
 fn heard_now(c: Settings, x: u8, e: Ear) -> Heard
     ensures { λ r. ⌜ r ≡ heardNow c x e ⌝ }
 {
     if e.begun {
         hear_watched(c.address, e.before, x, e.both)
     } else {
-        nothing_heard(e.both)
+        nothing_given(e.both)
     }
 }
 

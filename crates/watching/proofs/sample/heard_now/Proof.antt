@@ -8,8 +8,8 @@ use Rattle.watching.proofs.sample.heard_now.Tie as tie
 hear-watched-requires : tie.Need-hear-watched-requires
 hear-watched-requires c κs = search needs
 
-nothing-heard-requires : tie.Need-nothing-heard-requires
-nothing-heard-requires c κs = search needs
+nothing-given-requires : tie.Need-nothing-given-requires
+nothing-given-requires c κs = search needs
 
 returns : tie.Need-returns
 unfolding heardNow
@@ -17,7 +17,7 @@ returns c = simp (← c .hear-watched .ensures, c .before .if1 .taken)
 
 returns-2 : tie.Need-returns-2
 unfolding heardNow
-returns-2 c = simp (← c .nothing-heard .ensures, c .before .if1 .left)
+returns-2 c = simp (← c .nothing-given .ensures, c .before .if1 .left)
 
 pub heard-now-spec : {M : Type 1} → statement M
-heard-now-spec = tie.close (tie.spec hear-watched-requires nothing-heard-requires returns returns-2)
+heard-now-spec = tie.close (tie.spec hear-watched-requires nothing-given-requires returns returns-2)

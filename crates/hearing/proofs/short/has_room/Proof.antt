@@ -1,9 +1,9 @@
--- `hearing::has_room` meets its contract.
+-- `hearing::short::has_room` meets its contract.
 -- Assumes nothing.
 use Rattle.hearing.specs.Light.{hasRoom}
 use borrow.Author.Needs.{needs}
-use Rattle.hearing.proofs.has_room.Statement.{statement}
-use Rattle.hearing.proofs.has_room.Tie as tie
+use Rattle.hearing.proofs.short.has_room.Statement.{statement}
+use Rattle.hearing.proofs.short.has_room.Tie as tie
 
 is-outside-requires : tie.Need-is-outside-requires
 is-outside-requires c κs = search needs

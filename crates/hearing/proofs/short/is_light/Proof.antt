@@ -1,9 +1,9 @@
--- `hearing::is_light` meets its contract.
+-- `hearing::short::is_light` meets its contract.
 -- Assumes nothing.
 use Rattle.hearing.specs.Light.{isLight}
 use borrow.Author.Needs.{needs}
-use Rattle.hearing.proofs.is_light.Statement.{statement}
-use Rattle.hearing.proofs.is_light.Tie as tie
+use Rattle.hearing.proofs.short.is_light.Statement.{statement}
+use Rattle.hearing.proofs.short.is_light.Tie as tie
 
 is-rise-requires : tie.Need-is-rise-requires
 is-rise-requires c κs = search needs

@@ -1,9 +1,9 @@
--- `hearing::byte_gives` meets its contract.
+-- `hearing::ends::byte_gives` meets its contract.
 -- Assumes nothing.
 use Rattle.capture.specs.OneBus.{byteGives}
 use borrow.Author.Needs.{needs}
-use Rattle.hearing.proofs.byte_gives.Statement.{statement}
-use Rattle.hearing.proofs.byte_gives.Tie as tie
+use Rattle.hearing.proofs.ends.byte_gives.Statement.{statement}
+use Rattle.hearing.proofs.ends.byte_gives.Tie as tie
 
 enum-told : tie.Need-enum-told
 enum-told c = search needs

@@ -1,11 +1,11 @@
--- `hearing::with_bit` meets its contract.
+-- `hearing::short::with_bit` meets its contract.
 -- Assumes nothing.
 use mathlib.Core.Path.{sym, _∙_}
 use Rattle.hearing.specs.Light.{lightly}
 use Rattle.hearing.proofs.Light.{light-clocks}
 use borrow.Author.Needs.{needs}
-use Rattle.hearing.proofs.with_bit.Statement.{statement}
-use Rattle.hearing.proofs.with_bit.Tie as tie
+use Rattle.hearing.proofs.short.with_bit.Statement.{statement}
+use Rattle.hearing.proofs.short.with_bit.Tie as tie
 
 is-rise-requires : tie.Need-is-rise-requires
 is-rise-requires c κs = search needs

@@ -1,9 +1,9 @@
--- `hearing::awaited_after` meets its contract.
+-- `hearing::ends::awaited_after` meets its contract.
 -- Assumes nothing.
 use Rattle.capture.specs.OneBus.{awaitedAfter}
 use borrow.Author.Needs.{needs}
-use Rattle.hearing.proofs.awaited_after.Statement.{statement}
-use Rattle.hearing.proofs.awaited_after.Tie as tie
+use Rattle.hearing.proofs.ends.awaited_after.Statement.{statement}
+use Rattle.hearing.proofs.ends.awaited_after.Tie as tie
 
 enum-told : tie.Need-enum-told
 enum-told c = search needs

@@ -1,9 +1,9 @@
--- `hearing::on_bit` meets its contract.
+-- `hearing::short::on_bit` meets its contract.
 -- Assumes nothing.
 use Rattle.capture.specs.OneBus.{shifted}
 use borrow.Author.Needs.{needs}
-use Rattle.hearing.proofs.on_bit.Statement.{statement}
-use Rattle.hearing.proofs.on_bit.Tie as tie
+use Rattle.hearing.proofs.short.on_bit.Statement.{statement}
+use Rattle.hearing.proofs.short.on_bit.Tie as tie
 
 add-t4 : tie.Need-add-t4
 add-t4 c = search needs

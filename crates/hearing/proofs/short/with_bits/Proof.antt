@@ -1,10 +1,10 @@
--- `hearing::with_bits` meets its contract.
+-- `hearing::short::with_bits` meets its contract.
 -- Assumes nothing.
 use Rattle.hearing.specs.Light.{bothLightly}
 use Rattle.hearing.proofs.Light.{light-0, light-1}
 use borrow.Author.Needs.{needs}
-use Rattle.hearing.proofs.with_bits.Statement.{statement}
-use Rattle.hearing.proofs.with_bits.Tie as tie
+use Rattle.hearing.proofs.short.with_bits.Statement.{statement}
+use Rattle.hearing.proofs.short.with_bits.Tie as tie
 
 levels-0-requires : tie.Need-levels-0-requires
 levels-0-requires c κs = search needs

@@ -1,9 +1,9 @@
--- `hearing::addressed_by` meets its contract.
+-- `hearing::ends::addressed_by` meets its contract.
 -- Assumes nothing.
 use borrow.Author.Tests.{eq-eqb, ne-eqb}
 use Rattle.capture.specs.OneBus.{addressed}
-use Rattle.hearing.proofs.addressed_by.Statement.{statement}
-use Rattle.hearing.proofs.addressed_by.Tie as tie
+use Rattle.hearing.proofs.ends.addressed_by.Statement.{statement}
+use Rattle.hearing.proofs.ends.addressed_by.Tie as tie
 
 returns : tie.Need-returns
 unfolding addressed

@@ -1,9 +1,9 @@
--- `hearing::is_owing` meets its contract.
+-- `hearing::ends::is_owing` meets its contract.
 -- Assumes nothing.
 use Rattle.capture.specs.OneBus.{owes}
 use borrow.Author.Needs.{needs}
-use Rattle.hearing.proofs.is_owing.Statement.{statement}
-use Rattle.hearing.proofs.is_owing.Tie as tie
+use Rattle.hearing.proofs.ends.is_owing.Statement.{statement}
+use Rattle.hearing.proofs.ends.is_owing.Tie as tie
 
 enum-told : tie.Need-enum-told
 enum-told c = search needs

@@ -1,9 +1,9 @@
--- `hearing::is_outside` meets its contract.
+-- `hearing::ends::is_outside` meets its contract.
 -- Assumes nothing.
 use Rattle.capture.specs.OneBus.{isOutside}
 use borrow.Author.Needs.{needs}
-use Rattle.hearing.proofs.is_outside.Statement.{statement}
-use Rattle.hearing.proofs.is_outside.Tie as tie
+use Rattle.hearing.proofs.ends.is_outside.Statement.{statement}
+use Rattle.hearing.proofs.ends.is_outside.Tie as tie
 
 enum-told : tie.Need-enum-told
 enum-told c = search needs

@@ -1,9 +1,9 @@
--- `hearing::is_marked` meets its contract.
+-- `hearing::short::is_marked` meets its contract.
 -- Assumes nothing.
 use mathlib.Core.Path.{refl}
 use Rattle.hearing.specs.Light.{isMarked}
-use Rattle.hearing.proofs.is_marked.Statement.{statement}
-use Rattle.hearing.proofs.is_marked.Tie as tie
+use Rattle.hearing.proofs.short.is_marked.Statement.{statement}
+use Rattle.hearing.proofs.short.is_marked.Tie as tie
 
 returns : tie.Need-returns
 unfolding isMarked

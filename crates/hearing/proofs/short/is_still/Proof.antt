@@ -1,9 +1,9 @@
--- `hearing::is_still` meets its contract.
+-- `hearing::short::is_still` meets its contract.
 -- Assumes nothing.
 use mathlib.Core.Path.{refl}
 use Rattle.hearing.specs.Light.{isStill}
-use Rattle.hearing.proofs.is_still.Statement.{statement}
-use Rattle.hearing.proofs.is_still.Tie as tie
+use Rattle.hearing.proofs.short.is_still.Statement.{statement}
+use Rattle.hearing.proofs.short.is_still.Tie as tie
 
 returns : tie.Need-returns
 unfolding isStill

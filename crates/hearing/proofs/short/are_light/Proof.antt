@@ -1,4 +1,4 @@
--- `hearing::are_light` meets its contract.
+-- `hearing::short::are_light` meets its contract.
 -- Assumes nothing.
 use mathlib.Core.Path.{sym, ap, _∙_}
 use mathlib.Core.Bool.{Bool, _&&_}
@@ -7,8 +7,8 @@ use Rattle.capture.specs.OneBus.{levels}
 use Rattle.hearing.specs.Light.{isLight, areLight}
 use Rattle.hearing.proofs.Heavy.{light-at}
 use borrow.Author.Needs.{needs}
-use Rattle.hearing.proofs.are_light.Statement.{statement}
-use Rattle.hearing.proofs.are_light.Tie as tie
+use Rattle.hearing.proofs.short.are_light.Statement.{statement}
+use Rattle.hearing.proofs.short.are_light.Tie as tie
 
 levels-0-requires : tie.Need-levels-0-requires
 levels-0-requires c κs = search needs
