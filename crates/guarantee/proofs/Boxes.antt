@@ -32,7 +32,7 @@ use Rattle.arbiter.specs.declared.Raw.{Raw}
 use Rattle.audit.specs.SettingsKept.{bitsOf}
 use Rattle.sheets.specs.declared.Setting.{Setting}
 use Rattle.sheets.specs.declared.Order.{Order}
-use Rattle.sheets.specs.Orders.{controlByte, orderEvents}
+use Rattle.sheets.specs.Settings.{controlByte, orderEvents}
 use Rattle.sheets.specs.Started.{setting}
 use Rattle.guarantee.specs.Guarantee.{reserveIn}
 use Rattle.guarantee.specs.Boxes.{settingIn, BoxesOverwritten, keepingByte, BoxesKept, connectsWith, IdleBoxDropped, IdleBoxKept}

@@ -35,7 +35,7 @@ use Rattle.arbiter.specs.declared.Event.the-variants.{Command, Write, Stop}
 use Rattle.audit.specs.SettingsKept.{storesRt, writesToContr}
 use Rattle.sheets.specs.declared.Setting.{Setting}
 use Rattle.sheets.specs.declared.Order.{Order}
-use Rattle.sheets.specs.Orders.{controlByte, settingEvents, orderEvents}
+use Rattle.sheets.specs.Settings.{controlByte, settingEvents, orderEvents}
 use Rattle.sheets.specs.Started.{setting}
 use Rattle.guarantee.specs.Guarantee.{reserveIn}
 use Rattle.arbiter.proofs.Owner.{mid}

@@ -13,7 +13,7 @@ use Rattle.arbiter.specs.declared.Device.{Device}
 use Rattle.arbiter.specs.declared.Raw.{Raw}
 use Rattle.audit.specs.WaitAsSet.{isWithin}
 use Rattle.sheets.specs.declared.Order.{Order}
-use Rattle.sheets.specs.Orders.{orderOf, orderEvents}
+use Rattle.sheets.specs.Settings.{orderOf, orderEvents}
 use Rattle.sheets.specs.Started.{Outset}
 use Rattle.guarantee.specs.Guarantee.{reserveIn, Guaranteed, OrderGuarantees, SheetsGuarantee, GuaranteedWithin, OrderGuaranteesWithin, SheetsGuaranteeWithin}
 use Rattle.arbiter.proofs.Tenure.{run-owned}

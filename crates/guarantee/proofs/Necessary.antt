@@ -24,7 +24,7 @@ use Rattle.arbiter.specs.declared.Raw.{Raw}
 use Rattle.audit.specs.SettingsKept.{storesRt, writesToContr}
 use Rattle.sheets.specs.declared.Setting.{Setting}
 use Rattle.sheets.specs.declared.Order.{Order}
-use Rattle.sheets.specs.Orders.{orderOf, orderEvents}
+use Rattle.sheets.specs.Settings.{orderOf, orderEvents}
 use Rattle.guarantee.specs.Guarantee.{reserveIn}
 use Rattle.guarantee.specs.Necessary.{waitsFrom, StillWaits, ReserveNecessary, shortTransfer, shortTransfers, BoundedBy, Bounded, BoundedExactly}
 use Rattle.sheets.proofs.Complete.{events-read}

@@ -19,7 +19,7 @@ use Rattle.arbiter.specs.Witnesses.{number}
 use Rattle.ranges.specs.Names.{Master, Zero, One, Ground, Nobody, Owns, Kind, Pca9641, Tpt29641, Device, Raw, Event, Command, Write, Read, Stop, Pair, Lines, Tick, Pulse, Reset, GeneralCall}
 use Rattle.audit.specs.SettingsKept.{isRt, writesAt, byteBy, stores, storesRt}
 use Rattle.sheets.specs.declared.Setting.{Setting}
-use Rattle.sheets.specs.Orders.{controlByte, settingEvents, orderEvents}
+use Rattle.sheets.specs.Settings.{controlByte, settingEvents, orderEvents}
 use Rattle.guarantee.specs.Starts.{isBy, those}
 use Rattle.guarantee.specs.Reboot.{RebootStores, RebootWhileOwning, StartsAgain, RebootAfterWithdrawal, newSetting, sixAmong, rebootRows, RebootRowsHold}
 use Rattle.arbiter.proofs.Choice.{split, if-true, if-false, owns-turn}

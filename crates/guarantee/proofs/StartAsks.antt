@@ -17,7 +17,7 @@ use Rattle.arbiter.specs.AuditWords.{next, tick, withdrawalOf, never}
 use Rattle.arbiter.specs.Marks.{stop}
 use Rattle.arbiter.specs.Witnesses.{number}
 use Rattle.sheets.specs.declared.Setting.{Setting}
-use Rattle.sheets.specs.Orders.{settingEvents}
+use Rattle.sheets.specs.Settings.{settingEvents}
 use Rattle.guarantee.specs.Starts.{isBy, isTickRaw, those, OneAsksFirst}
 use Rattle.arbiter.proofs.Choice.{split}
 use Rattle.arbiter.proofs.Grounds.{hasTurn}

@@ -16,7 +16,7 @@ use Rattle.arbiter.specs.AuditWords.{next, requests, resting, reserveOf, tick, 
 use Rattle.arbiter.specs.Witnesses.{number}
 use Rattle.sheets.specs.declared.Setting.{Setting}
 use Rattle.sheets.specs.declared.Order.{Order}
-use Rattle.sheets.specs.Orders.{settingEvents}
+use Rattle.sheets.specs.Settings.{settingEvents}
 use Rattle.guarantee.specs.Guarantee.{reserveIn}
 use Rattle.guarantee.specs.Starts.{isBy, isTickRaw, those, Starts, Tickless, AsksFirst, FirstOwns, EitherInTime}
 use Rattle.arbiter.proofs.Choice.{owns-turn, turn-owns}

@@ -13,7 +13,7 @@ use Rattle.arbiter.specs.Marks.{command, write, stop}
 use Rattle.arbiter.specs.Witnesses.{number}
 use Rattle.audit.specs.SettingsKept.{bitsOf}
 use Rattle.sheets.specs.declared.Setting.{Setting}
-use Rattle.sheets.specs.Orders.{controlByte, settingEvents}
+use Rattle.sheets.specs.Settings.{controlByte, settingEvents}
 use Rattle.arbiter.proofs.Choice.{split}
 use Rattle.arbiter.proofs.Tenure.{granted-at-rest}
 use Rattle.guarantee.proofs.StartParts.{seat, unasked}

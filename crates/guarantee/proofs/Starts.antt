@@ -13,7 +13,7 @@ use Rattle.arbiter.specs.Witnesses.{number}
 use Rattle.audit.specs.WaitAsSet.{isWithin}
 use Rattle.sheets.specs.declared.Setting.{Setting}
 use Rattle.sheets.specs.declared.Order.{Order}
-use Rattle.sheets.specs.Orders.{settingEvents}
+use Rattle.sheets.specs.Settings.{settingEvents}
 use Rattle.guarantee.specs.Guarantee.{reserveIn}
 use Rattle.guarantee.specs.Starts.{isBy, those, Starts, StandsAs, StartsInAnyOrder, StartsGuarantee}
 use Rattle.arbiter.proofs.Choice.{split}

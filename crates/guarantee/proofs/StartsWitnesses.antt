@@ -20,7 +20,7 @@ use Rattle.arbiter.specs.declared.Kind.{Kind}
 use Rattle.arbiter.specs.declared.Kind.the-variants.{Pca9641, Tpt29641}
 use Rattle.arbiter.specs.declared.Raw.{Raw}
 use Rattle.audit.specs.WorstWait.{stopsAfter}
-use Rattle.sheets.specs.Orders.{controlByte, settingEvents}
+use Rattle.sheets.specs.Settings.{controlByte, settingEvents}
 use Rattle.guarantee.specs.Starts.{those}
 use Rattle.guarantee.specs.StartsWitnesses.{settingFor, reserveFor, untilBytes, askingByte, afterByte, StartsSo, startsWitnesses, StartsWitnessesMeet}
 

@@ -31,7 +31,7 @@ use Rattle.sheets.specs.declared.Setting.{Setting}
 use Rattle.sheets.specs.declared.Order.{Order}
 use Rattle.sheets.specs.declared.Wait.{Wait}
 use Rattle.sheets.specs.Sheets.{checkPair, faultNumber}
-use Rattle.sheets.specs.Orders.{isComplete, settingOf, orderOf, orderEvents}
+use Rattle.sheets.specs.Settings.{isComplete, settingOf, orderOf, orderEvents}
 use Rattle.sheets.specs.Waits.{wait, withheld, waitBehind, waitOn, onceSoundWait, waitOf}
 use Rattle.guarantee.specs.Guarantee.{reserveIn}
 use Rattle.guarantee.specs.Necessary.{waitsFrom}

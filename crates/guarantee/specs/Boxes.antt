@@ -21,7 +21,7 @@ use Rattle.arbiter.specs.declared.Event.{Event}
 use Rattle.audit.specs.SettingsKept.{bitsOf, writesAt, byteBy, writesToContr}
 use Rattle.sheets.specs.declared.Setting.{Setting}
 use Rattle.sheets.specs.declared.Order.{Order}
-use Rattle.sheets.specs.Orders.{controlByte, orderEvents}
+use Rattle.sheets.specs.Settings.{controlByte, orderEvents}
 use Rattle.guarantee.specs.Guarantee.{reserveIn}
 
 abbrev pub settingIn : Master → Order → Setting

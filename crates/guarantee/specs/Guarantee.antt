@@ -16,7 +16,7 @@ use Rattle.arbiter.specs.declared.Raw.{Raw}
 use Rattle.audit.specs.SettingsKept.{storesRt}
 use Rattle.audit.specs.WaitAsSet.{isWithin, storesBeyond, Served}
 use Rattle.sheets.specs.declared.Order.{Order}
-use Rattle.sheets.specs.Orders.{orderOf, orderEvents, orderCount, ordered, orderedBuffer}
+use Rattle.sheets.specs.Settings.{orderOf, orderEvents, orderCount, ordered, orderedBuffer}
 
 -- the reserve that is ordered for m
 abbrev pub reserveIn : Master → Order → ℕ

@@ -24,7 +24,7 @@ use Rattle.audit.specs.SettingsKept.{storesRt, writesToContr}
 use Rattle.audit.specs.WorstWait.{sendsStops}
 use Rattle.audit.specs.WaitAsSet.{isWithin, storesBeyond}
 use Rattle.sheets.specs.declared.Wait.{Wait}
-use Rattle.sheets.specs.Orders.{orderOf, orderCount, ordered, orderedBuffer}
+use Rattle.sheets.specs.Settings.{orderOf, orderCount, ordered, orderedBuffer}
 use Rattle.sheets.specs.Waits.{waitOf}
 use Rattle.guarantee.specs.Guarantee.{reserveIn}
 use Rattle.guarantee.specs.Boxes.{isContrByte}
@@ -33,8 +33,8 @@ use Rattle.guarantee.specs.Witnesses.{Pair, pairOf, room, asksFirst, sto
 -- ---- a pair, and its events
 
 -- it is complete, and orders such a reserve for m
-abbrev pub orders : Pair → Master → ℕ → List Bool
-orders x m reserve = eqb (ordered (x .board) (x .house) room .number) 0 ∷ eqb (reserveIn m (orderOf (x .board) (x .house))) reserve ∷ []
+abbrev pub ordersReserve : Pair → Master → ℕ → List Bool
+ordersReserve x m reserve = eqb (ordered (x .board) (x .house) room .number) 0 ∷ eqb (reserveIn m (orderOf (x .board) (x .house))) reserve ∷ []
 
 abbrev pub eventsOf : Pair → List Raw
 eventsOf x = rawsIn orderCount (orderedBuffer (x .board) (x .house) room)
@@ -66,7 +66,7 @@ abbrev pub reachesWithin : Kind → Pair → Master → ℕ → ℕ → List Boo
 reachesWithin k x m reserve most =
     let rs : List Raw = eventsOf x in
     let d : Device = runFrom (run k rs) (storesAnew m most) in
-    orders x m reserve ++ premisesWithin k rs m reserve most (storesAnew m most) (stopsThen m most) (most + 1)
+    ordersReserve x m reserve ++ premisesWithin k rs m reserve most (storesAnew m most) (stopsThen m most) (most + 1)
     ++ owns (partner m) (runFrom d (stopsThen m most))
     ∷ premisesWithin k rs m reserve most (storesAnew m most) (stopsThen m (most - 1)) most
     ++ not (owns (partner m) (runFrom d (stopsThen m (most - 1)))) ∷ []
@@ -88,14 +88,14 @@ abbrev pub withoutStop : Kind → Pair → Master → ℕ → List Bool
 withoutStop k x m reserve =
     let rs : List Raw = eventsOf x in
     let later : List Raw = times (reserve + 1) tick in
-    orders x m reserve ++ ltb 0 reserve ∷ not (sendsStops 0 m (runFrom (run k rs) (asksFirst m)) later)
+    ordersReserve x m reserve ++ ltb 0 reserve ∷ not (sendsStops 0 m (runFrom (run k rs) (asksFirst m)) later)
     ∷ waitsBeyond k rs m (asksFirst m) later (reserve + 1)
 
 -- a reserve of 0: one tick is passed, and m sends its STOPs
 abbrev pub withoutReserve : Kind → Pair → Master → List Bool
 withoutReserve k x m =
     let rs : List Raw = eventsOf x in
-    orders x m 0 ++ sendsStops 0 m (runFrom (run k rs) (asksFirst m)) (stopsThen m 0) ∷ waitsBeyond k rs m (asksFirst m) (stopsThen m 0) 1
+    ordersReserve x m 0 ++ sendsStops 0 m (runFrom (run k rs) (asksFirst m)) (stopsThen m 0) ∷ waitsBeyond k rs m (asksFirst m) (stopsThen m 0) 1
 
 -- ---- behind a silent holder
 
@@ -118,7 +118,7 @@ abbrev pub silentReaches : Kind → Pair → Master → List Bool
 silentReaches k x m =
     let rs : List Raw = eventsOf x in
     let d : Device = runFrom (run k rs) (again m) in
-    tells k x m 2 (limitOf k) ++ orders x m 0 ++ premisesSilent k rs m (limitOf k) ++ owns (partner m) (runFrom d (times (limitOf k) tick))
+    tells k x m 2 (limitOf k) ++ ordersReserve x m 0 ++ premisesSilent k rs m (limitOf k) ++ owns (partner m) (runFrom d (times (limitOf k) tick))
     ∷ premisesSilent k rs m (limitOf k - 1) ++ not (owns (partner m) (runFrom d (times (limitOf k - 1) tick))) ∷ []
 
 -- ---- the boxes and the next CONTR byte

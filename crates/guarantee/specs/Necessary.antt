@@ -20,7 +20,7 @@ use Rattle.audit.specs.SettingsKept.{storesRt, writesToContr}
 use Rattle.audit.specs.WorstWait.{sendsStops}
 use Rattle.audit.specs.WaitAsSet.{Served}
 use Rattle.sheets.specs.declared.Order.{Order}
-use Rattle.sheets.specs.Orders.{orderOf, orderEvents, orderCount, ordered, orderedBuffer}
+use Rattle.sheets.specs.Settings.{orderOf, orderEvents, orderCount, ordered, orderedBuffer}
 use Rattle.guarantee.specs.Guarantee.{reserveIn}
 
 -- ---- a wait of n ticks that is not over

@@ -19,8 +19,8 @@ use Rattle.arbiter.specs.declared.Raw.{Raw}
 use Rattle.arbiter.specs.declared.Event.{Event}
 use Rattle.audit.specs.SettingsKept.{bitsOf, isRt, writesAt, byteBy}
 use Rattle.sheets.specs.declared.Setting.{Setting}
-use Rattle.sheets.specs.Orders.{controlByte, settingEvents, orderEvents}
-use Rattle.sheets.specs.Started.{setting, orders}
+use Rattle.sheets.specs.Settings.{controlByte, settingEvents, orderEvents}
+use Rattle.sheets.specs.Started.{setting, orderWith}
 use Rattle.guarantee.specs.Starts.{isBy, isBetween, those}
 
 -- ---- from any device
@@ -64,7 +64,7 @@ RebootAfterWithdrawal =
 -- m owns, and its partner waits; ten ticks have passed
 abbrev pub tenTicksIn : Kind → Master → Device
 tenTicksIn k m =
-    run k (orderEvents (orders (setting 50 false false) (setting 50 false false)) ++ setsContr (partner m) 0x00 ++ setsContr (partner m) 0x01 ++ times 10 tick)
+    run k (orderEvents (orderWith (setting 50 false false) (setting 50 false false)) ++ setsContr (partner m) 0x00 ++ setsContr (partner m) 0x01 ++ times 10 tick)
 
 abbrev pub newSetting : Setting
 newSetting = setting 20 false false

@@ -22,7 +22,7 @@ use Rattle.arbiter.specs.declared.Raw.{Raw}
 use Rattle.audit.specs.SettingsKept.{bitsOf}
 use Rattle.sheets.specs.declared.Setting.{Setting}
 use Rattle.sheets.specs.declared.Order.{Order}
-use Rattle.sheets.specs.Orders.{settingEvents}
+use Rattle.sheets.specs.Settings.{settingEvents}
 use Rattle.guarantee.specs.Guarantee.{reserveIn, Guaranteed}
 
 -- ---- a start in any order

@@ -17,8 +17,8 @@ use Rattle.arbiter.specs.declared.Device.{Device}
 use Rattle.arbiter.specs.declared.Raw.{Raw}
 use Rattle.sheets.specs.declared.Setting.{Setting}
 use Rattle.sheets.specs.declared.Order.{Order}
-use Rattle.sheets.specs.Orders.{controlByte, settingEvents}
-use Rattle.sheets.specs.Started.{setting, orders}
+use Rattle.sheets.specs.Settings.{controlByte, settingEvents}
+use Rattle.sheets.specs.Started.{setting, orderWith}
 use Rattle.guarantee.specs.Guarantee.{reserveIn}
 use Rattle.guarantee.specs.Starts.{Starts, wasGranted, wasEnded, Tickless, AsksFirst}
 use Rattle.guarantee.specs.Witnesses.{reaches}
@@ -26,7 +26,7 @@ use Rattle.guarantee.specs.Witnesses.{reaches}
 -- ---- the order, and three starts by it for either controller m; p is its partner
 
 abbrev pub anOrder : Order
-anOrder = orders (setting 2 true false) (setting 3 false true)
+anOrder = orderWith (setting 2 true false) (setting 3 false true)
 
 abbrev pub settingFor : Master → Setting
 settingFor m = of m (anOrder .master0) (anOrder .master1)

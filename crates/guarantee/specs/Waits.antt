@@ -21,7 +21,7 @@ use Rattle.audit.specs.Blocking.{idlesAsOwner}
 use Rattle.audit.specs.SettingsKept.{storesRt}
 use Rattle.audit.specs.WaitAsSet.{Served}
 use Rattle.sheets.specs.declared.Wait.{Wait}
-use Rattle.sheets.specs.Orders.{orderCount, ordered, orderedBuffer}
+use Rattle.sheets.specs.Settings.{orderCount, ordered, orderedBuffer}
 use Rattle.sheets.specs.Waits.{live, silent, unbounded, waitOf}
 use Rattle.guarantee.specs.Necessary.{waitsFrom, StillWaits}
 

@@ -21,7 +21,7 @@ use Rattle.arbiter.specs.declared.Device.{Device}
 use Rattle.arbiter.specs.declared.Raw.{Raw}
 use Rattle.audit.specs.WorstWait.{sendsStops}
 use Rattle.audit.specs.SettingsKept.{storesRt}
-use Rattle.sheets.specs.Orders.{orderOf, orderCount, orderBytes, ordered, orderedBuffer}
+use Rattle.sheets.specs.Settings.{orderOf, orderCount, orderBytes, ordered, orderedBuffer}
 use Rattle.sheets.specs.Examples.{filled, empty, sheet}
 use Rattle.guarantee.specs.Guarantee.{reserveIn}
 

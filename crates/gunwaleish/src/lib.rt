@@ -15,7 +15,7 @@ ghost use Rattle.orders.specs.Call.{ordersListed, ordersBuffer};
 ghost use Rattle.rowimage.specs.Calls.{rowAnswer, rowBuffer, rowShown};
 ghost use Rattle.rowimage.specs.Slots.{freshRowNumber, freshRowBuffer};
 ghost use Rattle.sheets.specs.Sheets.{placeOf};
-ghost use Rattle.sheets.specs.Orders.{ordered, orderedBuffer};
+ghost use Rattle.sheets.specs.Settings.{ordered, orderedBuffer};
 ghost use Rattle.sheets.specs.Waits.{waitOf};
 ghost use Rattle.share.specs.Lent.{lentNumber, lentAfter, joinNumber, joinAfter};
 ghost use Rattle.watchlayout.specs.Calls;

@@ -1,13 +1,13 @@
 // Order sheets for Rust and C: where a box is taken from, what is ordered and how long a controller can wait, packed in one number.
 ghost use mathlib.Core.Path.{_≡_};
 ghost use Rattle.sheets.specs.Sheets.{placeOf};
-ghost use Rattle.sheets.specs.Orders.{ordered, orderedBuffer};
+ghost use Rattle.sheets.specs.Settings.{ordered, orderedBuffer};
 ghost use Rattle.sheets.specs.Waits.{waitOf};
 ghost use Rattle.packed_sheets.specs.Packed.{packedBox, packedOrder, packedWait};
 use packing::long_of;
 use sheets::Place;
 use sheets::lookup::place_of;
-use sheets::orders::order_events;
+use sheets::settings::order_events;
 use sheets::sheet::fault_number;
 use sheets::waits::wait_of;
 

@@ -14,7 +14,7 @@ use Rattle.arbiter.specs.Steps.{linesByte, taken, refused, runFrom, run}
 use Rattle.arbiter.specs.AuditWords.{next, reset, never}
 use Rattle.audit.specs.SettingsKept.{maskOf, writesToMask}
 use Rattle.sheets.specs.declared.Order.{Order}
-use Rattle.sheets.specs.Orders.{orderEvents}
+use Rattle.sheets.specs.Settings.{orderEvents}
 use Rattle.recovery.specs.Told.{lineOf, LineTells, SheetsMasked}
 use Rattle.arbiter.proofs.Bitwise.{same}
 use Rattle.arbiter.proofs.Cases.{step-cases}

@@ -13,7 +13,7 @@ use Rattle.arbiter.specs.Marks.{stop, generalCall}
 use Rattle.arbiter.specs.Witnesses.{number}
 use Rattle.audit.specs.Freed.{heldReset}
 use Rattle.sheets.specs.declared.Setting.{Setting}
-use Rattle.sheets.specs.Orders.{settingEvents}
+use Rattle.sheets.specs.Settings.{settingEvents}
 use Rattle.guarantee.specs.Starts.{those}
 use Rattle.recovery.specs.Recipe.{recipe, isFrom, ticksSince}
 use Rattle.arbiter.proofs.Choice.{split, if-true, if-false}

@@ -14,7 +14,7 @@ use Rattle.arbiter.specs.Marks.{command, write, stop, tick, generalCall}
 use Rattle.arbiter.specs.Witnesses.{number, allMet}
 use Rattle.audit.specs.WorstWait.{stopsAfter}
 use Rattle.sheets.specs.declared.Setting.{Setting}
-use Rattle.sheets.specs.Orders.{controlByte}
+use Rattle.sheets.specs.Settings.{controlByte}
 use Rattle.guarantee.specs.Starts.{those}
 use Rattle.recovery.specs.Recipe.{isFrom, Recovers, acceptedOf}
 use Rattle.recovery.proofs.RecipeRaws.{isAlien}

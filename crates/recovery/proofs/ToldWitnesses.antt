@@ -11,7 +11,7 @@ use Rattle.arbiter.specs.Steps.{parts, ownerByte, linesByte, byteRead, refused,
 use Rattle.arbiter.specs.AuditWords.{never, throughout}
 use Rattle.arbiter.specs.declared.Kind.the-variants.{Pca9641, Tpt29641}
 use Rattle.arbiter.specs.declared.Master.the-variants.{Zero, One}
-use Rattle.sheets.specs.Orders.{controlByte, orderEvents}
+use Rattle.sheets.specs.Settings.{controlByte, orderEvents}
 use Rattle.recovery.specs.Diagnosis.{lowPulsesIn}
 use Rattle.recovery.specs.ToldWitnesses.{toldWitnesses, ToldWitnessesMeet}
 

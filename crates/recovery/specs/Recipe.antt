@@ -13,7 +13,7 @@ use Rattle.arbiter.specs.Marks.{stop, generalCall, tick, times}
 use Rattle.arbiter.specs.Witnesses.{number}
 use Rattle.audit.specs.SettingsKept.{bitsOf}
 use Rattle.sheets.specs.declared.Setting.{Setting}
-use Rattle.sheets.specs.Orders.{settingEvents}
+use Rattle.sheets.specs.Settings.{settingEvents}
 use Rattle.guarantee.specs.Guarantee.{Guaranteed, GuaranteedWithin}
 use Rattle.guarantee.specs.Starts.{isBetween, keptIf, those}
 

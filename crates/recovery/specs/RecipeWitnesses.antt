@@ -10,7 +10,7 @@ use Rattle.arbiter.specs.AuditWords.{next, requests, resting, reserveOf, idleTi
 use Rattle.arbiter.specs.Marks.{raw, command, write, stop, pair, lines, tick, pulse, generalCall, times}
 use Rattle.arbiter.specs.Witnesses.{number, setsContr, writesContr, busStart, allMet}
 use Rattle.sheets.specs.declared.Setting.{Setting}
-use Rattle.sheets.specs.Orders.{controlByte}
+use Rattle.sheets.specs.Settings.{controlByte}
 use Rattle.guarantee.specs.Starts.{isBetween, those}
 use Rattle.guarantee.specs.Witnesses.{reaches}
 use Rattle.recovery.specs.Recipe.{recipe, isNone, Recovers, acceptedOf}

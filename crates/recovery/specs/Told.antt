@@ -10,7 +10,7 @@ use Rattle.arbiter.specs.AuditWords.{next, reset, withdrawalOf, grantTaken, gra
 use Rattle.arbiter.specs.Witnesses.{number}
 use Rattle.audit.specs.SettingsKept.{maskOf, writesToMask}
 use Rattle.sheets.specs.declared.Order.{Order}
-use Rattle.sheets.specs.Orders.{orderEvents}
+use Rattle.sheets.specs.Settings.{orderEvents}
 
 -- m, reading its INT_STATUS, sees "2 granted", and "1 lost"
 abbrev pub seesGrant : Master → Device → Bool

@@ -15,7 +15,7 @@ use Rattle.arbiter.specs.Witnesses.{number, setsRt, setsContr, writesContr, sto
 use Rattle.audit.specs.SettingsKept.{maskOf, writesToMask}
 use Rattle.mail.specs.Words.{emptyingOf}
 use Rattle.sheets.specs.Started.{setting}
-use Rattle.sheets.specs.Orders.{orderEvents}
+use Rattle.sheets.specs.Settings.{orderEvents}
 use Rattle.recovery.specs.Crash.{stalledInside}
 use Rattle.recovery.specs.Told.{seesGrant, seesLoss, lossOf, lineOf}
 use Rattle.recovery.specs.Diagnosis.{waitsAtRest, pulseOf, lowPulsesIn, ownsOn}

@@ -22,7 +22,7 @@ use Rattle.arbiter.specs.declared.Event.{Event}
 use Rattle.arbiter.specs.declared.Event.the-variants.{Command, Write, Stop}
 use Rattle.arbiter.proofs.InTime.{partner-in-time}
 use Rattle.sheets.specs.declared.Setting.{Setting}
-use Rattle.sheets.specs.Orders.{controlByte, settingEvents, orderOf, orderEvents}
+use Rattle.sheets.specs.Settings.{controlByte, settingEvents, orderOf, orderEvents}
 use Rattle.sheets.specs.Started.{InTime, StartedInTime, PairInTime, setting, PremisesMet}
 use Rattle.sheets.proofs.Complete.{events-read}
 use Rattle.sheets.proofs.Started.{table, at-each}

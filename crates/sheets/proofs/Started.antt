@@ -34,7 +34,7 @@ use Rattle.arbiter.proofs.Choice.{either, if-false}
 use Rattle.arbiter.proofs.KindKept.{limit-some}
 use Rattle.arbiter.proofs.Owner.{mid}
 use Rattle.sheets.specs.declared.Setting.{Setting}
-use Rattle.sheets.specs.Orders.{controlByte, settingEvents, orderEvents}
+use Rattle.sheets.specs.Settings.{controlByte, settingEvents, orderEvents}
 use Rattle.sheets.specs.Started.{Standing, standing, asOrdered, Outset, StandsAfterReset, StandsAtPowerUp, setting}
 
 -- ---- a function of two truth values as the table of its values

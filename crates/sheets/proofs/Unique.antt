@@ -8,7 +8,7 @@ use Rattle.arbiter.proofs.Once.{OneResult, OneLeft, once}
 use Rattle.sheets.proofs.lookup.look_up.Reads as look-up
 use Rattle.sheets.proofs.lookup.look_up_number.Reads as look-up-number
 use Rattle.sheets.proofs.lookup.place_of.Reads as place-of
-use Rattle.sheets.proofs.orders.order_events.Reads as order-events
+use Rattle.sheets.proofs.settings.order_events.Reads as order-events
 use Rattle.sheets.proofs.sheet.check_pair.Reads as check-pair
 use Rattle.sheets.proofs.sheet.fault_number.Reads as fault-number
 use Rattle.sheets.proofs.waits.wait_of.Reads as wait-of

@@ -7,7 +7,7 @@ use lib.ListN.{take, drop, replicate}
 use Rattle.sheets.specs.declared.Place.{Place}
 use Rattle.sheets.specs.Sheets.{placeOf, placeNumber, partOf}
 use Rattle.sheets.specs.declared.Wait.{Wait}
-use Rattle.sheets.specs.Orders.{ordered, orderedBuffer}
+use Rattle.sheets.specs.Settings.{ordered, orderedBuffer}
 use Rattle.sheets.specs.Waits.{waitOf}
 
 -- ---- sheets

@@ -1,5 +1,5 @@
--- What holds of every pair of sheets: which box is found, that no value comes from a box that is not ticked, and that an empty box yields no
--- event. Each is proved in proofs/, under the same name in small letters.
+-- Laws of `sheets`: what holds of every pair of sheets: which box is found, that no value comes from a box that is not ticked, and that an empty
+-- box yields no event. Each is proved in proofs/, under the same name in small letters.
 -- Assumes nothing.
 use Prim.Native.Nat.{ℕ}
 use mathlib.Core.Path.{_≡_}
@@ -15,7 +15,7 @@ use Rattle.sheets.specs.declared.Place.{Place}
 use Rattle.sheets.specs.declared.Place.the-variants.{Board, House, Refused}
 use Rattle.sheets.specs.declared.Setting.{Setting}
 use Rattle.sheets.specs.Sheets.{reserveSection, prioritySection, idleSection, boxPlace, ticked, valueOn, checkPair, isBox, faultNumber, placeOf, placeNumber, boxBytes, partOf}
-use Rattle.sheets.specs.Orders.{tickedOnEither, orderOf, orderEvents, orderCount, ordered, orderedBuffer}
+use Rattle.sheets.specs.Settings.{tickedOnEither, orderOf, orderEvents, orderCount, ordered, orderedBuffer}
 
 -- ---- looking up a box
 

@@ -1,5 +1,5 @@
 pub mod Sheets
-pub mod Orders
+pub mod Settings
 pub mod Stored
 pub mod Waits
 pub mod Laws

@@ -29,7 +29,7 @@ use Rattle.arbiter.specs.declared.Answer.{Answer}
 use Rattle.arbiter.specs.declared.Outcome.the-variants.{Done}
 use Rattle.sheets.specs.declared.Setting.{Setting}
 use Rattle.sheets.specs.declared.Order.{Order}
-use Rattle.sheets.specs.Orders.{orderOf, orderEvents, orderCount, ordered, orderedBuffer}
+use Rattle.sheets.specs.Settings.{orderOf, orderEvents, orderCount, ordered, orderedBuffer}
 
 -- ---- what the events leave
 
@@ -119,12 +119,12 @@ premises k o later t =
 abbrev pub setting : ℕ → Bool → Bool → Setting
 setting reserve priority idle = record { reserve = reserve; priority = priority; idle = idle }
 
-abbrev pub orders : Setting → Setting → Order
-orders s0 s1 = record { master0 = s0; master1 = s1 }
+abbrev pub orderWith : Setting → Setting → Order
+orderWith s0 s1 = record { master0 = s0; master1 = s1 }
 
 -- a reserve of 1, of 50 and of 255
 abbrev pub PremisesMet : Type 0
 PremisesMet =
-    (allMet (premises Pca9641 (orders (setting 1 true true) (setting 0 true true)) [] aTick) ≡ true)
-    × (allMet (premises Pca9641 (orders (setting 50 false false) (setting 20 true false)) (times 49 aTick) aTick) ≡ true)
-    × (allMet (premises Tpt29641 (orders (setting 255 false true) (setting 255 false true)) (times 254 aTick) aTick) ≡ true)
+    (allMet (premises Pca9641 (orderWith (setting 1 true true) (setting 0 true true)) [] aTick) ≡ true)
+    × (allMet (premises Pca9641 (orderWith (setting 50 false false) (setting 20 true false)) (times 49 aTick) aTick) ≡ true)
+    × (allMet (premises Tpt29641 (orderWith (setting 255 false true) (setting 255 false true)) (times 254 aTick) aTick) ≡ true)

@@ -6,7 +6,7 @@ use lib.ListN.{set}
 use Rattle.arbiter.specs.Marks.{command, write, stop}
 use Rattle.arbiter.specs.declared.Raw.{Raw}
 use Rattle.sheets.specs.declared.Setting.{Setting}
-use Rattle.sheets.specs.Orders.{controlByte}
+use Rattle.sheets.specs.Settings.{controlByte}
 
 unfoldable pub stored : List ℕ → ℕ → Raw → List ℕ
 stored l at r = set (set (set (set l at (r .kind)) (at + 1) (r .x)) (at + 2) (r .y)) (at + 3) (r .z)

@@ -16,7 +16,7 @@ use Rattle.sheets.specs.declared.Checked.the-variants.{Sound, Faulty}
 use Rattle.sheets.specs.declared.Setting.{Setting}
 use Rattle.sheets.specs.declared.Wait.{Wait}
 use Rattle.sheets.specs.Sheets.{checkPair, faultNumber}
-use Rattle.sheets.specs.Orders.{isComplete, settingOf}
+use Rattle.sheets.specs.Settings.{isComplete, settingOf}
 
 -- ---- the grades
 

@@ -1,7 +1,7 @@
 // The order sheet. Which bytes are a sheet is in `sheet`, a box looked up on a board sheet and a house sheet in `lookup`, the events that a
-// complete pair of sheets orders in `orders`, and how long each controller can wait by them in `waits`.
+// complete pair of sheets orders in `settings`, and how long each controller can wait by them in `waits`.
 pub mod lookup;
-pub mod orders;
+pub mod settings;
 pub mod sheet;
 pub mod waits;
 

@@ -8,13 +8,13 @@ use crate::Checked;
 use crate::Fault;
 use crate::Setting;
 use crate::Wait;
-use crate::orders::is_complete;
-use crate::orders::setting_of;
+use crate::settings::is_complete;
+use crate::settings::setting_of;
 use crate::sheet::check_pair;
 use crate::sheet::fault_number;
 use arbiter::Kind;
-use arbiter::PCA9641_IDLE_LIMIT;
-use arbiter::TPT29641_IDLE_LIMIT;
+use bits::wide_u16;
+use fields::limit_of;
 use format::is_kind;
 use format::kind_of;
 
@@ -33,10 +33,7 @@ fn refused(why: Fault) -> Wait
 fn idle_limit_of(kind: Kind) -> u16
     ensures { λ r. ⌜ r ≡ limitOf kind ⌝ }
 {
-    match kind {
-        Kind::Pca9641 => PCA9641_IDLE_LIMIT as u16,
-        Kind::Tpt29641 => TPT29641_IDLE_LIMIT as u16,
-    }
+    wide_u16(limit_of(kind))
 }
 
 // Behind a holder with these settings: a reserve runs out, and its STOP has one tick more; reserve 00h never does, so that only the idle timer

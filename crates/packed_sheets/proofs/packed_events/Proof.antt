@@ -3,7 +3,7 @@
 use Prim.Native.Nat.{_≤_}
 use mathlib.Core.Path.{subst, sym, ap}
 use native.Mathlib.Omega.{arith}
-use Rattle.sheets.specs.Orders.{orderCount}
+use Rattle.sheets.specs.Settings.{orderCount}
 use Rattle.sheets.specs.declared.Ordered.{Ordered}
 use Rattle.sheets.proofs.Complete.{ordered-few}
 use Rattle.packed_sheets.specs.Packed.{packedOrder}

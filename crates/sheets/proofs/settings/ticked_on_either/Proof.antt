@@ -1,10 +1,10 @@
--- `sheets::orders::ticked_on_either` meets its contract.
+-- `sheets::settings::ticked_on_either` meets its contract.
 -- Assumes nothing.
 use mathlib.Core.Path.{refl}
-use Rattle.sheets.specs.Orders.{tickedOnEither}
+use Rattle.sheets.specs.Settings.{tickedOnEither}
 use borrow.Author.Needs.{needs}
-use Rattle.sheets.proofs.orders.ticked_on_either.Statement.{statement}
-use Rattle.sheets.proofs.orders.ticked_on_either.Tie as tie
+use Rattle.sheets.proofs.settings.ticked_on_either.Statement.{statement}
+use Rattle.sheets.proofs.settings.ticked_on_either.Tie as tie
 
 shared-slice-read-result : tie.Need-shared-slice-read-result
 shared-slice-read-result c = search needs

@@ -1,10 +1,10 @@
--- `sheets::orders::order_events` meets its contract: an order that is given is stored, and one that is withheld leaves the buffer.
+-- `sheets::settings::order_events` meets its contract: an order that is given is stored, and one that is withheld leaves the buffer.
 -- Assumes nothing.
 use mathlib.Core.Path.{sym, _∙_}
 use Rattle.sheets.proofs.Complete.{given-passed, given-left, withheld-left}
 use borrow.Author.Needs.{needs}
-use Rattle.sheets.proofs.orders.order_events.Statement.{statement}
-use Rattle.sheets.proofs.orders.order_events.Tie as tie
+use Rattle.sheets.proofs.settings.order_events.Statement.{statement}
+use Rattle.sheets.proofs.settings.order_events.Tie as tie
 
 read-order-requires : tie.Need-read-order-requires
 read-order-requires c κs = search needs

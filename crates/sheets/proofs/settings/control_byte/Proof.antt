@@ -1,9 +1,9 @@
--- `sheets::orders::control_byte` meets its contract.
+-- `sheets::settings::control_byte` meets its contract.
 -- Assumes nothing.
-use Rattle.sheets.specs.Orders.{controlByte}
+use Rattle.sheets.specs.Settings.{controlByte}
 use borrow.Author.Needs.{needs}
-use Rattle.sheets.proofs.orders.control_byte.Statement.{statement}
-use Rattle.sheets.proofs.orders.control_byte.Tie as tie
+use Rattle.sheets.proofs.settings.control_byte.Statement.{statement}
+use Rattle.sheets.proofs.settings.control_byte.Tie as tie
 
 worth-of-requires : tie.Need-worth-of-requires
 worth-of-requires c κs = search needs

@@ -1,4 +1,4 @@
--- Document 02, request #106: the order of a complete pair of sheets, its twelve events, and what the call that writes them leaves.
+-- Document 02, request #106: the settings that a complete pair of sheets orders, its twelve events, and what the call that writes them leaves.
 -- Assumes nothing.
 use Prim.Native.Nat.{ℕ, _+_}
 use mathlib.Core.Bool.{Bool, not, _&&_, _||_}

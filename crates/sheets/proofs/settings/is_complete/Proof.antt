@@ -1,9 +1,9 @@
--- `sheets::orders::is_complete` meets its contract.
+-- `sheets::settings::is_complete` meets its contract.
 -- Assumes nothing.
-use Rattle.sheets.specs.Orders.{isComplete}
+use Rattle.sheets.specs.Settings.{isComplete}
 use borrow.Author.Needs.{needs}
-use Rattle.sheets.proofs.orders.is_complete.Statement.{statement}
-use Rattle.sheets.proofs.orders.is_complete.Tie as tie
+use Rattle.sheets.proofs.settings.is_complete.Statement.{statement}
+use Rattle.sheets.proofs.settings.is_complete.Tie as tie
 
 ticked-on-either-requires : tie.Need-ticked-on-either-requires
 ticked-on-either-requires c κs = search needs

@@ -1,10 +1,10 @@
--- `sheets::orders::put_order` meets its contract.
+-- `sheets::settings::put_order` meets its contract.
 -- Assumes nothing.
 use native.Mathlib.Omega.{arith}
 use Rattle.sheets.proofs.Complete.{order-stored}
 use borrow.Author.Needs.{needs}
-use Rattle.sheets.proofs.orders.put_order.Statement.{statement}
-use Rattle.sheets.proofs.orders.put_order.Tie as tie
+use Rattle.sheets.proofs.settings.put_order.Statement.{statement}
+use Rattle.sheets.proofs.settings.put_order.Tie as tie
 
 put-setting-requires : tie.Need-put-setting-requires
 put-setting-requires c κs = search needs

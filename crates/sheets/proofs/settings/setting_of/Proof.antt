@@ -1,9 +1,9 @@
--- `sheets::orders::setting_of` meets its contract.
+-- `sheets::settings::setting_of` meets its contract.
 -- Assumes nothing.
-use Rattle.sheets.specs.Orders.{settingOf}
+use Rattle.sheets.specs.Settings.{settingOf}
 use borrow.Author.Needs.{needs}
-use Rattle.sheets.proofs.orders.setting_of.Statement.{statement}
-use Rattle.sheets.proofs.orders.setting_of.Tie as tie
+use Rattle.sheets.proofs.settings.setting_of.Statement.{statement}
+use Rattle.sheets.proofs.settings.setting_of.Tie as tie
 
 mul-value-at : tie.Need-mul-value-at
 mul-value-at c = search needs

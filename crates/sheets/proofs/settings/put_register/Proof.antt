@@ -1,9 +1,9 @@
--- `sheets::orders::put_register` meets its contract.
+-- `sheets::settings::put_register` meets its contract.
 -- Assumes nothing.
 use Rattle.sheets.proofs.Complete.{register-stored}
 use borrow.Author.Needs.{needs}
-use Rattle.sheets.proofs.orders.put_register.Statement.{statement}
-use Rattle.sheets.proofs.orders.put_register.Tie as tie
+use Rattle.sheets.proofs.settings.put_register.Statement.{statement}
+use Rattle.sheets.proofs.settings.put_register.Tie as tie
 
 put-event-requires : tie.Need-put-event-requires
 put-event-requires c κs = search needs

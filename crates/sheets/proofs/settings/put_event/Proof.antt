@@ -1,12 +1,12 @@
--- `sheets::orders::put_event` meets its contract.
+-- `sheets::settings::put_event` meets its contract.
 -- Assumes nothing.
 use mathlib.Core.Path.{refl}
 use native.Mathlib.Omega.{arith}
 use lib.ListN.{length-set}
 use Rattle.sheets.specs.Stored.{stored}
 use borrow.Author.Needs.{needs}
-use Rattle.sheets.proofs.orders.put_event.Statement.{statement}
-use Rattle.sheets.proofs.orders.put_event.Tie as tie
+use Rattle.sheets.proofs.settings.put_event.Statement.{statement}
+use Rattle.sheets.proofs.settings.put_event.Tie as tie
 
 slice-write-events : tie.Need-slice-write-events
 slice-write-events c = search needs

@@ -1,11 +1,11 @@
--- `sheets::orders::read_order` meets its contract.
+-- `sheets::settings::read_order` meets its contract.
 -- Assumes nothing.
 use mathlib.Core.Path.{sym, _∙_}
-use Rattle.sheets.specs.Orders.{readOrder}
+use Rattle.sheets.specs.Settings.{readOrder}
 use Rattle.sheets.proofs.Sound.{pair-long}
 use borrow.Author.Needs.{needs}
-use Rattle.sheets.proofs.orders.read_order.Statement.{statement}
-use Rattle.sheets.proofs.orders.read_order.Tie as tie
+use Rattle.sheets.proofs.settings.read_order.Statement.{statement}
+use Rattle.sheets.proofs.settings.read_order.Tie as tie
 
 check-pair-requires : tie.Need-check-pair-requires
 check-pair-requires c κs = search needs

@@ -1,9 +1,9 @@
--- `sheets::orders::put_setting` meets its contract.
+-- `sheets::settings::put_setting` meets its contract.
 -- Assumes nothing.
 use Rattle.sheets.proofs.Complete.{setting-stored}
 use borrow.Author.Needs.{needs}
-use Rattle.sheets.proofs.orders.put_setting.Statement.{statement}
-use Rattle.sheets.proofs.orders.put_setting.Tie as tie
+use Rattle.sheets.proofs.settings.put_setting.Statement.{statement}
+use Rattle.sheets.proofs.settings.put_setting.Tie as tie
 
 control-byte-requires : tie.Need-control-byte-requires
 control-byte-requires c κs = search needs

@@ -1,9 +1,9 @@
--- `sheets::orders::order_of` meets its contract.
+-- `sheets::settings::order_of` meets its contract.
 -- Assumes nothing.
-use Rattle.sheets.specs.Orders.{orderOf}
+use Rattle.sheets.specs.Settings.{orderOf}
 use borrow.Author.Needs.{needs}
-use Rattle.sheets.proofs.orders.order_of.Statement.{statement}
-use Rattle.sheets.proofs.orders.order_of.Tie as tie
+use Rattle.sheets.proofs.settings.order_of.Statement.{statement}
+use Rattle.sheets.proofs.settings.order_of.Tie as tie
 
 setting-of-requires : tie.Need-setting-of-requires
 setting-of-requires c κs = search needs

@@ -1,11 +1,12 @@
-// The order of a complete pair of sheets, and its twelve events.
+// The settings that a complete pair of sheets orders for both masters, and the twelve events of that order. (`orders` is the crate of request
+// #109: the orders of two scripts.)
 ghost use Prim.Native.Nat.{_+_, _≤_, _<_};
 ghost use mathlib.Core.Path.{_≡_};
 ghost use mathlib.Core.List.{_++_};
 ghost use lib.ListN.{length, drop};
 ghost use Rattle.arbiter.specs.Marks.{raw};
 ghost use Rattle.arbiter.specs.Writing.{rawsBytes};
-ghost use Rattle.sheets.specs.Orders.{tickedOnEither, isComplete, valueAt, settingOf, orderOf, readComplete, readOrder, controlByte, orderEvents, ordered, orderedBuffer};
+ghost use Rattle.sheets.specs.Settings.{tickedOnEither, isComplete, valueAt, settingOf, orderOf, readComplete, readOrder, controlByte, orderEvents, ordered, orderedBuffer};
 ghost use Rattle.sheets.specs.Stored.{stored, storedRegister, storedSetting};
 use crate::Checked;
 use crate::Fault;

@@ -1,10 +1,10 @@
--- `sheets::orders::read_complete` meets its contract.
+-- `sheets::settings::read_complete` meets its contract.
 -- Assumes nothing.
 use borrow.Author.Tests.{le-ltb, lt-ltb}
-use Rattle.sheets.specs.Orders.{readComplete}
+use Rattle.sheets.specs.Settings.{readComplete}
 use borrow.Author.Needs.{needs}
-use Rattle.sheets.proofs.orders.read_complete.Statement.{statement}
-use Rattle.sheets.proofs.orders.read_complete.Tie as tie
+use Rattle.sheets.proofs.settings.read_complete.Statement.{statement}
+use Rattle.sheets.proofs.settings.read_complete.Tie as tie
 
 is-complete-requires : tie.Need-is-complete-requires
 is-complete-requires c κs = search needs

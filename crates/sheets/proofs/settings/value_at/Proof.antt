@@ -1,10 +1,10 @@
--- `sheets::orders::value_at` meets its contract.
+-- `sheets::settings::value_at` meets its contract.
 -- Assumes nothing.
 use borrow.Author.Tests.{eq-eqb, ne-eqb}
-use Rattle.sheets.specs.Orders.{valueAt}
+use Rattle.sheets.specs.Settings.{valueAt}
 use borrow.Author.Needs.{needs}
-use Rattle.sheets.proofs.orders.value_at.Statement.{statement}
-use Rattle.sheets.proofs.orders.value_at.Tie as tie
+use Rattle.sheets.proofs.settings.value_at.Statement.{statement}
+use Rattle.sheets.proofs.settings.value_at.Tie as tie
 
 shared-slice-read-if1 : tie.Need-shared-slice-read-if1
 shared-slice-read-if1 c = search needs
