@@ -7,9 +7,8 @@ ghost use mathlib.Core.Bool.{true, false};
 ghost use mathlib.Core.List.{List, _++_};
 ghost use lib.ListN.{length, drop};
 ghost use Rattle.arbiter.specs.Steps.{step, runFrom, answersFrom};
-ghost use Rattle.arbiter.specs.Traces.{eventBytes, rawsIn, kindNumber, readKind, readCounted, readTrace, refusalNumber, readNumber, bytesOf, report, bufferAfter, ran, bufferRan};
+ghost use Rattle.arbiter.specs.Traces.{eventBytes, rawsIn, readKind, readCounted, readTrace, readNumber, bytesOf, report, bufferAfter, ran, bufferRan};
 ghost use Rattle.light.specs.Light.{Settled};
-ghost use Rattle.quiet.specs.Counts.{least};
 ghost use Rattle.traces.specs.Bodies.{kindRead, ranWith, reportWith, headOf};
 ghost use Rattle.traces.specs.Ticks.{isTickRaw, AllTicks, withSame};
 use arbiter::Answer;
@@ -22,6 +21,8 @@ use arbiter::Report;
 use arbiter::Stepped;
 use arbiter::Strapped;
 use arbiter::TraceRead;
+use bits::least_usize;
+use bits::wide_u32;
 use fields::rolls_over;
 use format::EVENT_BYTES;
 use format::HEAD_BYTES;
@@ -35,11 +36,12 @@ use format::events_end;
 use format::events_in;
 use format::is_kind;
 use format::kind_at;
+use format::kind_byte;
 use format::kind_count_at;
-use format::kind_number;
 use format::kind_of;
 use format::pins_in;
 use format::put_answer;
+use format::refusal_number;
 use format::whole_bytes;
 use ports::commanded_side;
 use ports::stopped_side;
@@ -165,23 +167,11 @@ pub fn read_trace(t: &[u8], room: usize) -> TraceRead
 
 // ---- running
 
-fn wide(x: u8) -> u32
-    ensures { λ r. ⌜ (r ≡ x) × (r < 256) ⌝ }
-{
-    x as u32
-}
-
 // The four bytes as one number, low first: one load and one test in machine code.
 fn is_tick(r: Raw) -> bool
     ensures { λ t. ⌜ t ≡ isTickRaw r ⌝ }
 {
-    wide(r.kind) + 256 * wide(r.x) + 65536 * wide(r.y) + 16777216 * wide(r.z) == 6
-}
-
-fn least_of(x: usize, y: usize) -> usize
-    ensures { λ r. ⌜ r ≡ least x y ⌝ }
-{
-    if x < y { x } else { y }
+    wide_u32(r.kind) + 256 * wide_u32(r.x) + 65536 * wide_u32(r.y) + 16777216 * wide_u32(r.z) == 6
 }
 
 // Event i and the TICKs right after it, up to event last, answered alike: the event that they end at.
@@ -359,7 +349,7 @@ fn play(settled: bool, from: Device, events: &[u8], answers: &mut [u8], n: usize
                     let d = device_of(kind, s0, s1, bus, arb);
                     let k = settled_ticks(d);
                     if k == 0 {} else {
-                        let last = i + least_of(k as usize, n - i);
+                        let last = i + least_usize(k as usize, n - i);
                         let j = play_ticks(
                             events,
                             answers,
@@ -496,20 +486,6 @@ pub fn run_events(d: Device, events: &[u8], answers: &mut [u8]) -> Ran
     run_from(is_settled(d), d, events, answers)
 }
 
-fn refusal_number(r: Refusal) -> u8
-    ensures { λ n. ⌜ n ≡ refusalNumber r ⌝ }
-{
-    match r {
-        Refusal::TraceCut => 5,
-        Refusal::TooManyEvents => 6,
-        Refusal::BytesAfterEnd => 7,
-        Refusal::BadStraps => 8,
-        Refusal::NoRoom => 9,
-        Refusal::BadCount => 10,
-        Refusal::UnknownPart => 3,
-    }
-}
-
 fn reported(number: u8, address: u8, events: usize, device: Device) -> Report
     ensures { λ r. ⌜ r ≡ reportWith number address events device ⌝ }
 {
@@ -539,13 +515,6 @@ pub fn run_trace(t: &[u8], out: &mut [u8]) -> Report
     }
 }
 
-fn device_kind(d: Device) -> u8
-    ensures { λ r. ⌜ r ≡ kindNumber (d .kind) ⌝ }
-{
-    let kind = d.kind;
-    kind_number(kind)
-}
-
 // The same without the device, for callers that want the answers alone: the step is faster where nobody asks for the last state.
 pub fn answer_trace(t: &[u8], out: &mut [u8]) -> Head
     ensures { λ r. ⌜ (r ≡ headOf (report (now (t .entry)) (now (out .entry)))) × (now (out .exit) ≡ bufferAfter (now (t .entry)) (now (out .entry))) ⌝ }
@@ -555,6 +524,6 @@ pub fn answer_trace(t: &[u8], out: &mut [u8]) -> Head
         number: r.number,
         address: r.address,
         events: r.events,
-        kind: device_kind(r.device),
+        kind: kind_byte(r.device),
     }
 }

@@ -17,7 +17,6 @@ ghost use Rattle.traces.specs.Sides.{kindTold, byteIsLight, linesShown, 
 use arbiter::Answer;
 use arbiter::Arbitration;
 use arbiter::Bus;
-use arbiter::Control;
 use arbiter::Device;
 use arbiter::HOLD_TICKS;
 use arbiter::Kind;
@@ -38,6 +37,9 @@ use bus::sda_high;
 use bus::settled_bus;
 use connection::initialises;
 use events::acknowledged_number;
+use fields::claims_turn;
+use fields::is_connect;
+use fields::master_of;
 use fields::owns_turn;
 use fields::pointer_of;
 use fields::port_of;
@@ -132,12 +134,6 @@ pub(crate) fn unread_number(r: Raw) -> u8
     }
 }
 
-fn master_at(x: u8) -> Master
-    ensures { λ m. ⌜ m ≡ master x ⌝ }
-{
-    if x == 0 { Master::Zero } else { Master::One }
-}
-
 fn partner_at(x: u8) -> Master
     ensures { λ m. ⌜ m ≡ partner (master x) ⌝ }
 {
@@ -146,20 +142,10 @@ fn partner_at(x: u8) -> Master
 
 // ---- the turn, as a master finds it
 
-fn claims_by(m: Master, t: Turn) -> bool
-    ensures { λ r. ⌜ r ≡ claimsTurn m t ⌝ }
-{
-    match t {
-        Turn::Nobody => false,
-        Turn::Claims(k, _) => same_master(m, k),
-        Turn::Owns(_, _) => false,
-    }
-}
-
 fn claims_at(x: u8, a: Arbitration) -> bool
     ensures { λ r. ⌜ r ≡ claimsTurn (master x) (a .turn) ⌝ }
 {
-    claims_by(master_at(x), turn_of(a))
+    claims_turn(master_of(x), turn_of(a))
 }
 
 // A STOP of this master brings it the grant: it claims, and SCL is not held.
@@ -172,7 +158,7 @@ pub(crate) fn is_granted_at_rest(x: u8, b: Bus, a: Arbitration) -> bool
 pub(crate) fn granted_at(x: u8, a: Arbitration) -> bool
     ensures { λ r. ⌜ r ≡ ownsTurn (master x) (a .turn) ⌝ }
 {
-    owns_turn(master_at(x), turn_of(a))
+    owns_turn(master_of(x), turn_of(a))
 }
 
 fn partner_granted_at(x: u8, a: Arbitration) -> bool
@@ -226,19 +212,13 @@ fn byte_is_light(at: Register, m: Master, granted: bool, v: u8, t: Turn, connect
     }
 }
 
-fn is_connect(c: Control) -> bool
-    ensures { λ r. ⌜ r ≡ c .busconnect ⌝ }
-{
-    c.busconnect
-}
-
 // A byte of this master, whose side is s, moves neither turn nor drives.
 pub(crate) fn writes_lightly(x: u8, v: u8, a: Arbitration, s: Side) -> bool
     ensures { λ r. ⌜ r ≡ byteIsLight (s .pointer) (master x) (ownsTurn (master x) (a .turn)) v (a .turn) (s .contr .busconnect) ⌝ }
 {
     let granted = granted_at(x, a);
     let connect = is_connect(s.contr);
-    byte_is_light(pointer_of(s), master_at(x), granted, v, turn_of(a), connect)
+    byte_is_light(pointer_of(s), master_of(x), granted, v, turn_of(a), connect)
 }
 
 // The partner's side o after a byte that was written at the pointer of s.

@@ -658,21 +658,21 @@ device-of-requires c κs = search needs
 settled-ticks-requires : tie.Need-settled-ticks-requires Inv-loop μ-loop
 settled-ticks-requires c κs = search needs
 
-cast-least-of : tie.Need-cast-least-of Inv-loop μ-loop
-cast-least-of c = omega arith
+cast-least-usize : tie.Need-cast-least-usize Inv-loop μ-loop
+cast-least-usize c = omega arith
 
-sub-least-of : tie.Need-sub-least-of Inv-loop μ-loop
-sub-least-of c = omega arith
+sub-least-usize : tie.Need-sub-least-usize Inv-loop μ-loop
+sub-least-usize c = omega arith
 
-least-of-requires : tie.Need-least-of-requires Inv-loop μ-loop
-least-of-requires c κs = search needs
+least-usize-requires : tie.Need-least-usize-requires Inv-loop μ-loop
+least-usize-requires c κs = search needs
 
 add-last : tie.Need-add-last Inv-loop μ-loop
 add-last c =
     let at = c .before .before .before .before .before .before .before .before .before .before .before .before .before .loop in
     let given = c .before .before .before .before .before .before .before .before .before .before .before .before .before .before .before .before .before .before .before .before .before .before .args in
     let ahead = c .before .before .settled-ticks in
-    let few = c .least-of in
+    let few = c .least-usize in
     let within = c .before .before .before .before .before .before .before .before .before .before .before .before .loop-test .taken in
     let least = least-both (ahead .result) (given .n - at .i) (few .result) (few .ensures) in
     omega (arith, least .1, within, c .before .before .before .before .before .before .before .before .before .before .before .before .before .before .before .before .before .before .before .before .before .before .good .1 .1 .1 .1)
@@ -685,7 +685,7 @@ play-ticks-requires c κs =
     let at = c .before .before .before .before .before .before .before .before .before .before .before .before .before .before .before .loop in
     let given = c .before .before .before .before .before .before .before .before .before .before .before .before .before .before .before .before .before .before .before .before .before .before .before .before .args in
     let ahead = c .before .before .before .before .settled-ticks in
-    let few = c .before .before .least-of in
+    let few = c .before .before .least-usize in
     let within = c .before .before .before .before .before .before .before .before .before .before .before .before .before .before .loop-test .taken in
     let least = least-both (ahead .result) (given .n - at .i) (few .result) (few .ensures) in
     let some : 1 ≤ given .n - at .i = omega (arith, within) in
@@ -699,7 +699,7 @@ cast-after-ticks c =
     let at = c .before .before .before .before .before .before .before .before .before .before .before .before .before .before .before .before .before .before .loop in
     let given = c .before .before .before .before .before .before .before .before .before .before .before .before .before .before .before .before .before .before .before .before .before .before .before .before .before .before .before .args in
     let ahead = c .before .before .before .before .before .before .before .settled-ticks in
-    let few = c .before .before .before .before .before .least-of in
+    let few = c .before .before .before .before .before .least-usize in
     let within = c .before .before .before .before .before .before .before .before .before .before .before .before .before .before .before .before .before .loop-test .taken in
     let least = least-both (ahead .result) (given .n - at .i) (few .result) (few .ensures) in
     omega (arith, c .before .before .play-ticks .ensures .1, least .0, ahead .ok)
@@ -726,7 +726,7 @@ loop-again-11 c =
     let tick = sym (c .before .before .before .before .before .before .before .before .before .before .before .before .before .before .before .is-tick .ensures) ∙ c .before .before .before .before .before .before .before .before .before .before .before .before .before .before .if15 .taken in
     let whole = c .before .before .before .before .before .before .before .before .before .before .before .device-of in
     let ahead = c .before .before .before .before .before .before .before .before .before .before .settled-ticks in
-    let few = c .before .before .before .before .before .before .before .before .least-of in
+    let few = c .before .before .before .before .before .before .before .before .least-usize in
     let played = c .before .before .before .before .before .play-ticks in
     let moved = c .before .before .after-ticks in (
       two,
@@ -1175,9 +1175,9 @@ play-spec =
     array-copy-out-s1-5
     device-of-requires
     settled-ticks-requires
-    cast-least-of
-    sub-least-of
-    least-of-requires
+    cast-least-usize
+    sub-least-usize
+    least-usize-requires
     add-last
     answer-kept-requires-11
     play-ticks-requires

@@ -13,8 +13,8 @@ is-connect-requires c κs = search needs
 pointer-of-requires : tie.Need-pointer-of-requires
 pointer-of-requires c κs = search needs
 
-master-at-requires : tie.Need-master-at-requires
-master-at-requires c κs = search needs
+master-of-requires : tie.Need-master-of-requires
+master-of-requires c κs = search needs
 
 turn-of-requires : tie.Need-turn-of-requires
 turn-of-requires c κs = search needs
@@ -27,11 +27,11 @@ returns c =
     simp (
       c .byte-is-light .ensures,
       c .before .turn-of .ensures,
-      c .before .before .master-at .ensures,
+      c .before .before .master-of .ensures,
       c .before .before .before .pointer-of .ensures,
       c .before .before .before .before .is-connect .ensures,
       c .before .before .before .before .before .granted-at .ensures,
     )
 
 pub writes-lightly-spec : {M : Type 1} → statement M
-writes-lightly-spec = tie.close (tie.spec granted-at-requires is-connect-requires pointer-of-requires master-at-requires turn-of-requires byte-is-light-requires returns)
+writes-lightly-spec = tie.close (tie.spec granted-at-requires is-connect-requires pointer-of-requires master-of-requires turn-of-requires byte-is-light-requires returns)
