@@ -4,7 +4,6 @@ ghost use Prim.Native.Nat.{_+_, _-_, _*_, _<_, _≤_};
 ghost use mathlib.Core.Path.{_≡_};
 ghost use lib.ListN.{length};
 ghost use Rattle.arbiter.specs.Words.{if_then_else_, worth};
-ghost use Rattle.arbiter.specs.State.{closedFor};
 ghost use Rattle.arbiter.specs.Traces.{eventBytes, mostEvents, rawsIn};
 ghost use Rattle.format.specs.Places.{eventAt};
 ghost use Rattle.quiet.specs.Quiet.{quietTicks};
@@ -17,9 +16,8 @@ use crate::Tally;
 use arbiter::Device;
 use arbiter::Master;
 use arbiter::Raw;
-use arbiter::Switch;
+use fields::closed_for;
 use fields::owns_turn;
-use fields::same_master;
 use fields::switch_of;
 use fields::turn_of;
 use format::EVENT_BYTES;
@@ -31,16 +29,6 @@ use step::step_device;
 use traces::run_events;
 
 // ---- one state
-
-fn closed_for(m: Master, s: Switch) -> bool
-    ensures { λ r. ⌜ r ≡ closedFor m s ⌝ }
-{
-    match s {
-        Switch::Apart => false,
-        Switch::Initialising(_, _) => false,
-        Switch::Closed(k) => same_master(m, k),
-    }
-}
 
 fn see(d: Device) -> Seen
     ensures { λ r. ⌜ r ≡ seenOf d ⌝ }

@@ -4,17 +4,17 @@ mod counting;
 pub mod lent;
 
 ghost use mathlib.Core.Path.{_≡_};
-ghost use Rattle.arbiter.specs.Words.{worth};
-ghost use Rattle.arbiter.specs.Traces.{refusalNumber, readNumber};
+ghost use Rattle.arbiter.specs.Traces.{readNumber};
 ghost use Rattle.share.specs.Numbers.{plus, larger};
 ghost use Rattle.share.specs.Share.{refusedBy, noTotals, readAlone, totalsOf, together, addedWith, added, joined};
 ghost use Rattle.share.specs.Walk.{shares};
 use arbiter::Device;
-use arbiter::Refusal;
 use arbiter::TraceRead;
+use bits::one_if_u64;
 use counting::count_events;
 use format::ANSWER_ROOM;
 use format::HEAD_BYTES;
+use format::refusal_number;
 use step::fresh;
 use traces::read_trace;
 
@@ -139,12 +139,6 @@ fn shares_in(t: Tally) -> Totals
     }
 }
 
-fn one_if(test: bool) -> u64
-    ensures { λ r. ⌜ r ≡ worth 1 test ⌝ }
-{
-    if test { 1 } else { 0 }
-}
-
 fn refused_by(number: u8) -> Totals
     ensures { λ r. ⌜ r ≡ refusedBy number ⌝ }
 {
@@ -160,12 +154,12 @@ fn refused_by(number: u8) -> Totals
         waited1: 0,
         longest0: 0,
         longest1: 0,
-        refused3: one_if(number == 3),
-        refused5: one_if(number == 5),
-        refused6: one_if(number == 6),
-        refused7: one_if(number == 7),
-        refused8: one_if(number == 8),
-        refused10: one_if(number == 10),
+        refused3: one_if_u64(number == 3),
+        refused5: one_if_u64(number == 5),
+        refused6: one_if_u64(number == 6),
+        refused7: one_if_u64(number == 7),
+        refused8: one_if_u64(number == 8),
+        refused10: one_if_u64(number == 10),
     }
 }
 
@@ -210,20 +204,6 @@ fn put_together(x: Totals, y: Totals) -> Totals
 
 // ---- the call
 
-fn number_of(r: Refusal) -> u8
-    ensures { λ n. ⌜ n ≡ refusalNumber r ⌝ }
-{
-    match r {
-        Refusal::TraceCut => 5,
-        Refusal::TooManyEvents => 6,
-        Refusal::BytesAfterEnd => 7,
-        Refusal::BadStraps => 8,
-        Refusal::NoRoom => 9,
-        Refusal::BadCount => 10,
-        Refusal::UnknownPart => 3,
-    }
-}
-
 fn added_with(totals: Totals, number: u8) -> Added
     ensures { λ r. ⌜ r ≡ addedWith totals number ⌝ }
 {
@@ -237,7 +217,7 @@ fn totals_of(t: &[u8]) -> Added
     let read = read_trace(t, ANSWER_ROOM);
     match read {
         TraceRead::Refused(why) => {
-            let number = number_of(why);
+            let number = refusal_number(why);
             added_with(refused_by(number), number)
         }
         TraceRead::Accepted(_, n, kind) => {

@@ -12,8 +12,8 @@ read-trace-requires c κs = search needs
 enum-known-read : tie.Need-enum-known-read
 enum-known-read c = search needs
 
-number-of-requires : tie.Need-number-of-requires
-number-of-requires c κs = search needs
+refusal-number-requires : tie.Need-refusal-number-requires
+refusal-number-requires c κs = search needs
 
 refused-by-requires : tie.Need-refused-by-requires
 refused-by-requires c κs = search needs
@@ -55,7 +55,7 @@ returns : tie.Need-returns
 returns c =
     let told = c .before .before .before .before in
     let h = sym (told .before .before .read-trace .ensures .0) ∙ told .read .given .1 in
-    simp (c .added-with .ensures, c .before .refused-by .ensures, c .before .before .number-of .ensures) (own-refused _ _ h)
+    simp (c .added-with .ensures, c .before .refused-by .ensures, c .before .before .refusal-number .ensures) (own-refused _ _ h)
 
 returns-2 : tie.Need-returns-2
 returns-2 c =
@@ -71,7 +71,7 @@ totals-of-spec =
     (tie.spec
     read-trace-requires
     enum-known-read
-    number-of-requires
+    refusal-number-requires
     refused-by-requires
     added-with-requires
     enum-known-read-2
