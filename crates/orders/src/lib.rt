@@ -7,10 +7,11 @@ ghost use Rattle.arbiter.specs.Steps.{ownerByte};
 ghost use Rattle.arbiter.specs.Traces.{eventBytes, rawIn};
 ghost use Rattle.arbiter.specs.declared.Kind.the-variants.{Pca9641};
 ghost use Rattle.orders.specs.Orders.{numberOfOrders};
-ghost use Rattle.orders.specs.Call.{mostScripted, smaller, scriptIn, listedWith, ordersListed, ordersBuffer};
+ghost use Rattle.orders.specs.Call.{mostScripted, scriptIn, listedWith, ordersListed, ordersBuffer};
 ghost use Rattle.orders.specs.Walk.{reachedWith, reached, bytesFrom, pour};
 use arbiter::Device;
 use arbiter::Kind;
+use bits::least_usize;
 use format::EVENT_BYTES;
 use format::event_at;
 use step::fresh;
@@ -45,12 +46,6 @@ fn orders_of(m: usize, n: usize) -> usize
         return 1;
     }
     orders_of(m - 1, n) + orders_of(m, n - 1)
-}
-
-fn smaller_of(a: usize, b: usize) -> usize
-    ensures { λ r. ⌜ r ≡ smaller a b ⌝ }
-{
-    if a < b { a } else { b }
 }
 
 // ---- through the orders
@@ -129,7 +124,7 @@ pub fn list_orders(script0: &[u8], script1: &[u8], limit: usize, out: &mut [u8])
         if (MOST_SCRIPTED < m) | (MOST_SCRIPTED < n) {
             return refused(6);
         }
-        let count = smaller_of(limit, orders_of(m, n));
+        let count = least_usize(limit, orders_of(m, n));
         if out.len() < count {
             return refused(9);
         }

@@ -24,8 +24,8 @@ returns c =
 orders-of-requires : tie.Need-orders-of-requires
 orders-of-requires c κs = let s = c .before .before .before .before .before .args in not-long (s .script0 .now) (s .script1 .now) (c .if2 .left)
 
-smaller-of-requires : tie.Need-smaller-of-requires
-smaller-of-requires c κs = search needs
+least-usize-requires : tie.Need-least-usize-requires
+least-usize-requires c κs = search needs
 
 refused-requires-2 : tie.Need-refused-requires-2
 refused-requires-2 c κs = search needs
@@ -37,7 +37,7 @@ returns-2 c =
     let short = orders .before in
     let fours = short .before in
     let s = fours .before .before .before .before .args in
-    let count = room .before .smaller-of .ensures ∙ ap (smaller (s .limit)) (orders .orders-of .ensures) in
+    let count = room .before .least-usize .ensures ∙ ap (smaller (s .limit)) (orders .orders-of .ensures) in
     let left =
     no-room (s .script0 .now) (s .script1 .now) (s .limit) (s .out .now) (fours .if1 .taken) (short .if2 .left)
     (subst (λ (n : ℕ). length (s .out .now) < n) count (room .if3 .taken)) in
@@ -64,7 +64,7 @@ returns-3 c =
     let short = orders .before in
     let fours = short .before in
     let s = fours .before .before .before .before .args in
-    let count = room .before .smaller-of .ensures ∙ ap (smaller (s .limit)) (orders .orders-of .ensures) in
+    let count = room .before .least-usize .ensures ∙ ap (smaller (s .limit)) (orders .orders-of .ensures) in
     all-listed (s .script0 .now) (s .script1 .now) (s .limit) (s .out .now) (fours .if1 .taken) (short .if2 .left)
     _ _ _ _ count (room .if3 .left) (fresh .start .ensures) (listed .list-from .ensures)
 
@@ -81,7 +81,7 @@ list-orders-spec =
     refused-requires
     returns
     orders-of-requires
-    smaller-of-requires
+    least-usize-requires
     refused-requires-2
     returns-2
     start-requires
