@@ -23,6 +23,8 @@ use advance::MOST_TICKS;
 use advance::changes::same_shown;
 use arbiter::Device;
 use arbiter::Raw;
+use bits::least_u16;
+use bits::one_if_u32;
 use bytes::copy;
 use check::same;
 use image::image_number;
@@ -43,17 +45,11 @@ fn told_with(number: u8, reported: u32) -> Told
 
 // ---- quiet ticks
 
-fn least_of(x: u16, y: u16) -> u16
-    ensures { λ r. ⌜ r ≡ least x y ⌝ }
-{
-    if x < y { x } else { y }
-}
-
 // So many of the ticks that are left are quiet.
 fn quiet_in(image: &[u8], left: u16) -> u16
     ensures { λ r. ⌜ r ≡ least (quietTicks (deviceIn (now (image .entry)))) left ⌝ }
 {
-    least_of(quiet_ticks(read_image(image)), left)
+    least_u16(quiet_ticks(read_image(image)), left)
 }
 
 fn counts_of(d: Device) -> [u8; 7]
@@ -101,12 +97,6 @@ fn is_changed_in(before: &[u8], after: &[u8]) -> bool
     !(first & rest & shows_alike(read_image(before), read_image(after)))
 }
 
-fn one_if(changed: bool) -> u32
-    ensures { λ r. ⌜ (r ≡ worth 1 changed) × (r ≤ 1) ⌝ }
-{
-    if changed { 1 } else { 0 }
-}
-
 // One tick: 1 if it changed anything but counts, and else 0.
 fn tick_on(image: &mut [u8]) -> u32
     requires { ⌜ (isImage (now image) ≡ true) × (length (now image) ≡ imageLength) ⌝ }
@@ -123,7 +113,7 @@ fn tick_on(image: &mut [u8]) -> u32
             z: 0,
         },
     );
-    one_if(is_changed_in(&before, image))
+    one_if_u32(is_changed_in(&before, image))
 }
 
 // ---- all of them

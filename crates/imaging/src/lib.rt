@@ -5,9 +5,8 @@ ghost use Prim.Native.Nat.{_+_, _/_, _%_, _<_};
 ghost use mathlib.Core.Path.{_≡_};
 ghost use mathlib.Core.Bool.{true, false};
 ghost use lib.ListN.{length};
-ghost use Rattle.arbiter.specs.Registers.{registerNumber, contrByte};
+ghost use Rattle.arbiter.specs.Registers.{contrByte};
 ghost use Rattle.arbiter.specs.Steps.{step};
-ghost use Rattle.arbiter.specs.Traces.{kindNumber};
 ghost use Rattle.ranges.specs.Ranges.{pulses, portNumber, lastNumber, turnNumber, stateNumber};
 ghost use Rattle.arbiter.specs.declared.Turn.the-variants.{Claims, Owns};
 ghost use Rattle.layout.specs.Layout.{imageLength, imageOf, deviceIn};
@@ -20,7 +19,6 @@ use arbiter::Last;
 use arbiter::Master;
 use arbiter::Port;
 use arbiter::Raw;
-use arbiter::Register;
 use arbiter::Switch;
 use arbiter::Turn;
 use bits::byte_of;
@@ -29,10 +27,11 @@ use bytes::copy;
 use fields::last_of;
 use fields::pointer_of;
 use fields::port_of;
+use fields::register_number;
 use fields::switch_of;
 use fields::turn_of;
 use format::is_kind;
-use format::kind_number;
+use format::kind_byte;
 use format::kind_of;
 use image::image_number;
 use image::read_image;
@@ -47,21 +46,6 @@ pub struct Told {
 }
 
 // ---- the numbers of an image
-
-fn register_number(r: Register) -> u8
-    ensures { λ n. ⌜ n ≡ registerNumber r ⌝ }
-{
-    match r {
-        Register::Id => 0,
-        Register::Contr => 1,
-        Register::Status => 2,
-        Register::Rt => 3,
-        Register::IntStatus => 4,
-        Register::IntMask => 5,
-        Register::MailLow => 6,
-        Register::MailHigh => 7,
-    }
-}
 
 fn port_number(p: Port) -> u8
     ensures { λ n. ⌜ n ≡ portNumber p ⌝ }
@@ -174,13 +158,6 @@ pub(crate) fn high_of(n: u16) -> u8
     (n / 256) as u8
 }
 
-fn kind_byte(d: Device) -> u8
-    ensures { λ r. ⌜ r ≡ kindNumber (d .kind) ⌝ }
-{
-    let kind = d.kind;
-    kind_number(kind)
-}
-
 // ---- written
 
 // The image of a device, by the table of crates/layout/specs/Layout.antt.
@@ -260,7 +237,8 @@ pub fn fresh_image(kind: u8, image: &mut [u8]) -> u8
 
 // ---- a step
 
-fn refused_by(number: u8) -> Answer
+// The answer of a refused image or row.
+pub fn refused_by(number: u8) -> Answer
     ensures { λ a. ⌜ a ≡ refusedBy number ⌝ }
 {
     Answer {

@@ -20,6 +20,7 @@ use arbiter::Answer;
 use arbiter::Raw;
 use image::image_number;
 use image::read_image;
+use imaging::refused_by;
 use imaging::step_image;
 use layout::IMAGE_LENGTH;
 use routing::Plan;
@@ -67,17 +68,6 @@ fn row_number(row: &[u8]) -> u8
         }
     } else {
         9
-    }
-}
-
-fn refused_by(number: u8) -> Answer
-    ensures { λ a. ⌜ a ≡ refusedBy number ⌝ }
-{
-    Answer {
-        outcome: number,
-        read: 0,
-        owner: 0,
-        lines: 0,
     }
 }
 

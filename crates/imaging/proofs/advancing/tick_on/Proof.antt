@@ -38,8 +38,8 @@ is-changed-in-requires c κs =
     let stays = subst (λ (l : List ℕ). isImage l ≡ true) (sym left) (tick-stays _ good) in
     (still, stays, image-good _ still .0, image-good _ stays .0)
 
-one-if-requires : tie.Need-one-if-requires
-one-if-requires c κs = search needs
+one-if-u32-requires : tie.Need-one-if-u32-requires
+one-if-u32-requires c κs = search needs
 
 same-length : tie.Need-same-length
 same-length c = search needs
@@ -51,7 +51,7 @@ returns c =
     let was = c .before .before .before .before .before .before .before .before .before .copy .ensures .1 ∙ copied _ _ (sym (start .pre .1)) in
     let left = c .before .before .before .before .before .before .step-image .ensures .1 ∙ tick-leaves _ good in
     let told = c .before .is-changed-in .ensures ∙ ap₂ changes (ap deviceIn was) (ap deviceIn left ∙ tick-back _ good) in
-    (c .one-if .ensures .0 ∙ ap (worth 1) told, c .one-if .ensures .1, left)
+    (c .one-if-u32 .ensures .0 ∙ ap (worth 1) told, c .one-if-u32 .ensures .1, left)
 
 pub tick-on-spec : {M : Type 1} → statement M
 tick-on-spec =
@@ -62,6 +62,6 @@ tick-on-spec =
     step-image-requires
     slice-aggregate-is-changed-in
     is-changed-in-requires
-    one-if-requires
+    one-if-u32-requires
     same-length
     returns)
