@@ -9,11 +9,11 @@ ghost use Rattle.watchlayout.specs.Numbers.{doubleBytes, longBytes, awaitedNumb
 ghost use Rattle.watchlayout.specs.Places.{watchLength, settingsBytes, earBytes, checkBytes, laid};
 ghost use Rattle.watchimage.specs.Parts.{withPart, countBytes, readBytes};
 use arbiter::Master;
-use arbiter::Register;
 use bits::worth_of;
 use bytes::copy;
 use capture::Awaited;
 use capture::Listener;
+use fields::register_number;
 use imaging::write_image;
 use layout::IMAGE_LENGTH;
 use watch::Check;
@@ -89,20 +89,11 @@ fn master_number(k: Check) -> u8
     }
 }
 
-fn register_number(k: Check) -> u8
+fn register_byte(k: Check) -> u8
     ensures { λ r. ⌜ r ≡ registerNumber (k .register) ⌝ }
 {
     let r = k.register;
-    match r {
-        Register::Id => 0,
-        Register::Contr => 1,
-        Register::Status => 2,
-        Register::Rt => 3,
-        Register::IntStatus => 4,
-        Register::IntMask => 5,
-        Register::MailLow => 6,
-        Register::MailHigh => 7,
-    }
+    register_number(r)
 }
 
 fn settings_bytes(c: Settings) -> [u8; 6]
@@ -155,7 +146,7 @@ fn check_bytes(k: Check) -> [u8; 12]
         sample[6],
         sample[7],
         master_number(k),
-        register_number(k),
+        register_byte(k),
         k.heard,
         k.expected,
     ]

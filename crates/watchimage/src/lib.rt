@@ -6,7 +6,6 @@ mod reading;
 ghost use mathlib.Core.Path.{_≡_};
 ghost use mathlib.Core.Bool.{true};
 ghost use lib.ListN.{length};
-ghost use Rattle.arbiter.specs.Straps.{inRange};
 ghost use Rattle.watch.specs.Sample.{silentEar};
 ghost use Rattle.watch.specs.Stream.{noCheck, noTally, beginning};
 ghost use Rattle.watch.specs.Told.{taken, listened};
@@ -24,6 +23,7 @@ use capture::Listener;
 use format::is_kind;
 use format::kind_of;
 use step::fresh;
+use straps::in_range;
 use watch::Check;
 use watch::Ear;
 use watch::Settings;
@@ -35,18 +35,12 @@ use watchlayout::WATCH_LENGTH;
 
 // ---- a fresh listener
 
-fn is_address(address: u8) -> bool
-    ensures { λ r. ⌜ r ≡ inRange address ⌝ }
-{
-    !(address < 8) & (address < 120)
-}
-
 fn fresh_number(kind: u8, address: u8, below: u8, watch: &[u8]) -> u8
     ensures { λ r. ⌜ r ≡ freshNumber kind address below (now (watch .entry)) ⌝ }
 {
     if watch.len() == WATCH_LENGTH {
         if is_kind(kind) & (below < 2) {
-            if is_address(address) { 0 } else { 11 }
+            if in_range(address) { 0 } else { 11 }
         } else {
             3
         }

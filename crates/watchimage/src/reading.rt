@@ -3,17 +3,17 @@ ghost use Prim.Native.Nat.{_<_};
 ghost use mathlib.Core.Path.{_≡_};
 ghost use mathlib.Core.Bool.{false};
 ghost use lib.ListN.{length};
-ghost use Rattle.arbiter.specs.Events.{master};
-ghost use Rattle.arbiter.specs.Effects.{registerAt};
-ghost use Rattle.arbiter.specs.Traces.{byteAt};
-ghost use Rattle.layout.specs.Layout.{wordAt, flagAt};
+ghost use Rattle.layout.specs.Layout.{wordAt};
 ghost use Rattle.watchlayout.specs.Numbers.{doubleAt, longAt, awaitedOf};
 ghost use Rattle.watchlayout.specs.Places.{watchLength, settingsIn, busAt, earIn, checkAt, tallyIn, watcherIn};
-use arbiter::Master;
-use arbiter::Register;
+use bits::wide_u32;
 use capture::Awaited;
 use capture::Both;
 use capture::Listener;
+use fields::master_of;
+use fields::register_at;
+use format::byte_at;
+use image::flag_at;
 use image::read_image;
 use layout::IMAGE_LENGTH;
 use watch::Check;
@@ -24,30 +24,11 @@ use watch::Watcher;
 
 // ---- bytes and numbers
 
-// A byte of a buffer, and 0 past its end: whoever reads a listener has asked for the length first.
-fn byte_at(at: usize, b: &[u8]) -> u8
-    ensures { λ r. ⌜ r ≡ byteAt at (now (b .entry)) ⌝ }
-{
-    if at < b.len() { b[at] } else { 0 }
-}
-
-fn flag_at(at: usize, b: &[u8]) -> bool
-    ensures { λ r. ⌜ r ≡ flagAt at (now (b .entry)) ⌝ }
-{
-    byte_at(at, b) == 1
-}
-
-fn wide(x: u8) -> u32
-    ensures { λ r. ⌜ (r ≡ x) × (r < 256) ⌝ }
-{
-    x as u32
-}
-
 fn word_at(at: usize, b: &[u8]) -> u32
     requires { ⌜ at < 256 ⌝ }
     ensures { λ r. ⌜ (r ≡ wordAt at (now (b .entry))) × (r < 65536) ⌝ }
 {
-    wide(byte_at(at, b)) + 256 * wide(byte_at(at + 1, b))
+    wide_u32(byte_at(at, b)) + 256 * wide_u32(byte_at(at + 1, b))
 }
 
 fn double_at(at: usize, b: &[u8]) -> u32
@@ -82,27 +63,6 @@ fn awaited_of(v: u8) -> Awaited
         5 => Awaited::CallByte,
         _ => Awaited::SkippedByte,
     }
-}
-
-fn register_at(v: u8) -> Register
-    ensures { λ r. ⌜ r ≡ registerAt v ⌝ }
-{
-    match v {
-        0 => Register::Id,
-        1 => Register::Contr,
-        2 => Register::Status,
-        3 => Register::Rt,
-        4 => Register::IntStatus,
-        5 => Register::IntMask,
-        6 => Register::MailLow,
-        _ => Register::MailHigh,
-    }
-}
-
-fn master_of(m: u8) -> Master
-    ensures { λ r. ⌜ r ≡ master m ⌝ }
-{
-    if m == 0 { Master::Zero } else { Master::One }
 }
 
 // ---- the parts of a listener
@@ -154,29 +114,17 @@ fn ear_in(b: &[u8]) -> Ear
     }
 }
 
-fn check_with(sample: u64, master: Master, register: Register, heard: u8, expected: u8) -> Check
-    ensures { λ r. ⌜ r ≡ record { sample = sample; master = master; register = register; heard = heard; expected = expected } ⌝ }
-{
-    Check {
-        sample,
-        master,
-        register,
-        heard,
-        expected,
-    }
-}
-
 fn check_at(at: usize, b: &[u8]) -> Check
     requires { ⌜ at < 200 ⌝ }
     ensures { λ r. ⌜ r ≡ checkAt at (now (b .entry)) ⌝ }
 {
-    check_with(
-        long_at(at, b),
-        master_of(byte_at(at + 8, b)),
-        register_at(byte_at(at + 9, b)),
-        byte_at(at + 10, b),
-        byte_at(at + 11, b),
-    )
+    Check {
+        sample: long_at(at, b),
+        master: master_of(byte_at(at + 8, b)),
+        register: register_at(byte_at(at + 9, b)),
+        heard: byte_at(at + 10, b),
+        expected: byte_at(at + 11, b),
+    }
 }
 
 fn tally_in(b: &[u8]) -> Tally

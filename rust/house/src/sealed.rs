@@ -15,10 +15,8 @@ const LAW: &Openers = &[("arbiter/proofs/KindKept.antt", &["limit-some"])];
 
 /// The functions that work the two rules out, which promise what `rulesOf` gives.
 const CODE: &Openers = &[
-    ("fields/proofs/idle_limit/Proof.antt", &["returns", "returns-2"]),
+    ("fields/proofs/limit_of/Proof.antt", &["returns", "returns-2"]),
     ("fields/proofs/rolls_over/Proof.antt", &["returns", "returns-2"]),
-    ("image/proofs/limit_of/Proof.antt", &["returns", "returns-2"]),
-    ("sheets/proofs/waits/idle_limit_of/Proof.antt", &["returns", "returns-2"]),
 ];
 
 /// Tables that are computed, row by row: examples, and runs that meet premises, reach values or come to a bound. A computed run has a part.

@@ -9,15 +9,15 @@ use Rattle.watchimage.proofs.fresh_number.Tie as tie
 is-kind-requires : tie.Need-is-kind-requires
 is-kind-requires c κs = search needs
 
-is-address-requires : tie.Need-is-address-requires
-is-address-requires c κs = search needs
+in-range-requires : tie.Need-in-range-requires
+in-range-requires c κs = search needs
 
 returns : tie.Need-returns
 unfolding freshNumber
 returns c =
     simp (
       c .if3 .taken,
-      ← c .before .is-address .ensures,
+      ← c .before .in-range .ensures,
       c .before .before .if2 .taken,
       ← c .before .before .before .is-kind .ensures,
       eq-eqb _ _ (c .before .before .before .before .if1 .taken),
@@ -28,7 +28,7 @@ unfolding freshNumber
 returns-2 c =
     simp (
       c .if3 .left,
-      ← c .before .is-address .ensures,
+      ← c .before .in-range .ensures,
       c .before .before .if2 .taken,
       ← c .before .before .before .is-kind .ensures,
       eq-eqb _ _ (c .before .before .before .before .if1 .taken),
@@ -44,4 +44,4 @@ returns-4 c = simp (ne-eqb _ _ (c .if1 .left))
 
 pub fresh-number-spec : {M : Type 1} → statement M
 fresh-number-spec =
-    tie.close (tie.spec is-kind-requires is-address-requires returns returns-2 returns-3 returns-4)
+    tie.close (tie.spec is-kind-requires in-range-requires returns returns-2 returns-3 returns-4)

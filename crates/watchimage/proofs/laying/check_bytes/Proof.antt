@@ -34,11 +34,11 @@ array-read-t27 c = search needs
 master-number-requires : tie.Need-master-number-requires
 master-number-requires c κs = search needs
 
-register-number-requires : tie.Need-register-number-requires
-register-number-requires c κs = search needs
+register-byte-requires : tie.Need-register-byte-requires
+register-byte-requires c κs = search needs
 
 returns : tie.Need-returns
-returns c = simp (c .register-number .ensures, c .before .master-number .ensures, c .before .before .long-bytes .ensures)
+returns c = simp (c .register-byte .ensures, c .before .master-number .ensures, c .before .before .long-bytes .ensures)
 
 pub check-bytes-spec : {M : Type 1} → statement M
 check-bytes-spec =
@@ -54,5 +54,5 @@ check-bytes-spec =
     array-read-t24
     array-read-t27
     master-number-requires
-    register-number-requires
+    register-byte-requires
     returns)

@@ -38,21 +38,17 @@ add-byte-at-4 c = search needs
 byte-at-requires-4 : tie.Need-byte-at-requires-4
 byte-at-requires-4 c κs = search needs
 
-check-with-requires : tie.Need-check-with-requires
-check-with-requires c κs = search needs
-
 returns : tie.Need-returns
 unfolding checkAt
 returns c =
     simp (
-      c .check-with .ensures,
-      c .before .byte-at4 .ensures,
-      c .before .before .byte-at3 .ensures,
-      c .before .before .before .register-at .ensures,
-      c .before .before .before .before .byte-at2 .ensures,
-      c .before .before .before .before .before .master-of .ensures,
-      c .before .before .before .before .before .before .byte-at .ensures,
-      c .before .before .before .before .before .before .before .long-at .ensures,
+      c .byte-at4 .ensures,
+      c .before .byte-at3 .ensures,
+      c .before .before .register-at .ensures,
+      c .before .before .before .byte-at2 .ensures,
+      c .before .before .before .before .master-of .ensures,
+      c .before .before .before .before .before .byte-at .ensures,
+      c .before .before .before .before .before .before .long-at .ensures,
     )
 
 pub check-at-spec : {M : Type 1} → statement M
@@ -70,5 +66,4 @@ check-at-spec =
     byte-at-requires-3
     add-byte-at-4
     byte-at-requires-4
-    check-with-requires
     returns)
