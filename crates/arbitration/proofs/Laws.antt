@@ -1,4 +1,4 @@
--- What the code writes as one device, each part with its own choice, is what the definitions say by cases on the turn.
+-- Laws of `arbitration`: what the code writes as one device, each part with its own choice, is what the definitions say by cases on the turn.
 -- Assumes nothing.
 use mathlib.Core.Path.{_≡_, refl, ap, _∙_}
 use mathlib.Core.Bool.{Bool, true, false, not, _&&_, _||_}

@@ -1,4 +1,4 @@
--- A part that has nothing to do, by its test, changes nothing: true of every device value.
+-- Quiet of `arbitration`: a part of 3 to 6 that has nothing to do, by its test, changes nothing: true of every device value.
 -- Assumes nothing.
 use mathlib.Core.Path.{_≡_, refl, ap}
 use mathlib.Core.Bool.{Bool, true, false, not, _&&_, false≢true}

@@ -1,4 +1,4 @@
--- When each of parts 3 to 6 has nothing to do, by the turn.
+-- Quiet of `arbitration`: when each of parts 3 to 6 has nothing to do, by the turn.
 -- Assumes nothing.
 use mathlib.Core.Bool.{Bool, true, not, _&&_}
 use lib.Dec.{eqb}

@@ -1,4 +1,4 @@
--- Drives let go by a test for each field are the definition's choice between two buses.
+-- Laws of `bus`: drives let go by a test for each field are the definition's choice between two buses.
 -- Assumes nothing.
 use mathlib.Core.Path.{_≡_, refl}
 use mathlib.Core.Bool.{Bool, true, false, _||_}

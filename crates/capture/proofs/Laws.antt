@@ -1,5 +1,5 @@
--- What an auditor may want of any capture: bits 4 to 7 play no part, each bus is heard by itself, and a sample that only repeats the one
--- before it changes nothing.
+-- Laws of `capture`: what an auditor may want of any capture: bits 4 to 7 play no part, each bus is heard by itself, and a sample that only
+-- repeats the one before it changes nothing.
 -- Assumes nothing.
 use Prim.Native.Nat.{ℕ, _+_, _/_, _%_}
 use mathlib.Core.Path.{_≡_, refl, sym, ap, _∙_}

@@ -1,4 +1,4 @@
--- What the conversion of an old trace leaves: refused, or the old trace and then its section.
+-- Laws of `converter`: what the conversion of an old trace leaves: refused, or the old trace and then its section.
 -- Assumes nothing.
 use mathlib.Core.Path.{_≡_, _∙_, refl, sym, ap}
 use mathlib.Core.Bool.{Bool, true, false, not}

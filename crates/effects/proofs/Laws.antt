@@ -1,4 +1,4 @@
--- What READ does, by either master.
+-- Laws of `effects`: what READ does, by either master.
 -- Assumes nothing.
 use mathlib.Core.Path.{_≡_, refl}
 use Rattle.arbiter.specs.Words.{if_then_else_, partner, side, device}

@@ -1,4 +1,4 @@
--- The short ways of a sample end where the long one does.
+-- Light of `hearing`: the short ways of a sample end where the long one does.
 -- Assumes nothing.
 use Prim.Native.Nat.{ℕ, _<_}
 use mathlib.Core.Path.{_≡_, refl, sym, ap, _∙_}

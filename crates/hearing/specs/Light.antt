@@ -1,5 +1,5 @@
--- Samples that the code takes the short way: still ones, which show nothing on either bus, and light ones, which bring at most a bit to a
--- byte in hand. proofs/Light.antt proves that both short ways end where the long one does.
+-- Light of `hearing`: samples that the code takes the short way, still ones, which show nothing on either bus, and light ones, which bring at
+-- most a bit to a byte in hand. proofs/Light.antt proves that both short ways end where the long one does.
 -- Assumes nothing.
 use Prim.Native.Nat.{ℕ}
 use mathlib.Core.Bool.{Bool, not, _&&_, _||_}

@@ -1,4 +1,5 @@
--- What holds of an advance on an image: it goes with as many TICK events on it, and an image in range stays one. proofs/OnImages.antt proves each.
+-- Laws of `imaging`: what holds of an advance on an image: it goes with as many TICK events on it, and an image in range stays one.
+-- proofs/OnImages.antt proves each.
 -- Assumes nothing.
 use Prim.Native.Nat.{ℕ, _<_, _≤_}
 use mathlib.Core.Path.{_≡_}

@@ -1,4 +1,4 @@
--- What holds of images: record and image are inverse, their ranges agree, steps agree, and so do runs. proofs/ proves each.
+-- Laws of `layout`: what holds of images: record and image are inverse, their ranges agree, steps agree, and so do runs. proofs/ proves each.
 -- Assumes nothing.
 use Prim.Native.Nat.{ℕ, _<_}
 use mathlib.Core.Path.{_≡_}

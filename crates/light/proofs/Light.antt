@@ -1,4 +1,4 @@
--- The events whose own effect ends the step, one by one: each changes its sides in nothing that the turn asks of them.
+-- Light of `light`: the events whose own effect ends the step, one by one: each changes its sides in nothing that the turn asks of them.
 -- Assumes nothing.
 use mathlib.Core.Path.{_≡_, refl, sym, ap, ap₂, _∙_}
 use mathlib.Core.Bool.{Bool, true, false, not, _&&_, _||_, false≢true, or-false, and-eq-true-iff}

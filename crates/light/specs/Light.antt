@@ -1,4 +1,4 @@
--- Request #114: settled devices. Every device that a run reaches is settled: parts 2 to 7 have nothing to do in it.
+-- Light of `light`, request #114: settled devices. Every device that a run reaches is settled: parts 2 to 7 have nothing to do in it.
 -- Assumes nothing.
 use mathlib.Core.Path.{_≡_}
 use mathlib.Core.Bool.{Bool, true, false, _&&_}

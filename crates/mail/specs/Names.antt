@@ -1,5 +1,5 @@
--- The arbiter's types and words that the statements use, the word of src/lib.rt, and the library's own booleans, numbers and lists, passed on
--- under their own names.
+-- Names of `mail`: the arbiter's types and words that the statements use, the word of src/lib.rt, and the library's own booleans, numbers and
+-- lists, passed on under their own names.
 -- Assumes nothing.
 pub use Prim.Native.Nat.{ℕ, _+_, _≤_}
 pub use mathlib.Core.Path.{_≡_}

@@ -1,5 +1,5 @@
--- How the code goes through the orders: it carries the device and the last byte, so that orders with a common beginning share its steps, and
--- pours the bytes into the buffer up to a limit.
+-- Walk of `orders`: how the code goes through the orders: it carries the device and the last byte, so that orders with a common beginning share
+-- its steps, and pours the bytes into the buffer up to a limit.
 -- Assumes nothing.
 use Prim.Native.Nat.{ℕ, _+_}
 use mathlib.Core.List.{List, [], _∷_, _++_}

@@ -1,4 +1,4 @@
--- What the code writes as one literal with a choice for each field is the definition's choice between two sides.
+-- Laws of `ports`: what the code writes as one literal with a choice for each field is the definition's choice between two sides.
 -- Assumes nothing.
 use mathlib.Core.Path.{_≡_, refl}
 use mathlib.Core.Bool.{Bool, true, false}

@@ -1,4 +1,4 @@
--- Quiet ticks: how many TICKs from a device on change nothing but counts. What that means are the laws at the end.
+-- Quiet of `quiet`: how many TICKs from a device on change nothing but counts. What that means are the laws at the end.
 -- Assumes nothing.
 use Prim.Native.Nat.{ℕ, _+_, _-_, _<_, _≤_}
 use mathlib.Core.Path.{_≡_}

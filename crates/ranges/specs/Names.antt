@@ -1,4 +1,4 @@
--- The types of the arbiter, and the library's own booleans, numbers and lists, passed on under their own names.
+-- Names of `ranges`: the types of the arbiter, and the library's own booleans, numbers and lists, passed on under their own names.
 -- Assumes nothing.
 pub use Prim.Native.Nat.{ℕ, zero, suc, _+_, _*_, _-_, _/_, _%_, _^_}
 pub use mathlib.Core.Bool.{Bool, true, false, not, _&&_, _||_}

@@ -1,4 +1,4 @@
--- Every event leaves a good buffer, a fresh row is good, and runs on a buffer go together with those of the shelf.
+-- Laws of `rowimage`: every event leaves a good buffer, a fresh row is good, and runs on a buffer go together with those of the shelf.
 -- Assumes nothing.
 use Prim.Native.Nat.{ℕ, zero, suc}
 use mathlib.Core.Path.{_≡_, refl, sym, ap, subst, _∙_}

@@ -1,5 +1,5 @@
--- What holds of rows in buffers: row and buffer are inverse, a fresh row is good, every event leaves a good one, and runs go together with
--- those of the shelf. proofs/ proves each.
+-- Laws of `rowimage`: what holds of rows in buffers: row and buffer are inverse, a fresh row is good, every event leaves a good one, and runs go
+-- together with those of the shelf. proofs/ proves each.
 -- Assumes nothing.
 use Prim.Native.Nat.{ℕ}
 use mathlib.Core.Path.{_≡_}

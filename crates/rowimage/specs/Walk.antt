@@ -1,4 +1,4 @@
--- A row in a buffer gone through by the code: one image replaced, and an answer handed on.
+-- Walk of `rowimage`: a row in a buffer gone through by the code: one image replaced, and an answer handed on.
 -- Assumes nothing.
 use Prim.Native.Nat.{ℕ, _+_, _*_}
 use mathlib.Core.Bool.{true}

@@ -1,4 +1,5 @@
--- Quiet TICKs taken together are the same states one by one, for what is seen of them is the same. And one round of the loop, whichever it is.
+-- Quiet of `share`: quiet TICKs taken together are the same states one by one, for what is seen of them is the same. And one round of the loop,
+-- whichever it is.
 -- Assumes nothing.
 use Prim.Native.Nat.{ℕ, zero, suc, _+_, _-_, _*_, _≤_, _<_}
 use mathlib.Core.Path.{_≡_, refl, sym, ap, subst, _∙_}

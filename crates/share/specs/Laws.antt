@@ -1,4 +1,4 @@
--- What holds of the totals of #112, whatever the traces. proofs/ prove each, under the same name in small letters.
+-- Laws of `share`: what holds of the totals of #112, whatever the traces. proofs/ prove each, under the same name in small letters.
 -- Assumes nothing.
 use Prim.Native.Nat.{ℕ, _+_, _*_, _<_, _≤_}
 use mathlib.Core.Path.{_≡_}

@@ -1,4 +1,4 @@
--- How the code counts one trace: what it sees of a state, and the counts that it hands from state to state.
+-- Walk of `share`: how the code counts one trace: what it sees of a state, and the counts that it hands from state to state.
 -- Assumes nothing.
 use Prim.Native.Nat.{ℕ, _+_, _-_, _*_, _<_, _≤_}
 use mathlib.Core.Path.{_≡_}

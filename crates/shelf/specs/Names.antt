@@ -1,4 +1,5 @@
--- The types of src/lib.rt and those of the arbiter, and the library's own booleans, numbers and lists, passed on under their own names.
+-- Names of `shelf`: the types of src/lib.rt and those of the arbiter, and the library's own booleans, numbers and lists, passed on under their
+-- own names.
 -- Assumes nothing.
 pub use Prim.Native.Nat.{ℕ, zero, suc}
 pub use mathlib.Core.Bool.{Bool, true, false, not, _&&_, _||_}

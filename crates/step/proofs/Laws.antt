@@ -1,5 +1,5 @@
--- The code's halves of a step make the step of the definitions: part 2 needs no care at a reset, and part 1's effect carried through the
--- other parts is the event's.
+-- Laws of `step`: the code's halves of a step make the step of the definitions: part 2 needs no care at a reset, and part 1's effect carried
+-- through the other parts is the event's.
 -- Assumes nothing.
 use mathlib.Core.Path.{_≡_, refl, ap}
 use mathlib.Core.Bool.{Bool, true, false, not, _&&_}

@@ -1,4 +1,5 @@
--- Where the code's test says that parts 3 to 7 have nothing to do, they change nothing: each by its own law, true of every device value.
+-- Quiet of `step`: where the code's test says that parts 3 to 7 have nothing to do, they change nothing: each by its own law, true of every
+-- device value.
 -- Assumes nothing.
 use mathlib.Core.Path.{_≡_, refl, sym, ap, _∙_}
 use mathlib.Core.Bool.{Bool, true, false, _&&_, false≢true, and-eq-true-iff}

@@ -1,4 +1,4 @@
--- The laws of specs/Laws.antt. One test is computed over all settings of the pins; for the addresses Worked.antt has the test.
+-- Laws of `straps`, those of specs/Laws.antt. One test is computed over all settings of the pins; for the addresses Worked.antt has the test.
 -- Assumes nothing.
 use mathlib.Core.Path.{_≡_, refl, sym, _∙_, ap}
 use mathlib.Core.Bool.{Bool, true, false, not, _&&_, false≢true, and-eq-true-iff}

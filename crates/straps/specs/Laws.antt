@@ -1,5 +1,5 @@
--- What holds of the two maps of document 01, "Straps", for all pins and all numbers: each undoes the other, and every address 08h to 77h
--- has exactly one strapping. proofs/Laws.antt proves it.
+-- Laws of `straps`: what holds of the two maps of document 01, "Straps", for all pins and all numbers: each undoes the other, and every address
+-- 08h to 77h has exactly one strapping. proofs/Laws.antt proves it.
 -- Assumes nothing.
 use Prim.Native.Nat.{ℕ}
 use mathlib.Core.Path.{_≡_}

@@ -1,5 +1,5 @@
--- What holds of a listener in a buffer: it is read back from it, a buffer stays one, and in what chunks samples come plays no part.
--- proofs/ proves each.
+-- Laws of `watchlayout`: what holds of a listener in a buffer: it is read back from it, a buffer stays one, and in what chunks samples come plays
+-- no part. proofs/ proves each.
 -- Assumes nothing.
 use mathlib.Core.Path.{_≡_}
 use Prim.Native.Nat.{ℕ, _<_, _≤_}

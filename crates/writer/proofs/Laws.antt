@@ -1,4 +1,4 @@
--- What the writing of a trace leaves: refused, or the head and the events stored one after the other.
+-- Laws of `writer`: what the writing of a trace leaves: refused, or the head and the events stored one after the other.
 -- Assumes nothing.
 use mathlib.Core.Path.{_≡_, _∙_, refl, sym, ap}
 use mathlib.Core.Bool.{Bool, true, false, not}

@@ -1,4 +1,4 @@
--- What the code writes as one literal with a choice for each field is what the definitions say by cases on the register.
+-- Laws of `writing`: what the code writes as one literal with a choice for each field is what the definitions say by cases on the register.
 -- Assumes nothing.
 use mathlib.Core.Path.{_≡_, refl, ap, _∙_}
 use mathlib.Core.Bool.{Bool, true, false, not, _&&_, _||_}
