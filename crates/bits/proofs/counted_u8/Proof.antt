@@ -5,17 +5,11 @@ use borrow.Author.Needs.{needs}
 use Rattle.bits.proofs.counted_u8.Statement.{statement}
 use Rattle.bits.proofs.counted_u8.Tie as tie
 
-add-result : tie.Need-add-result
-add-result c = search needs
-
 returns : tie.Need-returns
 returns c = simp (lt-ltb _ _ (c .if2 .taken), c .before .if1 .taken)
 
 returns-2 : tie.Need-returns-2
 returns-2 c = simp (le-ltb _ _ (c .if2 .left), c .before .if1 .taken)
 
-returns-3 : tie.Need-returns-3
-returns-3 c = search needs
-
 pub counted-u8-spec : {M : Type 1} → statement M
-counted-u8-spec = tie.close (tie.spec add-result returns returns-2 returns-3)
+counted-u8-spec = tie.close (tie.spec (λ c. search needs) returns returns-2 (λ c. search needs))

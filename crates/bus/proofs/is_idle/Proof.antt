@@ -4,14 +4,8 @@ use borrow.Author.Needs.{needs}
 use Rattle.bus.proofs.is_idle.Statement.{statement}
 use Rattle.bus.proofs.is_idle.Tie as tie
 
-scl-high-requires : tie.Need-scl-high-requires
-scl-high-requires c κs = search needs
-
-sda-high-requires : tie.Need-sda-high-requires
-sda-high-requires c κs = search needs
-
 returns : tie.Need-returns
 returns c = simp (c .sda-high .ensures, c .before .scl-high .ensures)
 
 pub is-idle-spec : {M : Type 1} → statement M
-is-idle-spec = tie.close (tie.spec scl-high-requires sda-high-requires returns)
+is-idle-spec = tie.close (tie.spec (λ c κs. search needs) (λ c κs. search needs) returns)

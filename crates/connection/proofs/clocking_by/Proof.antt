@@ -5,24 +5,6 @@ use borrow.Author.Needs.{needs}
 use Rattle.connection.proofs.clocking_by.Statement.{statement}
 use Rattle.connection.proofs.clocking_by.Tie as tie
 
-enum-told : tie.Need-enum-told
-enum-told c = search needs
-
-still-at-requires : tie.Need-still-at-requires
-still-at-requires c κs = search needs
-
-enum-told-2 : tie.Need-enum-told-2
-enum-told-2 c = search needs
-
-enum-told-3 : tie.Need-enum-told-3
-enum-told-3 c = search needs
-
-add-t9 : tie.Need-add-t9
-add-t9 c = search needs
-
-still-at-requires-2 : tie.Need-still-at-requires-2
-still-at-requires-2 c κs = search needs
-
 returns : tie.Need-returns
 returns c = simp (← c .still-at .ensures, c .before .enum-told .given .1)
 
@@ -39,12 +21,8 @@ pub clocking-by-spec : {M : Type 1} → statement M
 clocking-by-spec =
     tie.close
     (tie.spec
-    enum-told
-    still-at-requires
-    enum-told-2
-    enum-told-3
-    add-t9
-    still-at-requires-2
+    (λ c. search needs) (λ c κs. search needs) (λ c. search needs) (λ c. search needs) (λ c. search needs)
+    (λ c κs. search needs)
     returns
     returns-2
     returns-3

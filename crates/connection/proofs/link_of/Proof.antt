@@ -5,39 +5,6 @@ use borrow.Author.Needs.{needs}
 use Rattle.connection.proofs.link_of.Statement.{statement}
 use Rattle.connection.proofs.link_of.Tie as tie
 
-enum-told : tie.Need-enum-told
-enum-told c = search needs
-
-still-at-requires : tie.Need-still-at-requires
-still-at-requires c κs = search needs
-
-enum-told-2 : tie.Need-enum-told-2
-enum-told-2 c = search needs
-
-still-at-requires-2 : tie.Need-still-at-requires-2
-still-at-requires-2 c κs = search needs
-
-enum-known-t : tie.Need-enum-known-t
-enum-known-t c = search needs
-
-enum-told-3 : tie.Need-enum-told-3
-enum-told-3 c = search needs
-
-linking-by-requires : tie.Need-linking-by-requires
-linking-by-requires c κs = search needs
-
-still-at-requires-3 : tie.Need-still-at-requires-3
-still-at-requires-3 c κs = search needs
-
-enum-told-4 : tie.Need-enum-told-4
-enum-told-4 c = search needs
-
-linking-by-requires-2 : tie.Need-linking-by-requires-2
-linking-by-requires-2 c κs = search needs
-
-still-at-requires-4 : tie.Need-still-at-requires-4
-still-at-requires-4 c κs = search needs
-
 returns : tie.Need-returns
 unfolding linkOf
 returns c = simp (← c .still-at .ensures, c .before .enum-told .given .1)
@@ -90,17 +57,9 @@ pub link-of-spec : {M : Type 1} → statement M
 link-of-spec =
     tie.close
     (tie.spec
-    enum-told
-    still-at-requires
-    enum-told-2
-    still-at-requires-2
-    enum-known-t
-    enum-told-3
-    linking-by-requires
-    still-at-requires-3
-    enum-told-4
-    linking-by-requires-2
-    still-at-requires-4
+    (λ c. search needs) (λ c κs. search needs) (λ c. search needs) (λ c κs. search needs) (λ c. search needs)
+    (λ c. search needs) (λ c κs. search needs) (λ c κs. search needs) (λ c. search needs) (λ c κs. search needs)
+    (λ c κs. search needs)
     returns
     returns-2
     returns-3

@@ -7,39 +7,6 @@ use borrow.Author.Needs.{needs}
 use Rattle.events.proofs.decode_raw.Statement.{statement}
 use Rattle.events.proofs.decode_raw.Tie as tie
 
-master-of-requires : tie.Need-master-of-requires
-master-of-requires c κs = search needs
-
-fitting-if-requires : tie.Need-fitting-if-requires
-fitting-if-requires c κs = search needs
-
-fitting-if-requires-2 : tie.Need-fitting-if-requires-2
-fitting-if-requires-2 c κs = search needs
-
-fitting-if-requires-3 : tie.Need-fitting-if-requires-3
-fitting-if-requires-3 c κs = search needs
-
-fitting-if-requires-4 : tie.Need-fitting-if-requires-4
-fitting-if-requires-4 c κs = search needs
-
-fitting-if-requires-5 : tie.Need-fitting-if-requires-5
-fitting-if-requires-5 c κs = search needs
-
-fitting-if-requires-6 : tie.Need-fitting-if-requires-6
-fitting-if-requires-6 c κs = search needs
-
-fitting-if-requires-7 : tie.Need-fitting-if-requires-7
-fitting-if-requires-7 c κs = search needs
-
-fitting-if-requires-8 : tie.Need-fitting-if-requires-8
-fitting-if-requires-8 c κs = search needs
-
-fitting-if-requires-9 : tie.Need-fitting-if-requires-9
-fitting-if-requires-9 c κs = search needs
-
-fitting-if-requires-10 : tie.Need-fitting-if-requires-10
-fitting-if-requires-10 c κs = search needs
-
 returns : tie.Need-returns
 unfolding decode
 returns c = raw-told _ _ (simp (← c .fitting-if .ensures, c .before .before .match .keys1, ← c .before .before .before .before .master-of .ensures))
@@ -100,17 +67,9 @@ pub decode-raw-spec : {M : Type 1} → statement M
 decode-raw-spec =
     tie.close
     (tie.spec
-    master-of-requires
-    fitting-if-requires
-    fitting-if-requires-2
-    fitting-if-requires-3
-    fitting-if-requires-4
-    fitting-if-requires-5
-    fitting-if-requires-6
-    fitting-if-requires-7
-    fitting-if-requires-8
-    fitting-if-requires-9
-    fitting-if-requires-10
+    (λ c κs. search needs) (λ c κs. search needs) (λ c κs. search needs) (λ c κs. search needs) (λ c κs. search needs)
+    (λ c κs. search needs) (λ c κs. search needs) (λ c κs. search needs) (λ c κs. search needs) (λ c κs. search needs)
+    (λ c κs. search needs)
     returns
     returns-2
     returns-3

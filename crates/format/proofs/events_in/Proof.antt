@@ -19,27 +19,9 @@ part t end e h =
     let size : end - headBytes ≡ eventBytes * countIn t = omega arith in
     simp (size, le-ltb (length t) (eventsEnd (countIn t)) (omega arith))
 
-count-in-requires : tie.Need-count-in-requires
-count-in-requires c κs = search needs
-
-events-end-requires : tie.Need-events-end-requires
-events-end-requires c κs = search needs
-
-slice-aggregate-result : tie.Need-slice-aggregate-result
-slice-aggregate-result c = search needs
-
 returns : tie.Need-returns
 unfolding eventsPart
 returns c = simp (lt-ltb _ _ (c .before .if1 .taken), ← c .before .before .events-end .ensures, ← c .before .before .before .count-in .ensures)
-
-sub-result : tie.Need-sub-result
-sub-result c = search needs
-
-part-result-start : tie.Need-part-result-start
-part-result-start c = search needs
-
-part-result-end : tie.Need-part-result-end
-part-result-end c = search needs
 
 returns-2 : tie.Need-returns-2
 returns-2 c =
@@ -50,11 +32,7 @@ pub events-in-spec : {M : Type 1} → statement M
 events-in-spec =
     tie.close
     (tie.spec
-    count-in-requires
-    events-end-requires
-    slice-aggregate-result
+    (λ c κs. search needs) (λ c κs. search needs) (λ c. search needs)
     returns
-    sub-result
-    part-result-start
-    part-result-end
+    (λ c. search needs) (λ c. search needs) (λ c. search needs)
     returns-2)

@@ -4,17 +4,8 @@ use borrow.Author.Needs.{needs}
 use Rattle.format.proofs.kind_at.Statement.{statement}
 use Rattle.format.proofs.kind_at.Tie as tie
 
-events-end-requires : tie.Need-events-end-requires
-events-end-requires c κs = search needs
-
-add-byte-at : tie.Need-add-byte-at
-add-byte-at c = search needs
-
-byte-at-requires : tie.Need-byte-at-requires
-byte-at-requires c κs = search needs
-
 returns : tie.Need-returns
 returns c = simp (c .byte-at .ensures, c .before .events-end .ensures)
 
 pub kind-at-spec : {M : Type 1} → statement M
-kind-at-spec = tie.close (tie.spec events-end-requires add-byte-at byte-at-requires returns)
+kind-at-spec = tie.close (tie.spec (λ c κs. search needs) (λ c. search needs) (λ c κs. search needs) returns)

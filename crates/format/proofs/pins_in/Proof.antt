@@ -4,22 +4,12 @@ use borrow.Author.Needs.{needs}
 use Rattle.format.proofs.pins_in.Statement.{statement}
 use Rattle.format.proofs.pins_in.Tie as tie
 
-byte-at-requires : tie.Need-byte-at-requires
-byte-at-requires c κs = search needs
-
-byte-at-requires-2 : tie.Need-byte-at-requires-2
-byte-at-requires-2 c κs = search needs
-
-byte-at-requires-3 : tie.Need-byte-at-requires-3
-byte-at-requires-3 c κs = search needs
-
-byte-at-requires-4 : tie.Need-byte-at-requires-4
-byte-at-requires-4 c κs = search needs
-
 returns : tie.Need-returns
 returns c = simp (c .byte-at4 .ensures, c .before .byte-at3 .ensures, c .before .before .byte-at2 .ensures, c .before .before .before .byte-at .ensures)
 
 pub pins-in-spec : {M : Type 1} → statement M
 pins-in-spec =
     tie.close
-    (tie.spec byte-at-requires byte-at-requires-2 byte-at-requires-3 byte-at-requires-4 returns)
+    (tie.spec
+    (λ c κs. search needs) (λ c κs. search needs) (λ c κs. search needs) (λ c κs. search needs)
+    returns)

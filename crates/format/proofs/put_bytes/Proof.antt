@@ -23,15 +23,6 @@ module _ (buffer : List ℕ) (at : ℕ) (bytes : List ℕ) where
   unfolding withBytes
   no-room short = simp (lt-ltb (length buffer) (at + length bytes) short)
 
-sub-if2 : tie.Need-sub-if2
-sub-if2 c = search needs
-
-copy-bytes-requires : tie.Need-copy-bytes-requires
-copy-bytes-requires c κs = search needs
-
-same-length : tie.Need-same-length
-same-length c = search needs
-
 returns : tie.Need-returns
 returns c = c .before .before .copy-bytes .ensures ∙ copied _ _ _ (omega arith) (omega arith)
 
@@ -42,4 +33,5 @@ returns-3 : tie.Need-returns-3
 returns-3 c = no-room _ _ _ (omega arith)
 
 pub put-bytes-spec : {M : Type 1} → statement M
-put-bytes-spec = tie.close (tie.spec sub-if2 copy-bytes-requires same-length returns returns-2 returns-3)
+put-bytes-spec =
+    tie.close (tie.spec (λ c. search needs) (λ c κs. search needs) (λ c. search needs) returns returns-2 returns-3)

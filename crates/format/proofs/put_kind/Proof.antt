@@ -25,26 +25,8 @@ module _ (l : List ℕ) (n whole : ℕ) (k : Kind) (size : whole ≡ wholeBytes 
   unfolding withKind
   no-room short = simp (lt-ltb (length l) (wholeBytes n) (omega arith))
 
-whole-bytes-requires : tie.Need-whole-bytes-requires
-whole-bytes-requires c κs = search needs
-
-events-end-requires : tie.Need-events-end-requires
-events-end-requires c κs = search needs
-
-slice-write-out : tie.Need-slice-write-out
-slice-write-out c = search needs
-
-kind-number-requires : tie.Need-kind-number-requires
-kind-number-requires c κs = search needs
-
-add-out : tie.Need-add-out
-add-out c = search needs
-
 slice-write-out-2 : tie.Need-slice-write-out-2
 slice-write-out-2 c = simp length-set (omega arith)
-
-same-length : tie.Need-same-length
-same-length c = search needs
 
 returns : tie.Need-returns
 returns c =
@@ -59,12 +41,8 @@ pub put-kind-spec : {M : Type 1} → statement M
 put-kind-spec =
     tie.close
     (tie.spec
-    whole-bytes-requires
-    events-end-requires
-    slice-write-out
-    kind-number-requires
-    add-out
+    (λ c κs. search needs) (λ c κs. search needs) (λ c. search needs) (λ c κs. search needs) (λ c. search needs)
     slice-write-out-2
-    same-length
+    (λ c. search needs)
     returns
     returns-2)

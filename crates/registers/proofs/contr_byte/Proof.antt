@@ -6,12 +6,9 @@ use borrow.Author.Needs.{needs}
 use Rattle.registers.proofs.contr_byte.Statement.{statement}
 use Rattle.registers.proofs.contr_byte.Tie as tie
 
-byte-of-requires : tie.Need-byte-of-requires
-byte-of-requires c κs = search needs
-
 returns : tie.Need-returns
 unfolding granted contrByte
 returns c = simp (c .byte-of .ensures)
 
 pub contr-byte-spec : {M : Type 1} → statement M
-contr-byte-spec = tie.close (tie.spec byte-of-requires returns)
+contr-byte-spec = tie.close (tie.spec (λ c κs. search needs) returns)

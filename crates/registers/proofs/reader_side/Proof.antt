@@ -5,27 +5,6 @@ use Rattle.registers.proofs.Laws.{reader-law}
 use Rattle.registers.proofs.reader_side.Statement.{statement}
 use Rattle.registers.proofs.reader_side.Tie as tie
 
-pointer-of-requires : tie.Need-pointer-of-requires
-pointer-of-requires c κs = search needs
-
-after-read-requires : tie.Need-after-read-requires
-after-read-requires c κs = search needs
-
-pointer-of-requires-2 : tie.Need-pointer-of-requires-2
-pointer-of-requires-2 c κs = search needs
-
-pick-register-requires : tie.Need-pick-register-requires
-pick-register-requires c κs = search needs
-
-empties-own-requires : tie.Need-empties-own-requires
-empties-own-requires c κs = search needs
-
-emptied-if-requires : tie.Need-emptied-if-requires
-emptied-if-requires c κs = search needs
-
-side-with-requires : tie.Need-side-with-requires
-side-with-requires c κs = search needs
-
 returns : tie.Need-returns
 returns c =
     simp (
@@ -43,11 +22,6 @@ pub reader-side-spec : {M : Type 1} → statement M
 reader-side-spec =
     tie.close
     (tie.spec
-    pointer-of-requires
-    after-read-requires
-    pointer-of-requires-2
-    pick-register-requires
-    empties-own-requires
-    emptied-if-requires
-    side-with-requires
+    (λ c κs. search needs) (λ c κs. search needs) (λ c κs. search needs) (λ c κs. search needs) (λ c κs. search needs)
+    (λ c κs. search needs) (λ c κs. search needs)
     returns)

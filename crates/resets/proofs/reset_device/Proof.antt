@@ -5,21 +5,6 @@ use borrow.Author.Needs.{needs}
 use Rattle.resets.proofs.reset_device.Statement.{statement}
 use Rattle.resets.proofs.reset_device.Tie as tie
 
-fresh-side-requires : tie.Need-fresh-side-requires
-fresh-side-requires c κs = search needs
-
-fresh-side-requires-2 : tie.Need-fresh-side-requires-2
-fresh-side-requires-2 c κs = search needs
-
-fresh-bus-requires : tie.Need-fresh-bus-requires
-fresh-bus-requires c κs = search needs
-
-fresh-arb-requires : tie.Need-fresh-arb-requires
-fresh-arb-requires c κs = search needs
-
-device-with-requires : tie.Need-device-with-requires
-device-with-requires c κs = search needs
-
 returns : tie.Need-returns
 unfolding wasReset
 returns c =
@@ -35,9 +20,5 @@ pub reset-device-spec : {M : Type 1} → statement M
 reset-device-spec =
     tie.close
     (tie.spec
-    fresh-side-requires
-    fresh-side-requires-2
-    fresh-bus-requires
-    fresh-arb-requires
-    device-with-requires
+    (λ c κs. search needs) (λ c κs. search needs) (λ c κs. search needs) (λ c κs. search needs) (λ c κs. search needs)
     returns)

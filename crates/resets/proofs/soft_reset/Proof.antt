@@ -5,19 +5,9 @@ use borrow.Author.Needs.{needs}
 use Rattle.resets.proofs.soft_reset.Statement.{statement}
 use Rattle.resets.proofs.soft_reset.Tie as tie
 
-swrst-of-requires : tie.Need-swrst-of-requires
-swrst-of-requires c κs = search needs
-
-worth-of-requires : tie.Need-worth-of-requires
-worth-of-requires c κs = search needs
-
-reset-device-requires : tie.Need-reset-device-requires
-reset-device-requires c κs = search needs
-
 returns : tie.Need-returns
 unfolding wasReset
 returns c = simp (c .reset-device .ensures, c .before .worth-of .ensures .0, c .before .before .swrst-of .ensures)
 
 pub soft-reset-spec : {M : Type 1} → statement M
-soft-reset-spec =
-    tie.close (tie.spec swrst-of-requires worth-of-requires reset-device-requires returns)
+soft-reset-spec = tie.close (tie.spec (λ c κs. search needs) (λ c κs. search needs) (λ c κs. search needs) returns)

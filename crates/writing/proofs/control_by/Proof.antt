@@ -6,11 +6,8 @@ use Rattle.writing.proofs.Laws.{control-law}
 use Rattle.writing.proofs.control_by.Statement.{statement}
 use Rattle.writing.proofs.control_by.Tie as tie
 
-bit-0-requires : tie.Need-bit-0-requires
-bit-0-requires c κs = search needs
-
 returns : tie.Need-returns
 returns c = simp (c .bit-0 .ensures) (control-law (withdraws (c .before .args .granted) (c .before .args .v)) (c .before .args .v))
 
 pub control-by-spec : {M : Type 1} → statement M
-control-by-spec = tie.close (tie.spec bit-0-requires returns)
+control-by-spec = tie.close (tie.spec (λ c κs. search needs) returns)

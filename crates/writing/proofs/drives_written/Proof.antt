@@ -5,18 +5,6 @@ use Rattle.writing.proofs.Laws.{drives-law}
 use Rattle.writing.proofs.drives_written.Statement.{statement}
 use Rattle.writing.proofs.drives_written.Tie as tie
 
-register-number-requires : tie.Need-register-number-requires
-register-number-requires c κs = search needs
-
-bit-0-requires : tie.Need-bit-0-requires
-bit-0-requires c κs = search needs
-
-pick-bool-requires : tie.Need-pick-bool-requires
-pick-bool-requires c κs = search needs
-
-pick-bool-requires-2 : tie.Need-pick-bool-requires-2
-pick-bool-requires-2 c κs = search needs
-
 returns : tie.Need-returns
 returns c =
     simp (
@@ -31,8 +19,5 @@ pub drives-written-spec : {M : Type 1} → statement M
 drives-written-spec =
     tie.close
     (tie.spec
-    register-number-requires
-    bit-0-requires
-    pick-bool-requires
-    pick-bool-requires-2
+    (λ c κs. search needs) (λ c κs. search needs) (λ c κs. search needs) (λ c κs. search needs)
     returns)

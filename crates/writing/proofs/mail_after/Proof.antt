@@ -4,14 +4,8 @@ use borrow.Author.Needs.{needs}
 use Rattle.writing.proofs.mail_after.Statement.{statement}
 use Rattle.writing.proofs.mail_after.Tie as tie
 
-pick-u8-requires : tie.Need-pick-u8-requires
-pick-u8-requires c κs = search needs
-
-pick-u8-requires-2 : tie.Need-pick-u8-requires-2
-pick-u8-requires-2 c κs = search needs
-
 returns : tie.Need-returns
 returns c = simp (c .before .pick-u82 .ensures, c .before .before .before .pick-u8 .ensures)
 
 pub mail-after-spec : {M : Type 1} → statement M
-mail-after-spec = tie.close (tie.spec pick-u8-requires pick-u8-requires-2 returns)
+mail-after-spec = tie.close (tie.spec (λ c κs. search needs) (λ c κs. search needs) returns)

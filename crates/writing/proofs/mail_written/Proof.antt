@@ -5,24 +5,6 @@ use Rattle.writing.proofs.Laws.{mail-law}
 use Rattle.writing.proofs.mail_written.Statement.{statement}
 use Rattle.writing.proofs.mail_written.Tie as tie
 
-register-number-requires : tie.Need-register-number-requires
-register-number-requires c κs = search needs
-
-pointer-of-requires : tie.Need-pointer-of-requires
-pointer-of-requires c κs = search needs
-
-raised-in-requires : tie.Need-raised-in-requires
-raised-in-requires c κs = search needs
-
-mail-after-requires : tie.Need-mail-after-requires
-mail-after-requires c κs = search needs
-
-port-of-requires : tie.Need-port-of-requires
-port-of-requires c κs = search needs
-
-side-with-requires : tie.Need-side-with-requires
-side-with-requires c κs = search needs
-
 returns : tie.Need-returns
 returns c =
     simp (
@@ -39,10 +21,6 @@ pub mail-written-spec : {M : Type 1} → statement M
 mail-written-spec =
     tie.close
     (tie.spec
-    register-number-requires
-    pointer-of-requires
-    raised-in-requires
-    mail-after-requires
-    port-of-requires
-    side-with-requires
+    (λ c κs. search needs) (λ c κs. search needs) (λ c κs. search needs) (λ c κs. search needs) (λ c κs. search needs)
+    (λ c κs. search needs)
     returns)

@@ -5,66 +5,6 @@ use borrow.Author.Needs.{needs}
 use Rattle.writing.proofs.paired_by.Statement.{statement}
 use Rattle.writing.proofs.paired_by.Tie as tie
 
-rolls-over-requires : tie.Need-rolls-over-requires
-rolls-over-requires c κs = search needs
-
-pointer-of-requires : tie.Need-pointer-of-requires
-pointer-of-requires c κs = search needs
-
-pointer-of-requires-2 : tie.Need-pointer-of-requires-2
-pointer-of-requires-2 c κs = search needs
-
-turn-of-requires : tie.Need-turn-of-requires
-turn-of-requires c κs = search needs
-
-owns-turn-requires : tie.Need-owns-turn-requires
-owns-turn-requires c κs = search needs
-
-turn-of-requires-2 : tie.Need-turn-of-requires-2
-turn-of-requires-2 c κs = search needs
-
-owns-turn-requires-2 : tie.Need-owns-turn-requires-2
-owns-turn-requires-2 c κs = search needs
-
-is-connect-requires : tie.Need-is-connect-requires
-is-connect-requires c κs = search needs
-
-is-connect-requires-2 : tie.Need-is-connect-requires-2
-is-connect-requires-2 c κs = search needs
-
-turn-of-requires-3 : tie.Need-turn-of-requires-3
-turn-of-requires-3 c κs = search needs
-
-turn-written-requires : tie.Need-turn-written-requires
-turn-written-requires c κs = search needs
-
-turn-written-requires-2 : tie.Need-turn-written-requires-2
-turn-written-requires-2 c κs = search needs
-
-writer-side-requires : tie.Need-writer-side-requires
-writer-side-requires c κs = search needs
-
-mail-written-requires : tie.Need-mail-written-requires
-mail-written-requires c κs = search needs
-
-writer-side-requires-2 : tie.Need-writer-side-requires-2
-writer-side-requires-2 c κs = search needs
-
-mail-written-requires-2 : tie.Need-mail-written-requires-2
-mail-written-requires-2 c κs = search needs
-
-drives-written-requires : tie.Need-drives-written-requires
-drives-written-requires c κs = search needs
-
-drives-written-requires-2 : tie.Need-drives-written-requires-2
-drives-written-requires-2 c κs = search needs
-
-with-turn-requires : tie.Need-with-turn-requires
-with-turn-requires c κs = search needs
-
-device-with-requires : tie.Need-device-with-requires
-device-with-requires c κs = search needs
-
 returns : tie.Need-returns
 unfolding paired
 returns c =
@@ -95,24 +35,8 @@ pub paired-by-spec : {M : Type 1} → statement M
 paired-by-spec =
     tie.close
     (tie.spec
-    rolls-over-requires
-    pointer-of-requires
-    pointer-of-requires-2
-    turn-of-requires
-    owns-turn-requires
-    turn-of-requires-2
-    owns-turn-requires-2
-    is-connect-requires
-    is-connect-requires-2
-    turn-of-requires-3
-    turn-written-requires
-    turn-written-requires-2
-    writer-side-requires
-    mail-written-requires
-    writer-side-requires-2
-    mail-written-requires-2
-    drives-written-requires
-    drives-written-requires-2
-    with-turn-requires
-    device-with-requires
+    (λ c κs. search needs) (λ c κs. search needs) (λ c κs. search needs) (λ c κs. search needs) (λ c κs. search needs)
+    (λ c κs. search needs) (λ c κs. search needs) (λ c κs. search needs) (λ c κs. search needs) (λ c κs. search needs)
+    (λ c κs. search needs) (λ c κs. search needs) (λ c κs. search needs) (λ c κs. search needs) (λ c κs. search needs)
+    (λ c κs. search needs) (λ c κs. search needs) (λ c κs. search needs) (λ c κs. search needs) (λ c κs. search needs)
     returns)

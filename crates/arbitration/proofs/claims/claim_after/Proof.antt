@@ -4,24 +4,6 @@ use borrow.Author.Needs.{needs}
 use Rattle.arbitration.proofs.claims.claim_after.Statement.{statement}
 use Rattle.arbitration.proofs.claims.claim_after.Tie as tie
 
-enum-told : tie.Need-enum-told
-enum-told c = search needs
-
-new-claim-requires : tie.Need-new-claim-requires
-new-claim-requires c κs = search needs
-
-enum-known-t : tie.Need-enum-known-t
-enum-known-t c = search needs
-
-requests-requires : tie.Need-requests-requires
-requests-requires c κs = search needs
-
-new-claim-requires-2 : tie.Need-new-claim-requires-2
-new-claim-requires-2 c κs = search needs
-
-enum-known-t-2 : tie.Need-enum-known-t-2
-enum-known-t-2 c = search needs
-
 returns : tie.Need-returns
 returns c = simp (← c .new-claim .ensures, c .before .enum-told .given .1)
 
@@ -38,12 +20,8 @@ pub claim-after-spec : {M : Type 1} → statement M
 claim-after-spec =
     tie.close
     (tie.spec
-    enum-told
-    new-claim-requires
-    enum-known-t
-    requests-requires
-    new-claim-requires-2
-    enum-known-t-2
+    (λ c. search needs) (λ c κs. search needs) (λ c. search needs) (λ c κs. search needs) (λ c κs. search needs)
+    (λ c. search needs)
     returns
     returns-2
     returns-3

@@ -5,12 +5,6 @@ use borrow.Author.Needs.{needs}
 use Rattle.arbitration.proofs.claims.claim_by.Statement.{statement}
 use Rattle.arbitration.proofs.claims.claim_by.Tie as tie
 
-winner-of-requires : tie.Need-winner-of-requires
-winner-of-requires c κs = search needs
-
-ground-of-requires : tie.Need-ground-of-requires
-ground-of-requires c κs = search needs
-
 returns : tie.Need-returns
 unfolding winner
 returns c = simp (← c .ground-of .ensures, ← c .before .winner-of .ensures, c .before .before .if2 .taken, c .before .before .before .if1 .taken)
@@ -23,8 +17,6 @@ returns-3 : tie.Need-returns-3
 unfolding winner
 returns-3 c = simp (c .if3 .taken, c .before .if1 .left)
 
-returns-4 : tie.Need-returns-4
-returns-4 c = search needs
-
 pub claim-by-spec : {M : Type 1} → statement M
-claim-by-spec = tie.close (tie.spec winner-of-requires ground-of-requires returns returns-2 returns-3 returns-4)
+claim-by-spec =
+    tie.close (tie.spec (λ c κs. search needs) (λ c κs. search needs) returns returns-2 returns-3 (λ c. search needs))

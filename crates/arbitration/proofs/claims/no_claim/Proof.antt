@@ -4,18 +4,6 @@ use borrow.Author.Needs.{needs}
 use Rattle.arbitration.proofs.claims.no_claim.Statement.{statement}
 use Rattle.arbitration.proofs.claims.no_claim.Tie as tie
 
-enum-told : tie.Need-enum-told
-enum-told c = search needs
-
-enum-known-t : tie.Need-enum-known-t
-enum-known-t c = search needs
-
-requests-requires : tie.Need-requests-requires
-requests-requires c κs = search needs
-
-enum-told-2 : tie.Need-enum-told-2
-enum-told-2 c = search needs
-
 returns : tie.Need-returns
 returns c = simp (c .before .before .enum-told .given .1)
 
@@ -28,4 +16,8 @@ returns-3 c = simp (c .enum-told2 .given .1)
 pub no-claim-spec : {M : Type 1} → statement M
 no-claim-spec =
     tie.close
-    (tie.spec enum-told enum-known-t requests-requires enum-told-2 returns returns-2 returns-3)
+    (tie.spec
+    (λ c. search needs) (λ c. search needs) (λ c κs. search needs) (λ c. search needs)
+    returns
+    returns-2
+    returns-3)

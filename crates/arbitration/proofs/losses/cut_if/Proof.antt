@@ -5,18 +5,6 @@ use Rattle.arbitration.proofs.Laws.{cut-side}
 use Rattle.arbitration.proofs.losses.cut_if.Statement.{statement}
 use Rattle.arbitration.proofs.losses.cut_if.Tie as tie
 
-pointer-of-requires : tie.Need-pointer-of-requires
-pointer-of-requires c κs = search needs
-
-cut-contr-requires : tie.Need-cut-contr-requires
-cut-contr-requires c κs = search needs
-
-port-of-requires : tie.Need-port-of-requires
-port-of-requires c κs = search needs
-
-side-with-requires : tie.Need-side-with-requires
-side-with-requires c κs = search needs
-
 returns : tie.Need-returns
 returns c =
     simp (
@@ -30,4 +18,6 @@ returns c =
 pub cut-if-spec : {M : Type 1} → statement M
 cut-if-spec =
     tie.close
-    (tie.spec pointer-of-requires cut-contr-requires port-of-requires side-with-requires returns)
+    (tie.spec
+    (λ c κs. search needs) (λ c κs. search needs) (λ c κs. search needs) (λ c κs. search needs)
+    returns)

@@ -4,27 +4,6 @@ use borrow.Author.Needs.{needs}
 use Rattle.arbitration.proofs.losses.no_cut.Statement.{statement}
 use Rattle.arbitration.proofs.losses.no_cut.Tie as tie
 
-enum-told : tie.Need-enum-told
-enum-told c = search needs
-
-enum-told-2 : tie.Need-enum-told-2
-enum-told-2 c = search needs
-
-enum-known-t : tie.Need-enum-known-t
-enum-known-t c = search needs
-
-enum-told-3 : tie.Need-enum-told-3
-enum-told-3 c = search needs
-
-is-cut-requires : tie.Need-is-cut-requires
-is-cut-requires c κs = search needs
-
-enum-told-4 : tie.Need-enum-told-4
-enum-told-4 c = search needs
-
-is-cut-requires-2 : tie.Need-is-cut-requires-2
-is-cut-requires-2 c κs = search needs
-
 returns : tie.Need-returns
 returns c = simp (c .enum-told .given .1)
 
@@ -41,13 +20,8 @@ pub no-cut-spec : {M : Type 1} → statement M
 no-cut-spec =
     tie.close
     (tie.spec
-    enum-told
-    enum-told-2
-    enum-known-t
-    enum-told-3
-    is-cut-requires
-    enum-told-4
-    is-cut-requires-2
+    (λ c. search needs) (λ c. search needs) (λ c. search needs) (λ c. search needs) (λ c κs. search needs)
+    (λ c. search needs) (λ c κs. search needs)
     returns
     returns-2
     returns-3
