@@ -8,66 +8,6 @@ use borrow.Author.Needs.{needs}
 use Rattle.effects.proofs.effect_of.Statement.{statement}
 use Rattle.effects.proofs.effect_of.Tie as tie
 
-enum-known-e : tie.Need-enum-known-e
-enum-known-e c = search needs
-
-on-command-requires : tie.Need-on-command-requires
-on-command-requires c κs = search needs
-
-enum-known-e-2 : tie.Need-enum-known-e-2
-enum-known-e-2 c = search needs
-
-on-write-requires : tie.Need-on-write-requires
-on-write-requires c κs = search needs
-
-enum-known-e-3 : tie.Need-enum-known-e-3
-enum-known-e-3 c = search needs
-
-on-read-requires : tie.Need-on-read-requires
-on-read-requires c κs = search needs
-
-enum-known-e-4 : tie.Need-enum-known-e-4
-enum-known-e-4 c = search needs
-
-on-stop-requires : tie.Need-on-stop-requires
-on-stop-requires c κs = search needs
-
-enum-known-e-5 : tie.Need-enum-known-e-5
-enum-known-e-5 c = search needs
-
-on-pair-requires : tie.Need-on-pair-requires
-on-pair-requires c κs = search needs
-
-enum-known-e-6 : tie.Need-enum-known-e-6
-enum-known-e-6 c = search needs
-
-on-lines-requires : tie.Need-on-lines-requires
-on-lines-requires c κs = search needs
-
-enum-told : tie.Need-enum-told
-enum-told c = search needs
-
-on-tick-requires : tie.Need-on-tick-requires
-on-tick-requires c κs = search needs
-
-enum-known-e-7 : tie.Need-enum-known-e-7
-enum-known-e-7 c = search needs
-
-on-pulse-requires : tie.Need-on-pulse-requires
-on-pulse-requires c κs = search needs
-
-enum-told-2 : tie.Need-enum-told-2
-enum-told-2 c = search needs
-
-on-reset-requires : tie.Need-on-reset-requires
-on-reset-requires c κs = search needs
-
-enum-known-e-8 : tie.Need-enum-known-e-8
-enum-known-e-8 c = search needs
-
-on-general-call-requires : tie.Need-on-general-call-requires
-on-general-call-requires c κs = search needs
-
 returns : tie.Need-returns
 unfolding effectOf wasRead lined ticked effect byteRead inSequence acknowledged
 returns c = simp (← c .on-command .ensures, c .before .before .e .given .1)
@@ -112,26 +52,10 @@ pub effect-of-spec : {M : Type 1} → statement M
 effect-of-spec =
     tie.close
     (tie.spec
-    enum-known-e
-    on-command-requires
-    enum-known-e-2
-    on-write-requires
-    enum-known-e-3
-    on-read-requires
-    enum-known-e-4
-    on-stop-requires
-    enum-known-e-5
-    on-pair-requires
-    enum-known-e-6
-    on-lines-requires
-    enum-told
-    on-tick-requires
-    enum-known-e-7
-    on-pulse-requires
-    enum-told-2
-    on-reset-requires
-    enum-known-e-8
-    on-general-call-requires
+    (λ c. search needs) (λ c κs. search needs) (λ c. search needs) (λ c κs. search needs) (λ c. search needs)
+    (λ c κs. search needs) (λ c. search needs) (λ c κs. search needs) (λ c. search needs) (λ c κs. search needs)
+    (λ c. search needs) (λ c κs. search needs) (λ c. search needs) (λ c κs. search needs) (λ c. search needs)
+    (λ c κs. search needs) (λ c. search needs) (λ c κs. search needs) (λ c. search needs) (λ c κs. search needs)
     returns
     returns-2
     returns-3

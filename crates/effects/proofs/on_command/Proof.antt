@@ -8,33 +8,6 @@ use borrow.Author.Needs.{needs}
 use Rattle.effects.proofs.on_command.Statement.{statement}
 use Rattle.effects.proofs.on_command.Tie as tie
 
-acknowledged-number-requires : tie.Need-acknowledged-number-requires
-acknowledged-number-requires c κs = search needs
-
-enum-told : tie.Need-enum-told
-enum-told c = search needs
-
-commanded-side-requires : tie.Need-commanded-side-requires
-commanded-side-requires c κs = search needs
-
-device-with-requires : tie.Need-device-with-requires
-device-with-requires c κs = search needs
-
-did-so-requires : tie.Need-did-so-requires
-did-so-requires c κs = search needs
-
-enum-told-2 : tie.Need-enum-told-2
-enum-told-2 c = search needs
-
-commanded-side-requires-2 : tie.Need-commanded-side-requires-2
-commanded-side-requires-2 c κs = search needs
-
-device-with-requires-2 : tie.Need-device-with-requires-2
-device-with-requires-2 c κs = search needs
-
-did-so-requires-2 : tie.Need-did-so-requires-2
-did-so-requires-2 c κs = search needs
-
 returns : tie.Need-returns
 unfolding effectOf wasRead lined ticked effect byteRead inSequence acknowledged outcome
 returns c =
@@ -61,14 +34,7 @@ pub on-command-spec : {M : Type 1} → statement M
 on-command-spec =
     tie.close
     (tie.spec
-    acknowledged-number-requires
-    enum-told
-    commanded-side-requires
-    device-with-requires
-    did-so-requires
-    enum-told-2
-    commanded-side-requires-2
-    device-with-requires-2
-    did-so-requires-2
+    (λ c κs. search needs) (λ c. search needs) (λ c κs. search needs) (λ c κs. search needs) (λ c κs. search needs)
+    (λ c. search needs) (λ c κs. search needs) (λ c κs. search needs) (λ c κs. search needs)
     returns
     returns-2)

@@ -8,24 +8,6 @@ use borrow.Author.Needs.{needs}
 use Rattle.effects.proofs.on_pulse.Statement.{statement}
 use Rattle.effects.proofs.on_pulse.Tie as tie
 
-switch-of-requires : tie.Need-switch-of-requires
-switch-of-requires c κs = search needs
-
-initialises-requires : tie.Need-initialises-requires
-initialises-requires c κs = search needs
-
-outcome-number-requires : tie.Need-outcome-number-requires
-outcome-number-requires c κs = search needs
-
-did-so-requires : tie.Need-did-so-requires
-did-so-requires c κs = search needs
-
-outcome-number-requires-2 : tie.Need-outcome-number-requires-2
-outcome-number-requires-2 c κs = search needs
-
-did-so-requires-2 : tie.Need-did-so-requires-2
-did-so-requires-2 c κs = search needs
-
 returns : tie.Need-returns
 unfolding effectOf wasRead lined ticked effect byteRead inSequence acknowledged outcome
 returns c =
@@ -52,11 +34,7 @@ pub on-pulse-spec : {M : Type 1} → statement M
 on-pulse-spec =
     tie.close
     (tie.spec
-    switch-of-requires
-    initialises-requires
-    outcome-number-requires
-    did-so-requires
-    outcome-number-requires-2
-    did-so-requires-2
+    (λ c κs. search needs) (λ c κs. search needs) (λ c κs. search needs) (λ c κs. search needs) (λ c κs. search needs)
+    (λ c κs. search needs)
     returns
     returns-2)

@@ -10,66 +10,6 @@ use Rattle.effects.proofs.Laws.{read-law}
 use Rattle.effects.proofs.on_read.Statement.{statement}
 use Rattle.effects.proofs.on_read.Tie as tie
 
-turn-of-requires : tie.Need-turn-of-requires
-turn-of-requires c κs = search needs
-
-owns-turn-requires : tie.Need-owns-turn-requires
-owns-turn-requires c κs = search needs
-
-turn-of-requires-2 : tie.Need-turn-of-requires-2
-turn-of-requires-2 c κs = search needs
-
-owns-turn-requires-2 : tie.Need-owns-turn-requires-2
-owns-turn-requires-2 c κs = search needs
-
-enum-told : tie.Need-enum-told
-enum-told c = search needs
-
-reader-side-requires : tie.Need-reader-side-requires
-reader-side-requires c κs = search needs
-
-empties-own-requires : tie.Need-empties-own-requires
-empties-own-requires c κs = search needs
-
-sender-side-requires : tie.Need-sender-side-requires
-sender-side-requires c κs = search needs
-
-device-with-requires : tie.Need-device-with-requires
-device-with-requires c κs = search needs
-
-outcome-number-requires : tie.Need-outcome-number-requires
-outcome-number-requires c κs = search needs
-
-register-byte-requires : tie.Need-register-byte-requires
-register-byte-requires c κs = search needs
-
-did-so-requires : tie.Need-did-so-requires
-did-so-requires c κs = search needs
-
-enum-told-2 : tie.Need-enum-told-2
-enum-told-2 c = search needs
-
-empties-own-requires-2 : tie.Need-empties-own-requires-2
-empties-own-requires-2 c κs = search needs
-
-sender-side-requires-2 : tie.Need-sender-side-requires-2
-sender-side-requires-2 c κs = search needs
-
-reader-side-requires-2 : tie.Need-reader-side-requires-2
-reader-side-requires-2 c κs = search needs
-
-device-with-requires-2 : tie.Need-device-with-requires-2
-device-with-requires-2 c κs = search needs
-
-outcome-number-requires-2 : tie.Need-outcome-number-requires-2
-outcome-number-requires-2 c κs = search needs
-
-register-byte-requires-2 : tie.Need-register-byte-requires-2
-register-byte-requires-2 c κs = search needs
-
-did-so-requires-2 : tie.Need-did-so-requires-2
-did-so-requires-2 c κs = search needs
-
 returns : tie.Need-returns
 returns c =
     let chosen = c .before .before .before .before .before .before .before in
@@ -112,25 +52,9 @@ pub on-read-spec : {M : Type 1} → statement M
 on-read-spec =
     tie.close
     (tie.spec
-    turn-of-requires
-    owns-turn-requires
-    turn-of-requires-2
-    owns-turn-requires-2
-    enum-told
-    reader-side-requires
-    empties-own-requires
-    sender-side-requires
-    device-with-requires
-    outcome-number-requires
-    register-byte-requires
-    did-so-requires
-    enum-told-2
-    empties-own-requires-2
-    sender-side-requires-2
-    reader-side-requires-2
-    device-with-requires-2
-    outcome-number-requires-2
-    register-byte-requires-2
-    did-so-requires-2
+    (λ c κs. search needs) (λ c κs. search needs) (λ c κs. search needs) (λ c κs. search needs) (λ c. search needs)
+    (λ c κs. search needs) (λ c κs. search needs) (λ c κs. search needs) (λ c κs. search needs) (λ c κs. search needs)
+    (λ c κs. search needs) (λ c κs. search needs) (λ c. search needs) (λ c κs. search needs) (λ c κs. search needs)
+    (λ c κs. search needs) (λ c κs. search needs) (λ c κs. search needs) (λ c κs. search needs) (λ c κs. search needs)
     returns
     returns-2)

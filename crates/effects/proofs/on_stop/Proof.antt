@@ -8,18 +8,6 @@ use borrow.Author.Needs.{needs}
 use Rattle.effects.proofs.on_stop.Statement.{statement}
 use Rattle.effects.proofs.on_stop.Tie as tie
 
-enum-told : tie.Need-enum-told
-enum-told c = search needs
-
-stop-by-0-requires : tie.Need-stop-by-0-requires
-stop-by-0-requires c κs = search needs
-
-enum-told-2 : tie.Need-enum-told-2
-enum-told-2 c = search needs
-
-stop-by-1-requires : tie.Need-stop-by-1-requires
-stop-by-1-requires c κs = search needs
-
 returns : tie.Need-returns
 unfolding effectOf wasRead lined ticked effect byteRead inSequence acknowledged
 returns c = simp (← c .stop-by-0 .ensures, c .before .enum-told .given .1)
@@ -31,4 +19,7 @@ returns-2 c = simp (← c .stop-by-1 .ensures, c .before .enum-told2 .given .1)
 pub on-stop-spec : {M : Type 1} → statement M
 on-stop-spec =
     tie.close
-    (tie.spec enum-told stop-by-0-requires enum-told-2 stop-by-1-requires returns returns-2)
+    (tie.spec
+    (λ c. search needs) (λ c κs. search needs) (λ c. search needs) (λ c κs. search needs)
+    returns
+    returns-2)

@@ -8,18 +8,6 @@ use borrow.Author.Needs.{needs}
 use Rattle.effects.proofs.on_write.Statement.{statement}
 use Rattle.effects.proofs.on_write.Tie as tie
 
-enum-told : tie.Need-enum-told
-enum-told c = search needs
-
-on-write-0-requires : tie.Need-on-write-0-requires
-on-write-0-requires c κs = search needs
-
-enum-told-2 : tie.Need-enum-told-2
-enum-told-2 c = search needs
-
-on-write-1-requires : tie.Need-on-write-1-requires
-on-write-1-requires c κs = search needs
-
 returns : tie.Need-returns
 unfolding effectOf wasRead lined ticked effect byteRead inSequence acknowledged
 returns c = simp (← c .on-write-0 .ensures, c .before .enum-told .given .1)
@@ -31,4 +19,7 @@ returns-2 c = simp (← c .on-write-1 .ensures, c .before .enum-told2 .given .1)
 pub on-write-spec : {M : Type 1} → statement M
 on-write-spec =
     tie.close
-    (tie.spec enum-told on-write-0-requires enum-told-2 on-write-1-requires returns returns-2)
+    (tie.spec
+    (λ c. search needs) (λ c κs. search needs) (λ c. search needs) (λ c κs. search needs)
+    returns
+    returns-2)

@@ -4,21 +4,6 @@ use borrow.Author.Needs.{needs}
 use Rattle.effects.proofs.ticked_arb.Statement.{statement}
 use Rattle.effects.proofs.ticked_arb.Tie as tie
 
-last-of-requires : tie.Need-last-of-requires
-last-of-requires c κs = search needs
-
-switch-of-requires : tie.Need-switch-of-requires
-switch-of-requires c κs = search needs
-
-less-one-requires : tie.Need-less-one-requires
-less-one-requires c κs = search needs
-
-turn-of-requires : tie.Need-turn-of-requires
-turn-of-requires c κs = search needs
-
-arb-with-requires : tie.Need-arb-with-requires
-arb-with-requires c κs = search needs
-
 returns : tie.Need-returns
 returns c =
     simp (
@@ -33,9 +18,5 @@ pub ticked-arb-spec : {M : Type 1} → statement M
 ticked-arb-spec =
     tie.close
     (tie.spec
-    last-of-requires
-    switch-of-requires
-    less-one-requires
-    turn-of-requires
-    arb-with-requires
+    (λ c κs. search needs) (λ c κs. search needs) (λ c κs. search needs) (λ c κs. search needs) (λ c κs. search needs)
     returns)

@@ -6,9 +6,6 @@ use Rattle.hearing.proofs.Light.{light-heard, light-gives}
 use Rattle.hearing.proofs.hear_one.Statement.{statement}
 use Rattle.hearing.proofs.hear_one.Tie as tie
 
-is-light-requires : tie.Need-is-light-requires
-is-light-requires c κs = search needs
-
 with-bit-requires : tie.Need-with-bit-requires
 with-bit-requires c κs = sym (c .before .is-light .ensures) ∙ c .if1 .taken
 
@@ -21,8 +18,6 @@ returns c =
     let light = sym (c .before .before .is-light .ensures) ∙ c .before .if1 .taken in
     (c .with-bit .ensures ∙ light-heard _ _ _ light (s .args .address), light-gives _ _ _ light (s .args .m))
 
-returns-2 : tie.Need-returns-2
-returns-2 c = search needs
-
 pub hear-one-spec : {M : Type 1} → statement M
-hear-one-spec = tie.close (tie.spec is-light-requires with-bit-requires heavily-requires returns returns-2)
+hear-one-spec =
+    tie.close (tie.spec (λ c κs. search needs) with-bit-requires heavily-requires returns (λ c. search needs))

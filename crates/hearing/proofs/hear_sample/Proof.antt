@@ -7,20 +7,8 @@ use borrow.Author.Needs.{needs}
 use Rattle.hearing.proofs.hear_sample.Statement.{statement}
 use Rattle.hearing.proofs.hear_sample.Tie as tie
 
-is-still-requires : tie.Need-is-still-requires
-is-still-requires c κs = search needs
-
-nothing-given-requires : tie.Need-nothing-given-requires
-nothing-given-requires c κs = search needs
-
-are-light-requires : tie.Need-are-light-requires
-are-light-requires c κs = search needs
-
 with-bits-requires : tie.Need-with-bits-requires
 with-bits-requires c κs = sym (c .before .are-light .ensures) ∙ c .if2 .taken
-
-nothing-given-requires-2 : tie.Need-nothing-given-requires-2
-nothing-given-requires-2 c κs = search needs
 
 not-light-requires : tie.Need-not-light-requires
 not-light-requires c κs = sym (c .before .are-light .ensures) ∙ c .if2 .left
@@ -41,11 +29,9 @@ pub hear-sample-spec : {M : Type 1} → statement M
 hear-sample-spec =
     tie.close
     (tie.spec
-    is-still-requires
-    nothing-given-requires
-    are-light-requires
+    (λ c κs. search needs) (λ c κs. search needs) (λ c κs. search needs)
     with-bits-requires
-    nothing-given-requires-2
+    (λ c κs. search needs)
     not-light-requires
     returns
     returns-2

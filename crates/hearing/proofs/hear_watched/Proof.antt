@@ -5,24 +5,6 @@ use borrow.Author.Needs.{needs}
 use Rattle.hearing.proofs.hear_watched.Statement.{statement}
 use Rattle.hearing.proofs.hear_watched.Tie as tie
 
-levels-0-requires : tie.Need-levels-0-requires
-levels-0-requires c κs = search needs
-
-levels-0-requires-2 : tie.Need-levels-0-requires-2
-levels-0-requires-2 c κs = search needs
-
-hear-one-requires : tie.Need-hear-one-requires
-hear-one-requires c κs = search needs
-
-levels-1-requires : tie.Need-levels-1-requires
-levels-1-requires c κs = search needs
-
-levels-1-requires-2 : tie.Need-levels-1-requires-2
-levels-1-requires-2 c κs = search needs
-
-hear-one-requires-2 : tie.Need-hear-one-requires-2
-hear-one-requires-2 c κs = search needs
-
 returns : tie.Need-returns
 returns c =
     let last = c .before .before in
@@ -37,4 +19,7 @@ returns c =
 pub hear-watched-spec : {M : Type 1} → statement M
 hear-watched-spec =
     tie.close
-    (tie.spec levels-0-requires levels-0-requires-2 hear-one-requires levels-1-requires levels-1-requires-2 hear-one-requires-2 returns)
+    (tie.spec
+    (λ c κs. search needs) (λ c κs. search needs) (λ c κs. search needs) (λ c κs. search needs) (λ c κs. search needs)
+    (λ c κs. search needs)
+    returns)

@@ -6,27 +6,6 @@ use borrow.Author.Needs.{needs}
 use Rattle.hearing.proofs.heavily.Statement.{statement}
 use Rattle.hearing.proofs.heavily.Tie as tie
 
-on-stop-requires : tie.Need-on-stop-requires
-on-stop-requires c κs = search needs
-
-stop-gives-requires : tie.Need-stop-gives-requires
-stop-gives-requires c κs = search needs
-
-on-start-requires : tie.Need-on-start-requires
-on-start-requires c κs = search needs
-
-is-outside-requires : tie.Need-is-outside-requires
-is-outside-requires c κs = search needs
-
-awaited-after-requires : tie.Need-awaited-after-requires
-awaited-after-requires c κs = search needs
-
-is-owing-requires : tie.Need-is-owing-requires
-is-owing-requires c κs = search needs
-
-byte-gives-requires : tie.Need-byte-gives-requires
-byte-gives-requires c κs = search needs
-
 returns : tie.Need-returns
 returns c =
     let s = c .before .before .before .before in
@@ -51,4 +30,12 @@ returns-4 c =
     (is-ended (s .args .address) (s .args .l) _ _ (c .before .before .before .awaited-after .ensures) (c .before .before .is-owing .ensures) ∙ e .0, c .byte-gives .ensures ∙ e .1)
 
 pub heavily-spec : {M : Type 1} → statement M
-heavily-spec = tie.close (tie.spec on-stop-requires stop-gives-requires on-start-requires is-outside-requires awaited-after-requires is-owing-requires byte-gives-requires returns returns-2 returns-3 returns-4)
+heavily-spec =
+    tie.close
+    (tie.spec
+    (λ c κs. search needs) (λ c κs. search needs) (λ c κs. search needs) (λ c κs. search needs) (λ c κs. search needs)
+    (λ c κs. search needs) (λ c κs. search needs)
+    returns
+    returns-2
+    returns-3
+    returns-4)

@@ -7,29 +7,11 @@ use borrow.Author.Needs.{needs}
 use Rattle.hearing.proofs.not_light.Statement.{statement}
 use Rattle.hearing.proofs.not_light.Tie as tie
 
-levels-1-requires : tie.Need-levels-1-requires
-levels-1-requires c κs = search needs
-
-levels-1-requires-2 : tie.Need-levels-1-requires-2
-levels-1-requires-2 c κs = search needs
-
-is-light-requires : tie.Need-is-light-requires
-is-light-requires c κs = search needs
-
 heavy-0-requires : tie.Need-heavy-0-requires
 heavy-0-requires c κs =
     let s = c .before .before .before .before .before .before .args in
     let one = sym (light-at One (s .before) (s .now) (s .s .bus1) _ _ (c .before .before .before .levels-1 .ensures) (c .before .before .levels-12 .ensures)) ∙ sym (c .before .is-light .ensures) ∙ c .if1 .taken in
     (other-heavy (s .before) (s .now) (s .s) (c .before .before .before .before .before .before .pre) one, one)
-
-levels-0-requires : tie.Need-levels-0-requires
-levels-0-requires c κs = search needs
-
-levels-0-requires-2 : tie.Need-levels-0-requires-2
-levels-0-requires-2 c κs = search needs
-
-is-light-requires-2 : tie.Need-is-light-requires-2
-is-light-requires-2 c κs = search needs
 
 heavy-1-requires : tie.Need-heavy-1-requires
 heavy-1-requires c κs =
@@ -51,4 +33,14 @@ returns-3 : tie.Need-returns-3
 returns-3 c = c .heavy-both .ensures
 
 pub not-light-spec : {M : Type 1} → statement M
-not-light-spec = tie.close (tie.spec levels-1-requires levels-1-requires-2 is-light-requires heavy-0-requires levels-0-requires levels-0-requires-2 is-light-requires-2 heavy-1-requires heavy-both-requires returns returns-2 returns-3)
+not-light-spec =
+    tie.close
+    (tie.spec
+    (λ c κs. search needs) (λ c κs. search needs) (λ c κs. search needs)
+    heavy-0-requires
+    (λ c κs. search needs) (λ c κs. search needs) (λ c κs. search needs)
+    heavy-1-requires
+    heavy-both-requires
+    returns
+    returns-2
+    returns-3)

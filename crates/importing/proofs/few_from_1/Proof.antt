@@ -4,18 +4,6 @@ use borrow.Author.Needs.{needs}
 use Rattle.importing.proofs.few_from_1.Statement.{statement}
 use Rattle.importing.proofs.few_from_1.Tie as tie
 
-enum-told : tie.Need-enum-told
-enum-told c = search needs
-
-enum-known-h : tie.Need-enum-known-h
-enum-known-h c = search needs
-
-enum-known-h-2 : tie.Need-enum-known-h-2
-enum-known-h-2 c = search needs
-
-returns : tie.Need-returns
-returns c = search needs
-
 returns-2 : tie.Need-returns-2
 returns-2 c = simp (c .before .h .given .1)
 
@@ -24,4 +12,8 @@ returns-3 c = simp (c .before .h2 .given .1)
 
 pub few-from-1-spec : {M : Type 1} → statement M
 few-from-1-spec =
-    tie.close (tie.spec enum-told enum-known-h enum-known-h-2 returns returns-2 returns-3)
+    tie.close
+    (tie.spec
+    (λ c. search needs) (λ c. search needs) (λ c. search needs) (λ c. search needs)
+    returns-2
+    returns-3)

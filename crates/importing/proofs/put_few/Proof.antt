@@ -12,20 +12,11 @@ use borrow.Author.Needs.{needs}
 use Rattle.importing.proofs.put_few.Statement.{statement}
 use Rattle.importing.proofs.put_few.Tie as tie
 
-enum-told : tie.Need-enum-told
-enum-told c = search needs
-
-enum-known-f : tie.Need-enum-known-f
-enum-known-f c = search needs
-
 put-event-requires : tie.Need-put-event-requires
 put-event-requires c κs =
     let one = ap (λ (x : Few). length (listed x)) (c .before .before .f .given .1) in
     let s = c .before .before .before .before .before in
     (omega arith, omega (arith, one, s .pre .1))
-
-enum-known-f-2 : tie.Need-enum-known-f-2
-enum-known-f-2 c = search needs
 
 put-event-requires-2 : tie.Need-put-event-requires-2
 put-event-requires-2 c κs =
@@ -49,17 +40,11 @@ returns c =
     let none = c .enum-told .given .1 in
     (omega (arith, ap (λ (x : Few). length (listed x)) none), rw none refl)
 
-same-length : tie.Need-same-length
-same-length c = search needs
-
 returns-2 : tie.Need-returns-2
 returns-2 c =
     let one = c .before .before .before .before .before .f .given .1 in
     let put = c .before .before .put-event .ensures in
     (omega (arith, put .0, ap (λ (x : Few). length (listed x)) one), rw one (put .1))
-
-same-length-2 : tie.Need-same-length-2
-same-length-2 c = search needs
 
 returns-3 : tie.Need-returns-3
 returns-3 c =
@@ -72,14 +57,13 @@ pub put-few-spec : {M : Type 1} → statement M
 put-few-spec =
     tie.close
     (tie.spec
-    enum-told
-    enum-known-f
+    (λ c. search needs) (λ c. search needs)
     put-event-requires
-    enum-known-f-2
+    (λ c. search needs)
     put-event-requires-2
     put-event-requires-3
     returns
-    same-length
+    (λ c. search needs)
     returns-2
-    same-length-2
+    (λ c. search needs)
     returns-3)

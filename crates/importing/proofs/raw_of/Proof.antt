@@ -5,93 +5,6 @@ use borrow.Author.Needs.{needs}
 use Rattle.importing.proofs.raw_of.Statement.{statement}
 use Rattle.importing.proofs.raw_of.Tie as tie
 
-enum-known-e : tie.Need-enum-known-e
-enum-known-e c = search needs
-
-master-byte-requires : tie.Need-master-byte-requires
-master-byte-requires c κs = search needs
-
-raw-with-requires : tie.Need-raw-with-requires
-raw-with-requires c κs = search needs
-
-enum-known-e-2 : tie.Need-enum-known-e-2
-enum-known-e-2 c = search needs
-
-master-byte-requires-2 : tie.Need-master-byte-requires-2
-master-byte-requires-2 c κs = search needs
-
-raw-with-requires-2 : tie.Need-raw-with-requires-2
-raw-with-requires-2 c κs = search needs
-
-enum-known-e-3 : tie.Need-enum-known-e-3
-enum-known-e-3 c = search needs
-
-master-byte-requires-3 : tie.Need-master-byte-requires-3
-master-byte-requires-3 c κs = search needs
-
-raw-with-requires-3 : tie.Need-raw-with-requires-3
-raw-with-requires-3 c κs = search needs
-
-enum-known-e-4 : tie.Need-enum-known-e-4
-enum-known-e-4 c = search needs
-
-master-byte-requires-4 : tie.Need-master-byte-requires-4
-master-byte-requires-4 c κs = search needs
-
-raw-with-requires-4 : tie.Need-raw-with-requires-4
-raw-with-requires-4 c κs = search needs
-
-enum-known-e-5 : tie.Need-enum-known-e-5
-enum-known-e-5 c = search needs
-
-raw-with-requires-5 : tie.Need-raw-with-requires-5
-raw-with-requires-5 c κs = search needs
-
-enum-known-e-6 : tie.Need-enum-known-e-6
-enum-known-e-6 c = search needs
-
-worth-of-requires : tie.Need-worth-of-requires
-worth-of-requires c κs = search needs
-
-worth-of-requires-2 : tie.Need-worth-of-requires-2
-worth-of-requires-2 c κs = search needs
-
-worth-of-requires-3 : tie.Need-worth-of-requires-3
-worth-of-requires-3 c κs = search needs
-
-raw-with-requires-6 : tie.Need-raw-with-requires-6
-raw-with-requires-6 c κs = search needs
-
-enum-told : tie.Need-enum-told
-enum-told c = search needs
-
-raw-with-requires-7 : tie.Need-raw-with-requires-7
-raw-with-requires-7 c κs = search needs
-
-enum-known-e-7 : tie.Need-enum-known-e-7
-enum-known-e-7 c = search needs
-
-worth-of-requires-4 : tie.Need-worth-of-requires-4
-worth-of-requires-4 c κs = search needs
-
-raw-with-requires-8 : tie.Need-raw-with-requires-8
-raw-with-requires-8 c κs = search needs
-
-enum-told-2 : tie.Need-enum-told-2
-enum-told-2 c = search needs
-
-raw-with-requires-9 : tie.Need-raw-with-requires-9
-raw-with-requires-9 c κs = search needs
-
-enum-known-e-8 : tie.Need-enum-known-e-8
-enum-known-e-8 c = search needs
-
-master-byte-requires-5 : tie.Need-master-byte-requires-5
-master-byte-requires-5 c κs = search needs
-
-raw-with-requires-10 : tie.Need-raw-with-requires-10
-raw-with-requires-10 c κs = search needs
-
 returns : tie.Need-returns
 unfolding rawOf
 returns c = simp (← c .raw-with .ensures, ← c .before .master-byte .ensures, c .before .before .before .e .given .1)
@@ -136,35 +49,12 @@ pub raw-of-spec : {M : Type 1} → statement M
 raw-of-spec =
     tie.close
     (tie.spec
-    enum-known-e
-    master-byte-requires
-    raw-with-requires
-    enum-known-e-2
-    master-byte-requires-2
-    raw-with-requires-2
-    enum-known-e-3
-    master-byte-requires-3
-    raw-with-requires-3
-    enum-known-e-4
-    master-byte-requires-4
-    raw-with-requires-4
-    enum-known-e-5
-    raw-with-requires-5
-    enum-known-e-6
-    worth-of-requires
-    worth-of-requires-2
-    worth-of-requires-3
-    raw-with-requires-6
-    enum-told
-    raw-with-requires-7
-    enum-known-e-7
-    worth-of-requires-4
-    raw-with-requires-8
-    enum-told-2
-    raw-with-requires-9
-    enum-known-e-8
-    master-byte-requires-5
-    raw-with-requires-10
+    (λ c. search needs) (λ c κs. search needs) (λ c κs. search needs) (λ c. search needs) (λ c κs. search needs)
+    (λ c κs. search needs) (λ c. search needs) (λ c κs. search needs) (λ c κs. search needs) (λ c. search needs)
+    (λ c κs. search needs) (λ c κs. search needs) (λ c. search needs) (λ c κs. search needs) (λ c. search needs)
+    (λ c κs. search needs) (λ c κs. search needs) (λ c κs. search needs) (λ c κs. search needs) (λ c. search needs)
+    (λ c κs. search needs) (λ c. search needs) (λ c κs. search needs) (λ c κs. search needs) (λ c. search needs)
+    (λ c κs. search needs) (λ c. search needs) (λ c κs. search needs) (λ c κs. search needs)
     returns
     returns-2
     returns-3

@@ -25,9 +25,6 @@ Inv-loop samples address out₀ both₀ bytes₀ i₀ out both bytes i =
 abbrev μ-loop : tie.MeasureT-loop
 μ-loop samples address out₀ both₀ bytes₀ i₀ out both bytes i = length samples - i
 
-silent-both-requires : tie.Need-silent-both-requires Inv-loop μ-loop
-silent-both-requires c κs = search needs
-
 loop-holds : tie.Need-loop-holds Inv-loop μ-loop
 loop-holds c =
     let s = c .before .before .before in
@@ -48,12 +45,6 @@ shared-slice-read-hear-sample c = omega arith
 
 shared-slice-read-hear-sample-2 : tie.Need-shared-slice-read-hear-sample-2 Inv-loop μ-loop
 shared-slice-read-hear-sample-2 c = omega arith
-
-hear-sample-requires : tie.Need-hear-sample-requires Inv-loop μ-loop
-hear-sample-requires c κs = search needs
-
-few-of-requires : tie.Need-few-of-requires Inv-loop μ-loop
-few-of-requires c κs = search needs
 
 put-few-requires : tie.Need-put-few-requires Inv-loop μ-loop
 put-few-requires c κs =
@@ -93,9 +84,6 @@ loop-again c =
       put .ensures .1 ∙ turn-stored a samples (l .loop .i) (inv .0) under _ (inv .3) _ h _ (few .ensures) _ (inv .4) (s .args .out .now) _ (inv .5),
     )
 
-same-length : tie.Need-same-length Inv-loop μ-loop
-same-length c = search needs
-
 returns : tie.Need-returns Inv-loop μ-loop
 returns c =
     let l = c .before in
@@ -115,16 +103,15 @@ walk-spec =
     (tie.spec
     Inv-loop
     μ-loop
-    silent-both-requires
+    (λ c κs. search needs)
     loop-holds
     sub-hear-sample
     shared-slice-read-hear-sample
     shared-slice-read-hear-sample-2
-    hear-sample-requires
-    few-of-requires
+    (λ c κs. search needs) (λ c κs. search needs)
     put-few-requires
     add-i
     loop-less
     loop-again
-    same-length
+    (λ c. search needs)
     returns)

@@ -5,18 +5,6 @@ use borrow.Author.Tests.{eq-eqb, ne-eqb}
 use Rattle.quiet.proofs.owner_ticks.Statement.{statement}
 use Rattle.quiet.proofs.owner_ticks.Tie as tie
 
-is-idle-requires : tie.Need-is-idle-requires
-is-idle-requires c κs = search needs
-
-idle-ticks-requires : tie.Need-idle-ticks-requires
-idle-ticks-requires c κs = search needs
-
-less-one-requires : tie.Need-less-one-requires
-less-one-requires c κs = search needs
-
-cast-result : tie.Need-cast-result
-cast-result c = search needs
-
 returns : tie.Need-returns
 returns c =
     simp (
@@ -42,10 +30,7 @@ pub owner-ticks-spec : {M : Type 1} → statement M
 owner-ticks-spec =
     tie.close
     (tie.spec
-    is-idle-requires
-    idle-ticks-requires
-    less-one-requires
-    cast-result
+    (λ c κs. search needs) (λ c κs. search needs) (λ c κs. search needs) (λ c. search needs)
     returns
     returns-2
     returns-3)

@@ -5,18 +5,6 @@ use Rattle.quiet.specs.Quiet.{quietTicks}
 use Rattle.quiet.proofs.quiet_ticks.Statement.{statement}
 use Rattle.quiet.proofs.quiet_ticks.Tie as tie
 
-is-still-requires : tie.Need-is-still-requires
-is-still-requires c κs = search needs
-
-turn-of-requires : tie.Need-turn-of-requires
-turn-of-requires c κs = search needs
-
-is-calm-requires : tie.Need-is-calm-requires
-is-calm-requires c κs = search needs
-
-counts-left-requires : tie.Need-counts-left-requires
-counts-left-requires c κs = search needs
-
 returns : tie.Need-returns
 unfolding quietTicks
 returns c =
@@ -36,9 +24,6 @@ pub quiet-ticks-spec : {M : Type 1} → statement M
 quiet-ticks-spec =
     tie.close
     (tie.spec
-    is-still-requires
-    turn-of-requires
-    is-calm-requires
-    counts-left-requires
+    (λ c κs. search needs) (λ c κs. search needs) (λ c κs. search needs) (λ c κs. search needs)
     returns
     returns-2)

@@ -5,21 +5,6 @@ use borrow.Author.Tests.{le-ltb, lt-ltb}
 use Rattle.quiet.proofs.scl_ticks.Statement.{statement}
 use Rattle.quiet.proofs.scl_ticks.Tie as tie
 
-sub-result : tie.Need-sub-result
-sub-result c = search needs
-
-sub-result-2 : tie.Need-sub-result-2
-sub-result-2 c = search needs
-
-sub-result-3 : tie.Need-sub-result-3
-sub-result-3 c = search needs
-
-sub-result-4 : tie.Need-sub-result-4
-sub-result-4 c = search needs
-
-returns : tie.Need-returns
-returns c = search needs
-
 returns-2 : tie.Need-returns-2
 returns-2 c = simp (lt-ltb _ _ (c .if2 .taken), c .before .if1 .left)
 
@@ -33,11 +18,7 @@ pub scl-ticks-spec : {M : Type 1} → statement M
 scl-ticks-spec =
     tie.close
     (tie.spec
-    sub-result
-    sub-result-2
-    sub-result-3
-    sub-result-4
-    returns
+    (λ c. search needs) (λ c. search needs) (λ c. search needs) (λ c. search needs) (λ c. search needs)
     returns-2
     returns-3
     returns-4)

@@ -5,15 +5,6 @@ use borrow.Author.Tests.{le-ltb, lt-ltb}
 use Rattle.quiet.proofs.sda_ticks.Statement.{statement}
 use Rattle.quiet.proofs.sda_ticks.Tie as tie
 
-sub-result : tie.Need-sub-result
-sub-result c = search needs
-
-sub-result-2 : tie.Need-sub-result-2
-sub-result-2 c = search needs
-
-returns : tie.Need-returns
-returns c = search needs
-
 returns-2 : tie.Need-returns-2
 returns-2 c = simp (lt-ltb _ _ (c .if2 .taken), c .before .if1 .left)
 
@@ -21,4 +12,4 @@ returns-3 : tie.Need-returns-3
 returns-3 c = simp (le-ltb _ _ (c .if2 .left), c .before .if1 .left)
 
 pub sda-ticks-spec : {M : Type 1} → statement M
-sda-ticks-spec = tie.close (tie.spec sub-result sub-result-2 returns returns-2 returns-3)
+sda-ticks-spec = tie.close (tie.spec (λ c. search needs) (λ c. search needs) (λ c. search needs) returns-2 returns-3)

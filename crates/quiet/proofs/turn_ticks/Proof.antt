@@ -4,30 +4,6 @@ use borrow.Author.Needs.{needs}
 use Rattle.quiet.proofs.turn_ticks.Statement.{statement}
 use Rattle.quiet.proofs.turn_ticks.Tie as tie
 
-idle-limit-requires : tie.Need-idle-limit-requires
-idle-limit-requires c κs = search needs
-
-enum-told : tie.Need-enum-told
-enum-told c = search needs
-
-enum-told-2 : tie.Need-enum-told-2
-enum-told-2 c = search needs
-
-enum-known-t : tie.Need-enum-known-t
-enum-known-t c = search needs
-
-enum-told-3 : tie.Need-enum-told-3
-enum-told-3 c = search needs
-
-owner-ticks-requires : tie.Need-owner-ticks-requires
-owner-ticks-requires c κs = search needs
-
-enum-told-4 : tie.Need-enum-told-4
-enum-told-4 c = search needs
-
-owner-ticks-requires-2 : tie.Need-owner-ticks-requires-2
-owner-ticks-requires-2 c κs = search needs
-
 returns : tie.Need-returns
 returns c = simp (c .enum-told .given .1)
 
@@ -56,14 +32,8 @@ pub turn-ticks-spec : {M : Type 1} → statement M
 turn-ticks-spec =
     tie.close
     (tie.spec
-    idle-limit-requires
-    enum-told
-    enum-told-2
-    enum-known-t
-    enum-told-3
-    owner-ticks-requires
-    enum-told-4
-    owner-ticks-requires-2
+    (λ c κs. search needs) (λ c. search needs) (λ c. search needs) (λ c. search needs) (λ c. search needs)
+    (λ c κs. search needs) (λ c. search needs) (λ c κs. search needs)
     returns
     returns-2
     returns-3

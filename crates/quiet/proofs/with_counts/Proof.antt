@@ -5,24 +5,6 @@ use Rattle.quiet.specs.Counts.{withCounts}
 use Rattle.quiet.proofs.with_counts.Statement.{statement}
 use Rattle.quiet.proofs.with_counts.Tie as tie
 
-counted-bus-requires : tie.Need-counted-bus-requires
-counted-bus-requires c κs = search needs
-
-last-of-requires : tie.Need-last-of-requires
-last-of-requires c κs = search needs
-
-switch-of-requires : tie.Need-switch-of-requires
-switch-of-requires c κs = search needs
-
-turn-of-requires : tie.Need-turn-of-requires
-turn-of-requires c κs = search needs
-
-arb-with-requires : tie.Need-arb-with-requires
-arb-with-requires c κs = search needs
-
-device-with-requires : tie.Need-device-with-requires
-device-with-requires c κs = search needs
-
 returns : tie.Need-returns
 unfolding withCounts
 returns c =
@@ -39,10 +21,6 @@ pub with-counts-spec : {M : Type 1} → statement M
 with-counts-spec =
     tie.close
     (tie.spec
-    counted-bus-requires
-    last-of-requires
-    switch-of-requires
-    turn-of-requires
-    arb-with-requires
-    device-with-requires
+    (λ c κs. search needs) (λ c κs. search needs) (λ c κs. search needs) (λ c κs. search needs) (λ c κs. search needs)
+    (λ c κs. search needs)
     returns)

@@ -10,24 +10,6 @@ use borrow.Author.Needs.{needs}
 use Rattle.hearing.proofs.short.are_light.Statement.{statement}
 use Rattle.hearing.proofs.short.are_light.Tie as tie
 
-levels-0-requires : tie.Need-levels-0-requires
-levels-0-requires c κs = search needs
-
-levels-0-requires-2 : tie.Need-levels-0-requires-2
-levels-0-requires-2 c κs = search needs
-
-is-light-requires : tie.Need-is-light-requires
-is-light-requires c κs = search needs
-
-levels-1-requires : tie.Need-levels-1-requires
-levels-1-requires c κs = search needs
-
-levels-1-requires-2 : tie.Need-levels-1-requires-2
-levels-1-requires-2 c κs = search needs
-
-is-light-requires-2 : tie.Need-is-light-requires-2
-is-light-requires-2 c κs = search needs
-
 returns : tie.Need-returns
 unfolding areLight
 returns c =
@@ -44,4 +26,10 @@ returns-2 c =
     sym (ap (λ (x : Bool). x && isLight (levels One (s .before)) (levels One (s .now)) (s .s .bus1)) zero)
 
 pub are-light-spec : {M : Type 1} → statement M
-are-light-spec = tie.close (tie.spec levels-0-requires levels-0-requires-2 is-light-requires levels-1-requires levels-1-requires-2 is-light-requires-2 returns returns-2)
+are-light-spec =
+    tie.close
+    (tie.spec
+    (λ c κs. search needs) (λ c κs. search needs) (λ c κs. search needs) (λ c κs. search needs) (λ c κs. search needs)
+    (λ c κs. search needs)
+    returns
+    returns-2)

@@ -5,12 +5,9 @@ use borrow.Author.Needs.{needs}
 use Rattle.hearing.proofs.short.has_room.Statement.{statement}
 use Rattle.hearing.proofs.short.has_room.Tie as tie
 
-is-outside-requires : tie.Need-is-outside-requires
-is-outside-requires c κs = search needs
-
 returns : tie.Need-returns
 unfolding hasRoom
 returns c = simp (c .before .is-outside .ensures)
 
 pub has-room-spec : {M : Type 1} → statement M
-has-room-spec = tie.close (tie.spec is-outside-requires returns)
+has-room-spec = tie.close (tie.spec (λ c κs. search needs) returns)

@@ -7,9 +7,6 @@ use borrow.Author.Needs.{needs}
 use Rattle.hearing.proofs.short.with_bit.Statement.{statement}
 use Rattle.hearing.proofs.short.with_bit.Tie as tie
 
-is-rise-requires : tie.Need-is-rise-requires
-is-rise-requires c κs = search needs
-
 on-bit-requires : tie.Need-on-bit-requires
 on-bit-requires c κs = light-clocks _ _ _ (c .before .before .pre) (sym (c .before .is-rise .ensures) ∙ c .if1 .taken)
 
@@ -22,4 +19,4 @@ unfolding lightly
 returns-2 c = simp (c .if1 .left, ← c .before .is-rise .ensures)
 
 pub with-bit-spec : {M : Type 1} → statement M
-with-bit-spec = tie.close (tie.spec is-rise-requires on-bit-requires returns returns-2)
+with-bit-spec = tie.close (tie.spec (λ c κs. search needs) on-bit-requires returns returns-2)

@@ -6,20 +6,8 @@ use borrow.Author.Needs.{needs}
 use Rattle.hearing.proofs.short.with_bits.Statement.{statement}
 use Rattle.hearing.proofs.short.with_bits.Tie as tie
 
-levels-0-requires : tie.Need-levels-0-requires
-levels-0-requires c κs = search needs
-
-levels-0-requires-2 : tie.Need-levels-0-requires-2
-levels-0-requires-2 c κs = search needs
-
 with-bit-requires : tie.Need-with-bit-requires
 with-bit-requires c κs = simp (c .levels-02 .ensures, c .before .levels-0 .ensures) (light-0 _ _ _ (c .before .before .before .before .pre))
-
-levels-1-requires : tie.Need-levels-1-requires
-levels-1-requires c κs = search needs
-
-levels-1-requires-2 : tie.Need-levels-1-requires-2
-levels-1-requires-2 c κs = search needs
 
 with-bit-requires-2 : tie.Need-with-bit-requires-2
 with-bit-requires-2 c κs = simp (c .levels-12 .ensures, c .before .levels-1 .ensures) (light-1 _ _ _ (c .before .before .before .before .before .before .before .pre))
@@ -32,10 +20,8 @@ pub with-bits-spec : {M : Type 1} → statement M
 with-bits-spec =
     tie.close
     (tie.spec
-    levels-0-requires
-    levels-0-requires-2
+    (λ c κs. search needs) (λ c κs. search needs)
     with-bit-requires
-    levels-1-requires
-    levels-1-requires-2
+    (λ c κs. search needs) (λ c κs. search needs)
     with-bit-requires-2
     returns)

@@ -6,12 +6,6 @@ use borrow.Author.Needs.{needs}
 use Rattle.sheets.proofs.lookup.box_on.Statement.{statement}
 use Rattle.sheets.proofs.lookup.box_on.Tie as tie
 
-box-place-requires : tie.Need-box-place-requires
-box-place-requires c κs = search needs
-
-place-at-requires : tie.Need-place-at-requires
-place-at-requires c κs = search needs
-
 returns : tie.Need-returns
 unfolding boxOn
 returns c =
@@ -31,4 +25,4 @@ unfolding boxOn
 returns-3 c = simp (le-ltb _ _ (c .if1 .left))
 
 pub box-on-spec : {M : Type 1} → statement M
-box-on-spec = tie.close (tie.spec box-place-requires place-at-requires returns returns-2 returns-3)
+box-on-spec = tie.close (tie.spec (λ c κs. search needs) (λ c κs. search needs) returns returns-2 returns-3)

@@ -8,50 +8,17 @@ use borrow.Author.Needs.{needs}
 use Rattle.sheets.proofs.lookup.look_up.Statement.{statement}
 use Rattle.sheets.proofs.lookup.look_up.Tie as tie
 
-place-of-requires : tie.Need-place-of-requires
-place-of-requires c κs = search needs
-
-enum-known-at : tie.Need-enum-known-at
-enum-known-at c = search needs
-
 add-result : tie.Need-add-result
 add-result c = let inside : _ = in-board _ _ _ _ _ (sym (c .before .before .before .place-of .ensures .0) ∙ c .before .at .given .1) in search needs
-
-sub-result : tie.Need-sub-result
-sub-result c = search needs
-
-part-result-start : tie.Need-part-result-start
-part-result-start c = search needs
 
 part-result-end : tie.Need-part-result-end
 part-result-end c = omega (arith, in-board _ _ _ _ _ (sym (c .before .before .before .place-of .ensures .0) ∙ c .before .at .given .1))
 
-enum-known-at-2 : tie.Need-enum-known-at-2
-enum-known-at-2 c = search needs
-
 add-result-2 : tie.Need-add-result-2
 add-result-2 c = let inside : _ = in-house _ _ _ _ _ (sym (c .before .before .before .place-of .ensures .0) ∙ c .before .at2 .given .1) in search needs
 
-sub-result-2 : tie.Need-sub-result-2
-sub-result-2 c = search needs
-
-part-result-start-2 : tie.Need-part-result-start-2
-part-result-start-2 c = search needs
-
 part-result-end-2 : tie.Need-part-result-end-2
 part-result-end-2 c = omega (arith, in-house _ _ _ _ _ (sym (c .before .before .before .place-of .ensures .0) ∙ c .before .at2 .given .1))
-
-enum-told : tie.Need-enum-told
-enum-told c = search needs
-
-sub-result-3 : tie.Need-sub-result-3
-sub-result-3 c = search needs
-
-part-result-start-3 : tie.Need-part-result-start-3
-part-result-start-3 c = search needs
-
-part-result-end-3 : tie.Need-part-result-end-3
-part-result-end-3 c = search needs
 
 returns : tie.Need-returns
 returns c =
@@ -72,21 +39,15 @@ pub look-up-spec : {M : Type 1} → statement M
 look-up-spec =
     tie.close
     (tie.spec
-    place-of-requires
-    enum-known-at
+    (λ c κs. search needs) (λ c. search needs)
     add-result
-    sub-result
-    part-result-start
+    (λ c. search needs) (λ c. search needs)
     part-result-end
-    enum-known-at-2
+    (λ c. search needs)
     add-result-2
-    sub-result-2
-    part-result-start-2
+    (λ c. search needs) (λ c. search needs)
     part-result-end-2
-    enum-told
-    sub-result-3
-    part-result-start-3
-    part-result-end-3
+    (λ c. search needs) (λ c. search needs) (λ c. search needs) (λ c. search needs)
     returns
     returns-2
     returns-3)

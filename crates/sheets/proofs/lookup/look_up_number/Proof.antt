@@ -5,21 +5,6 @@ use borrow.Author.Needs.{needs}
 use Rattle.sheets.proofs.lookup.look_up_number.Statement.{statement}
 use Rattle.sheets.proofs.lookup.look_up_number.Tie as tie
 
-place-of-requires : tie.Need-place-of-requires
-place-of-requires c κs = search needs
-
-enum-told : tie.Need-enum-told
-enum-told c = search needs
-
-enum-told-2 : tie.Need-enum-told-2
-enum-told-2 c = search needs
-
-enum-known-why : tie.Need-enum-known-why
-enum-known-why c = search needs
-
-fault-number-requires : tie.Need-fault-number-requires
-fault-number-requires c κs = search needs
-
 returns : tie.Need-returns
 unfolding placeOf
 returns c = simp (c .enum-told .given .1, ← c .before .before .place-of .ensures .0)
@@ -36,11 +21,7 @@ pub look-up-number-spec : {M : Type 1} → statement M
 look-up-number-spec =
     tie.close
     (tie.spec
-    place-of-requires
-    enum-told
-    enum-told-2
-    enum-known-why
-    fault-number-requires
+    (λ c κs. search needs) (λ c. search needs) (λ c. search needs) (λ c. search needs) (λ c κs. search needs)
     returns
     returns-2
     returns-3)

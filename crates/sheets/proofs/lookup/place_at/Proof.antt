@@ -6,15 +6,9 @@ use borrow.Author.Needs.{needs}
 use Rattle.sheets.proofs.lookup.place_at.Statement.{statement}
 use Rattle.sheets.proofs.lookup.place_at.Tie as tie
 
-shared-slice-read-if1 : tie.Need-shared-slice-read-if1
-shared-slice-read-if1 c = search needs
-
 returns : tie.Need-returns
 unfolding placeAt
 returns c = simp (eq-eqb _ _ (c .if1 .taken))
-
-shared-slice-read-if2 : tie.Need-shared-slice-read-if2
-shared-slice-read-if2 c = search needs
 
 returns-2 : tie.Need-returns-2
 unfolding placeAt
@@ -25,5 +19,4 @@ unfolding placeAt
 returns-3 c = simp (ne-eqb _ _ (c .if2 .left), ne-eqb _ _ (c .before .before .if1 .left))
 
 pub place-at-spec : {M : Type 1} → statement M
-place-at-spec =
-    tie.close (tie.spec shared-slice-read-if1 returns shared-slice-read-if2 returns-2 returns-3)
+place-at-spec = tie.close (tie.spec (λ c. search needs) returns (λ c. search needs) returns-2 returns-3)

@@ -8,17 +8,8 @@ use borrow.Author.Needs.{needs}
 use Rattle.sheets.proofs.lookup.place_of.Statement.{statement}
 use Rattle.sheets.proofs.lookup.place_of.Tie as tie
 
-check-pair-requires : tie.Need-check-pair-requires
-check-pair-requires c κs = search needs
-
-enum-told : tie.Need-enum-told
-enum-told c = search needs
-
 box-on-requires : tie.Need-box-on-requires
 box-on-requires c κs = pair-long _ _ (sym (c .before .before .check-pair .ensures .0) ∙ c .enum-told .given .1)
-
-enum-known-checked : tie.Need-enum-known-checked
-enum-known-checked c = search needs
 
 returns : tie.Need-returns
 unfolding placeOf
@@ -32,9 +23,8 @@ pub place-of-spec : {M : Type 1} → statement M
 place-of-spec =
     tie.close
     (tie.spec
-    check-pair-requires
-    enum-told
+    (λ c κs. search needs) (λ c. search needs)
     box-on-requires
-    enum-known-checked
+    (λ c. search needs)
     returns
     returns-2)

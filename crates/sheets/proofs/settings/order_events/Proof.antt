@@ -6,23 +6,8 @@ use borrow.Author.Needs.{needs}
 use Rattle.sheets.proofs.settings.order_events.Statement.{statement}
 use Rattle.sheets.proofs.settings.order_events.Tie as tie
 
-read-order-requires : tie.Need-read-order-requires
-read-order-requires c κs = search needs
-
-enum-known-read : tie.Need-enum-known-read
-enum-known-read c = search needs
-
 put-order-requires : tie.Need-put-order-requires
 put-order-requires c κs = given-passed _ _ _ _ (sym (c .before .before .before .before .read-order .ensures) ∙ c .before .before .read .given .1) .room-for
-
-enum-known-read-2 : tie.Need-enum-known-read-2
-enum-known-read-2 c = search needs
-
-fault-number-requires : tie.Need-fault-number-requires
-fault-number-requires c κs = search needs
-
-same-length : tie.Need-same-length
-same-length c = search needs
 
 returns : tie.Need-returns
 returns c =
@@ -38,11 +23,8 @@ pub order-events-spec : {M : Type 1} → statement M
 order-events-spec =
     tie.close
     (tie.spec
-    read-order-requires
-    enum-known-read
+    (λ c κs. search needs) (λ c. search needs)
     put-order-requires
-    enum-known-read-2
-    fault-number-requires
-    same-length
+    (λ c. search needs) (λ c κs. search needs) (λ c. search needs)
     returns
     returns-2)

@@ -5,15 +5,9 @@ use borrow.Author.Needs.{needs}
 use Rattle.sheets.proofs.settings.order_of.Statement.{statement}
 use Rattle.sheets.proofs.settings.order_of.Tie as tie
 
-setting-of-requires : tie.Need-setting-of-requires
-setting-of-requires c κs = search needs
-
-setting-of-requires-2 : tie.Need-setting-of-requires-2
-setting-of-requires-2 c κs = search needs
-
 returns : tie.Need-returns
 unfolding orderOf
 returns c = simp (c .setting-of2 .ensures, c .before .setting-of .ensures)
 
 pub order-of-spec : {M : Type 1} → statement M
-order-of-spec = tie.close (tie.spec setting-of-requires setting-of-requires-2 returns)
+order-of-spec = tie.close (tie.spec (λ c κs. search needs) (λ c κs. search needs) returns)

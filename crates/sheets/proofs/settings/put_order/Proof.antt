@@ -6,15 +6,6 @@ use borrow.Author.Needs.{needs}
 use Rattle.sheets.proofs.settings.put_order.Statement.{statement}
 use Rattle.sheets.proofs.settings.put_order.Tie as tie
 
-put-setting-requires : tie.Need-put-setting-requires
-put-setting-requires c κs = search needs
-
-put-setting-requires-2 : tie.Need-put-setting-requires-2
-put-setting-requires-2 c κs = search needs
-
-same-length : tie.Need-same-length
-same-length c = search needs
-
 returns : tie.Need-returns
 returns c =
     simp (
@@ -23,4 +14,4 @@ returns c =
     ) (order-stored _ _ (omega arith))
 
 pub put-order-spec : {M : Type 1} → statement M
-put-order-spec = tie.close (tie.spec put-setting-requires put-setting-requires-2 same-length returns)
+put-order-spec = tie.close (tie.spec (λ c κs. search needs) (λ c κs. search needs) (λ c. search needs) returns)

@@ -6,15 +6,9 @@ use borrow.Author.Needs.{needs}
 use Rattle.sheets.proofs.settings.read_complete.Statement.{statement}
 use Rattle.sheets.proofs.settings.read_complete.Tie as tie
 
-is-complete-requires : tie.Need-is-complete-requires
-is-complete-requires c κs = search needs
-
 returns : tie.Need-returns
 unfolding readComplete
 returns c = simp (lt-ltb _ _ (c .if2 .taken), c .before .if1 .taken, ← c .before .before .is-complete .ensures)
-
-order-of-requires : tie.Need-order-of-requires
-order-of-requires c κs = search needs
 
 returns-2 : tie.Need-returns-2
 unfolding readComplete
@@ -31,5 +25,4 @@ unfolding readComplete
 returns-3 c = simp (c .if1 .left, ← c .before .is-complete .ensures)
 
 pub read-complete-spec : {M : Type 1} → statement M
-read-complete-spec =
-    tie.close (tie.spec is-complete-requires returns order-of-requires returns-2 returns-3)
+read-complete-spec = tie.close (tie.spec (λ c κs. search needs) returns (λ c κs. search needs) returns-2 returns-3)

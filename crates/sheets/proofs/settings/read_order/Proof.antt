@@ -7,17 +7,8 @@ use borrow.Author.Needs.{needs}
 use Rattle.sheets.proofs.settings.read_order.Statement.{statement}
 use Rattle.sheets.proofs.settings.read_order.Tie as tie
 
-check-pair-requires : tie.Need-check-pair-requires
-check-pair-requires c κs = search needs
-
-enum-told : tie.Need-enum-told
-enum-told c = search needs
-
 read-complete-requires : tie.Need-read-complete-requires
 read-complete-requires c κs = pair-long _ _ (sym (c .before .before .check-pair .ensures .0) ∙ c .enum-told .given .1)
-
-enum-known-checked : tie.Need-enum-known-checked
-enum-known-checked c = search needs
 
 returns : tie.Need-returns
 unfolding readOrder
@@ -31,9 +22,8 @@ pub read-order-spec : {M : Type 1} → statement M
 read-order-spec =
     tie.close
     (tie.spec
-    check-pair-requires
-    enum-told
+    (λ c κs. search needs) (λ c. search needs)
     read-complete-requires
-    enum-known-checked
+    (λ c. search needs)
     returns
     returns-2)

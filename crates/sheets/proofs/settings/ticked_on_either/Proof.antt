@@ -6,16 +6,9 @@ use borrow.Author.Needs.{needs}
 use Rattle.sheets.proofs.settings.ticked_on_either.Statement.{statement}
 use Rattle.sheets.proofs.settings.ticked_on_either.Tie as tie
 
-shared-slice-read-result : tie.Need-shared-slice-read-result
-shared-slice-read-result c = search needs
-
-shared-slice-read-result-2 : tie.Need-shared-slice-read-result-2
-shared-slice-read-result-2 c = search needs
-
 returns : tie.Need-returns
 unfolding tickedOnEither
 returns c = refl
 
 pub ticked-on-either-spec : {M : Type 1} → statement M
-ticked-on-either-spec =
-    tie.close (tie.spec shared-slice-read-result shared-slice-read-result-2 returns)
+ticked-on-either-spec = tie.close (tie.spec (λ c. search needs) (λ c. search needs) returns)

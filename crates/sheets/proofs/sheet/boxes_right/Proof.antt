@@ -5,24 +5,6 @@ use borrow.Author.Needs.{needs}
 use Rattle.sheets.proofs.sheet.boxes_right.Statement.{statement}
 use Rattle.sheets.proofs.sheet.boxes_right.Tie as tie
 
-box-right-requires : tie.Need-box-right-requires
-box-right-requires c κs = search needs
-
-box-right-requires-2 : tie.Need-box-right-requires-2
-box-right-requires-2 c κs = search needs
-
-flag-right-requires : tie.Need-flag-right-requires
-flag-right-requires c κs = search needs
-
-flag-right-requires-2 : tie.Need-flag-right-requires-2
-flag-right-requires-2 c κs = search needs
-
-flag-right-requires-3 : tie.Need-flag-right-requires-3
-flag-right-requires-3 c κs = search needs
-
-flag-right-requires-4 : tie.Need-flag-right-requires-4
-flag-right-requires-4 c κs = search needs
-
 returns : tie.Need-returns
 unfolding boxesRight
 returns c =
@@ -39,10 +21,6 @@ pub boxes-right-spec : {M : Type 1} → statement M
 boxes-right-spec =
     tie.close
     (tie.spec
-    box-right-requires
-    box-right-requires-2
-    flag-right-requires
-    flag-right-requires-2
-    flag-right-requires-3
-    flag-right-requires-4
+    (λ c κs. search needs) (λ c κs. search needs) (λ c κs. search needs) (λ c κs. search needs) (λ c κs. search needs)
+    (λ c κs. search needs)
     returns)

@@ -6,18 +6,6 @@ use borrow.Author.Needs.{needs}
 use Rattle.sheets.proofs.sheet.check_pair.Statement.{statement}
 use Rattle.sheets.proofs.sheet.check_pair.Tie as tie
 
-check-sheet-requires : tie.Need-check-sheet-requires
-check-sheet-requires c κs = search needs
-
-enum-told : tie.Need-enum-told
-enum-told c = search needs
-
-check-sheet-requires-2 : tie.Need-check-sheet-requires-2
-check-sheet-requires-2 c κs = search needs
-
-enum-known-first : tie.Need-enum-known-first
-enum-known-first c = search needs
-
 returns : tie.Need-returns
 unfolding checkPair
 returns c = pair-told _ _ _ (simp (← c .check-sheet2 .ensures, c .before .enum-told .given .1, ← c .before .before .before .check-sheet .ensures))
@@ -30,9 +18,6 @@ pub check-pair-spec : {M : Type 1} → statement M
 check-pair-spec =
     tie.close
     (tie.spec
-    check-sheet-requires
-    enum-told
-    check-sheet-requires-2
-    enum-known-first
+    (λ c κs. search needs) (λ c. search needs) (λ c κs. search needs) (λ c. search needs)
     returns
     returns-2)

@@ -10,15 +10,9 @@ returns : tie.Need-returns
 unfolding checkSheet
 returns c = simp (lt-ltb _ _ (c .if1 .taken))
 
-counts-right-requires : tie.Need-counts-right-requires
-counts-right-requires c κs = search needs
-
 returns-2 : tie.Need-returns-2
 unfolding checkSheet
 returns-2 c = simp (c .if2 .left, ← c .before .counts-right .ensures, le-ltb _ _ (c .before .before .if1 .left))
-
-boxes-right-requires : tie.Need-boxes-right-requires
-boxes-right-requires c κs = search needs
 
 returns-3 : tie.Need-returns-3
 unfolding checkSheet
@@ -57,12 +51,4 @@ returns-5 c =
 
 pub check-sheet-spec : {M : Type 1} → statement M
 check-sheet-spec =
-    tie.close
-    (tie.spec
-    returns
-    counts-right-requires
-    returns-2
-    boxes-right-requires
-    returns-3
-    returns-4
-    returns-5)
+    tie.close (tie.spec returns (λ c κs. search needs) returns-2 (λ c κs. search needs) returns-3 returns-4 returns-5)

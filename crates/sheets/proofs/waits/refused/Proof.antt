@@ -4,11 +4,8 @@ use borrow.Author.Needs.{needs}
 use Rattle.sheets.proofs.waits.refused.Statement.{statement}
 use Rattle.sheets.proofs.waits.refused.Tie as tie
 
-fault-number-requires : tie.Need-fault-number-requires
-fault-number-requires c κs = search needs
-
 returns : tie.Need-returns
 returns c = simp (c .fault-number .ensures)
 
 pub refused-spec : {M : Type 1} → statement M
-refused-spec = tie.close (tie.spec fault-number-requires returns)
+refused-spec = tie.close (tie.spec (λ c κs. search needs) returns)

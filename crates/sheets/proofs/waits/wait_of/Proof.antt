@@ -7,20 +7,8 @@ use borrow.Author.Needs.{needs}
 use Rattle.sheets.proofs.waits.wait_of.Statement.{statement}
 use Rattle.sheets.proofs.waits.wait_of.Tie as tie
 
-check-pair-requires : tie.Need-check-pair-requires
-check-pair-requires c κs = search needs
-
-enum-told : tie.Need-enum-told
-enum-told c = search needs
-
 wait-on-requires : tie.Need-wait-on-requires
 wait-on-requires c κs = pair-long _ _ (sym (c .before .before .check-pair .ensures .0) ∙ c .enum-told .given .1)
-
-enum-known-checked : tie.Need-enum-known-checked
-enum-known-checked c = search needs
-
-refused-requires : tie.Need-refused-requires
-refused-requires c κs = search needs
 
 returns : tie.Need-returns
 unfolding waitOf
@@ -34,10 +22,8 @@ pub wait-of-spec : {M : Type 1} → statement M
 wait-of-spec =
     tie.close
     (tie.spec
-    check-pair-requires
-    enum-told
+    (λ c κs. search needs) (λ c. search needs)
     wait-on-requires
-    enum-known-checked
-    refused-requires
+    (λ c. search needs) (λ c κs. search needs)
     returns
     returns-2)
