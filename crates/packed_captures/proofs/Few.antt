@@ -20,4 +20,5 @@ unfolding imported importNumber
 imported-few address samples buffer =
     split (ltb mostSamples (length samples))
     (λ long. subst (λ (n : ℕ). importedBy n address samples .count ≤ mostEvents) (sym (if-true 13 _ long)) (omega arith))
-    (λ short. either (λ (n : ℕ). n ≤ mostEvents) (eqb (importNumber address samples (length buffer)) 0) (λ t. captured-in-range address samples (ltb-false _ _ short)) (λ t. omega arith))
+    (λ short. either (λ (n : ℕ). n ≤ mostEvents) (eqb (importNumber address samples (length buffer)) 0)
+    (λ t. captured-in-range address samples (ltb-false _ _ short)) (λ t. omega arith))

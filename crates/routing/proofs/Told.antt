@@ -217,7 +217,8 @@ named-is Nothing name s p t = refl
 tells-reach : (n : Naming) (name : ℕ) (s : Seen) (p : List ℕ) → Tells name s p → reachFor s n ≡ reachOf n name p
 unfolding reachFor
 tells-reach n name s p t =
-    ap (λ (k : ℕ). if eqb k 0 then Refused EmptyRow else if ltb 16 k then Refused TooMany else if s .equal then Refused EqualAddresses else namedIn n s) (t .counted)
+    ap (λ (k : ℕ). if eqb k 0 then Refused EmptyRow else if ltb 16 k then Refused TooMany else if s .equal then Refused EqualAddresses else namedIn n s)
+    (t .counted)
     ∙ ap (λ (b : Bool). past (if b then Refused EqualAddresses else namedIn n s)) (t .equals)
     ∙ ap (λ (w : Reach). past (if twoEqual p then Refused EqualAddresses else w)) (named-is n name s p t)
   where

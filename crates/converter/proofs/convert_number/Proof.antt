@@ -8,12 +8,6 @@ use Rattle.arbiter.specs.OldTraces.{converted, convertedNumber}
 use Rattle.converter.proofs.convert_number.Statement.{statement}
 use Rattle.converter.proofs.convert_number.Tie as tie
 
-old-number-requires : tie.Need-old-number-requires
-old-number-requires c κs = search needs
-
-add-if2 : tie.Need-add-if2
-add-if2 c = search needs
-
 returns : tie.Need-returns
 unfolding converted convertedNumber
 returns c = simp (length-append, lt-ltb _ _ (c .if2 .taken), eq-eqb _ _ (sym (c .before .before .old-number .ensures) ∙ c .before .if1 .taken))
@@ -27,4 +21,4 @@ unfolding converted convertedNumber
 returns-3 c = simp (← c .before .old-number .ensures, ne-eqb _ _ (c .if1 .left))
 
 pub convert-number-spec : {M : Type 1} → statement M
-convert-number-spec = tie.close (tie.spec old-number-requires add-if2 returns returns-2 returns-3)
+convert-number-spec = tie.close (tie.spec (λ c κs. search needs) (λ c. search needs) returns returns-2 returns-3)

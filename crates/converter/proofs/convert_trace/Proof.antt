@@ -7,24 +7,6 @@ use Rattle.converter.proofs.Laws.{zero-fits, refused-converted, refused
 use Rattle.converter.proofs.convert_trace.Statement.{statement}
 use Rattle.converter.proofs.convert_trace.Tie as tie
 
-convert-number-requires : tie.Need-convert-number-requires
-convert-number-requires c κs = search needs
-
-put-bytes-requires : tie.Need-put-bytes-requires
-put-bytes-requires c κs = search needs
-
-count-in-requires : tie.Need-count-in-requires
-count-in-requires c κs = search needs
-
-put-kind-requires : tie.Need-put-kind-requires
-put-kind-requires c κs = search needs
-
-add-t14 : tie.Need-add-t14
-add-t14 c = search needs
-
-same-length : tie.Need-same-length
-same-length c = search needs
-
 returns : tie.Need-returns
 returns c =
     let put = c .before .before in
@@ -45,11 +27,7 @@ pub convert-trace-spec : {M : Type 1} → statement M
 convert-trace-spec =
     tie.close
     (tie.spec
-    convert-number-requires
-    put-bytes-requires
-    count-in-requires
-    put-kind-requires
-    add-t14
-    same-length
+    (λ c κs. search needs) (λ c κs. search needs) (λ c κs. search needs) (λ c κs. search needs) (λ c. search needs)
+    (λ c. search needs)
     returns
     returns-2)

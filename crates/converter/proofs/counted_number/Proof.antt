@@ -8,17 +8,8 @@ use Rattle.converter.proofs.counted_number.Tie as tie
 returns : tie.Need-returns
 returns c = simp (lt-ltb _ _ (c .if1 .taken))
 
-count-in-requires : tie.Need-count-in-requires
-count-in-requires c κs = search needs
-
-cast-if2 : tie.Need-cast-if2
-cast-if2 c = search needs
-
 returns-2 : tie.Need-returns-2
 returns-2 c = simp (lt-ltb _ _ (c .if2 .taken), ← c .before .count-in .ensures, le-ltb _ _ (c .before .before .if1 .left))
-
-events-end-requires : tie.Need-events-end-requires
-events-end-requires c κs = search needs
 
 returns-3 : tie.Need-returns-3
 returns-3 c =
@@ -60,10 +51,9 @@ counted-number-spec =
     tie.close
     (tie.spec
     returns
-    count-in-requires
-    cast-if2
+    (λ c κs. search needs) (λ c. search needs)
     returns-2
-    events-end-requires
+    (λ c κs. search needs)
     returns-3
     returns-4
     returns-5)

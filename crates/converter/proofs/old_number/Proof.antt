@@ -10,27 +10,9 @@ returns : tie.Need-returns
 unfolding oldNumber
 returns c = simp (lt-ltb _ _ (c .if1 .taken))
 
-shared-slice-read-if2 : tie.Need-shared-slice-read-if2
-shared-slice-read-if2 c = search needs
-
 returns-2 : tie.Need-returns-2
 unfolding oldNumber
 returns-2 c = simp (lt-ltb _ _ (c .if3 .taken), eq-eqb _ _ (c .before .if2 .taken), le-ltb _ _ (c .before .before .before .if1 .left))
-
-pins-in-requires : tie.Need-pins-in-requires
-pins-in-requires c κs = search needs
-
-address-of-requires : tie.Need-address-of-requires
-address-of-requires c κs = search needs
-
-enum-told : tie.Need-enum-told
-enum-told c = search needs
-
-counted-number-requires : tie.Need-counted-number-requires
-counted-number-requires c κs = search needs
-
-enum-told-2 : tie.Need-enum-told-2
-enum-told-2 c = search needs
 
 returns-3 : tie.Need-returns-3
 unfolding oldNumber
@@ -70,13 +52,9 @@ old-number-spec =
     tie.close
     (tie.spec
     returns
-    shared-slice-read-if2
+    (λ c. search needs)
     returns-2
-    pins-in-requires
-    address-of-requires
-    enum-told
-    counted-number-requires
-    enum-told-2
+    (λ c κs. search needs) (λ c κs. search needs) (λ c. search needs) (λ c κs. search needs) (λ c. search needs)
     returns-3
     returns-4
     returns-5)

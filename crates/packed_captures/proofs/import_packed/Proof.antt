@@ -11,12 +11,6 @@ use borrow.Author.Needs.{needs}
 use Rattle.packed_captures.proofs.import_packed.Statement.{statement}
 use Rattle.packed_captures.proofs.import_packed.Tie as tie
 
-import-capture-requires : tie.Need-import-capture-requires
-import-capture-requires c κs = search needs
-
-long-of-requires : tie.Need-long-of-requires
-long-of-requires c κs = search needs
-
 mul-result : tie.Need-mul-result
 mul-result c =
     let few = subst (λ (r : Imported). r .count ≤ mostEvents) (sym (c .before .before .before .import-capture .ensures .0)) (imported-few _ _ _) in
@@ -27,9 +21,6 @@ add-result c =
     let few = subst (λ (r : Imported). r .count ≤ mostEvents) (sym (c .before .before .before .import-capture .ensures .0)) (imported-few _ _ _) in
     omega (arith, few)
 
-same-length : tie.Need-same-length
-same-length c = search needs
-
 returns : tie.Need-returns
 returns c =
     let got = c .before .before .before .import-capture .ensures in
@@ -37,5 +28,4 @@ returns c =
 
 pub import-packed-spec : {M : Type 1} → statement M
 import-packed-spec =
-    tie.close
-    (tie.spec import-capture-requires long-of-requires mul-result add-result same-length returns)
+    tie.close (tie.spec (λ c κs. search needs) (λ c κs. search needs) mul-result add-result (λ c. search needs) returns)

@@ -9,35 +9,17 @@ use borrow.Author.Needs.{needs}
 use Rattle.packed_sheets.proofs.packed_box.Statement.{statement}
 use Rattle.packed_sheets.proofs.packed_box.Tie as tie
 
-place-of-requires : tie.Need-place-of-requires
-place-of-requires c κs = search needs
-
-enum-known-found : tie.Need-enum-known-found
-enum-known-found c = search needs
-
 mul-result : tie.Need-mul-result
 mul-result c = omega (arith, board-inside _ _ _ _ _ (sym (c .before .before .before .place-of .ensures .0) ∙ c .before .found .given .1))
 
 add-result : tie.Need-add-result
 add-result c = omega (arith, board-inside _ _ _ _ _ (sym (c .before .before .before .place-of .ensures .0) ∙ c .before .found .given .1))
 
-enum-known-found-2 : tie.Need-enum-known-found-2
-enum-known-found-2 c = search needs
-
 mul-result-2 : tie.Need-mul-result-2
 mul-result-2 c = omega (arith, house-inside _ _ _ _ _ (sym (c .before .before .before .place-of .ensures .0) ∙ c .before .found2 .given .1))
 
 add-result-2 : tie.Need-add-result-2
 add-result-2 c = omega (arith, house-inside _ _ _ _ _ (sym (c .before .before .before .place-of .ensures .0) ∙ c .before .found2 .given .1))
-
-enum-known-found-3 : tie.Need-enum-known-found-3
-enum-known-found-3 c = search needs
-
-fault-number-requires : tie.Need-fault-number-requires
-fault-number-requires c κs = search needs
-
-long-of-requires : tie.Need-long-of-requires
-long-of-requires c κs = search needs
 
 returns : tie.Need-returns
 returns c = sym (zero-add _) ∙ ap packedBox (sym (c .before .found .given .1) ∙ c .before .before .before .place-of .ensures .0)
@@ -54,16 +36,13 @@ pub packed-box-spec : {M : Type 1} → statement M
 packed-box-spec =
     tie.close
     (tie.spec
-    place-of-requires
-    enum-known-found
+    (λ c κs. search needs) (λ c. search needs)
     mul-result
     add-result
-    enum-known-found-2
+    (λ c. search needs)
     mul-result-2
     add-result-2
-    enum-known-found-3
-    fault-number-requires
-    long-of-requires
+    (λ c. search needs) (λ c κs. search needs) (λ c κs. search needs)
     returns
     returns-2
     returns-3)

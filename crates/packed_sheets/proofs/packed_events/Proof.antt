@@ -11,12 +11,6 @@ use borrow.Author.Needs.{needs}
 use Rattle.packed_sheets.proofs.packed_events.Statement.{statement}
 use Rattle.packed_sheets.proofs.packed_events.Tie as tie
 
-order-events-requires : tie.Need-order-events-requires
-order-events-requires c κs = search needs
-
-long-of-requires : tie.Need-long-of-requires
-long-of-requires c κs = search needs
-
 mul-result : tie.Need-mul-result
 mul-result c =
     let few = subst (λ (r : Ordered). r .count ≤ orderCount) (sym (c .before .before .before .order-events .ensures .0)) (ordered-few _ _ _) in
@@ -27,9 +21,6 @@ add-result c =
     let few = subst (λ (r : Ordered). r .count ≤ orderCount) (sym (c .before .before .before .order-events .ensures .0)) (ordered-few _ _ _) in
     omega (arith, few)
 
-same-length : tie.Need-same-length
-same-length c = search needs
-
 returns : tie.Need-returns
 returns c =
     let got = c .before .before .before .order-events .ensures in
@@ -37,5 +28,4 @@ returns c =
 
 pub packed-events-spec : {M : Type 1} → statement M
 packed-events-spec =
-    tie.close
-    (tie.spec order-events-requires long-of-requires mul-result add-result same-length returns)
+    tie.close (tie.spec (λ c κs. search needs) (λ c κs. search needs) mul-result add-result (λ c. search needs) returns)

@@ -7,21 +7,6 @@ use borrow.Author.Needs.{needs}
 use Rattle.packed_straps.proofs.packed_address.Statement.{statement}
 use Rattle.packed_straps.proofs.packed_address.Tie as tie
 
-address-of-requires : tie.Need-address-of-requires
-address-of-requires c κs = search needs
-
-enum-known-found : tie.Need-enum-known-found
-enum-known-found c = search needs
-
-cast-result : tie.Need-cast-result
-cast-result c = search needs
-
-mul-result : tie.Need-mul-result
-mul-result c = search needs
-
-enum-told : tie.Need-enum-told
-enum-told c = search needs
-
 returns : tie.Need-returns
 returns c = sym (zero-add _) ∙ ap packedAddress (sym (c .before .found .given .1) ∙ c .before .before .before .address-of .ensures .0)
 
@@ -32,10 +17,6 @@ pub packed-address-spec : {M : Type 1} → statement M
 packed-address-spec =
     tie.close
     (tie.spec
-    address-of-requires
-    enum-known-found
-    cast-result
-    mul-result
-    enum-told
+    (λ c κs. search needs) (λ c. search needs) (λ c. search needs) (λ c. search needs) (λ c. search needs)
     returns
     returns-2)

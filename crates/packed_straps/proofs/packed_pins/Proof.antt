@@ -6,18 +6,6 @@ use borrow.Author.Needs.{needs}
 use Rattle.packed_straps.proofs.packed_pins.Statement.{statement}
 use Rattle.packed_straps.proofs.packed_pins.Tie as tie
 
-straps-of-requires : tie.Need-straps-of-requires
-straps-of-requires c κs = search needs
-
-enum-known-found : tie.Need-enum-known-found
-enum-known-found c = search needs
-
-packed-codes-requires : tie.Need-packed-codes-requires
-packed-codes-requires c κs = search needs
-
-enum-told : tie.Need-enum-told
-enum-told c = search needs
-
 returns : tie.Need-returns
 returns c = c .packed-codes .ensures ∙ ap packedPins (sym (c .before .before .found .given .1) ∙ c .before .before .before .before .straps-of .ensures .0)
 
@@ -27,4 +15,7 @@ returns-2 c = ap packedPins (sym (c .enum-told .given .1) ∙ c .before .before 
 pub packed-pins-spec : {M : Type 1} → statement M
 packed-pins-spec =
     tie.close
-    (tie.spec straps-of-requires enum-known-found packed-codes-requires enum-told returns returns-2)
+    (tie.spec
+    (λ c κs. search needs) (λ c. search needs) (λ c κs. search needs) (λ c. search needs)
+    returns
+    returns-2)

@@ -4,11 +4,8 @@ use borrow.Author.Needs.{needs}
 use Rattle.routing.proofs.fault_answer.Statement.{statement}
 use Rattle.routing.proofs.fault_answer.Tie as tie
 
-fault-number-requires : tie.Need-fault-number-requires
-fault-number-requires c κs = search needs
-
 returns : tie.Need-returns
 returns c = simp (c .fault-number .ensures)
 
 pub fault-answer-spec : {M : Type 1} → statement M
-fault-answer-spec = tie.close (tie.spec fault-number-requires returns)
+fault-answer-spec = tie.close (tie.spec (λ c κs. search needs) returns)

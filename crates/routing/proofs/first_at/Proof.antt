@@ -5,15 +5,6 @@ use Rattle.routing.specs.Deciding.{firstAt}
 use Rattle.routing.proofs.first_at.Statement.{statement}
 use Rattle.routing.proofs.first_at.Tie as tie
 
-enum-told : tie.Need-enum-told
-enum-told c = search needs
-
-enum-told-2 : tie.Need-enum-told-2
-enum-told-2 c = search needs
-
-enum-told-3 : tie.Need-enum-told-3
-enum-told-3 c = search needs
-
 returns : tie.Need-returns
 unfolding firstAt
 returns c = simp (c .enum-told .given .1)
@@ -32,4 +23,10 @@ returns-4 c = simp (c .if1 .left, c .before .enum-told3 .given .1)
 
 pub first-at-spec : {M : Type 1} → statement M
 first-at-spec =
-    tie.close (tie.spec enum-told enum-told-2 enum-told-3 returns returns-2 returns-3 returns-4)
+    tie.close
+    (tie.spec
+    (λ c. search needs) (λ c. search needs) (λ c. search needs)
+    returns
+    returns-2
+    returns-3
+    returns-4)

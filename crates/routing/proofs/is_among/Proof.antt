@@ -22,12 +22,6 @@ loop-holds : tie.Need-loop-holds Inv-loop μ-loop
 unfolding amongFirst
 loop-holds c = (omega arith, refl)
 
-array-read-found : tie.Need-array-read-found Inv-loop μ-loop
-array-read-found c = search needs
-
-add-i : tie.Need-add-i Inv-loop μ-loop
-add-i c = search needs
-
 loop-less : tie.Need-loop-less Inv-loop μ-loop
 loop-less c = omega arith
 
@@ -48,5 +42,4 @@ returns c =
 
 pub is-among-spec : {M : Type 1} → statement M
 is-among-spec =
-    tie.close
-    (tie.spec Inv-loop μ-loop loop-holds array-read-found add-i loop-less loop-again returns)
+    tie.close (tie.spec Inv-loop μ-loop loop-holds (λ c. search needs) (λ c. search needs) loop-less loop-again returns)

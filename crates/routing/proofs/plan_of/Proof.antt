@@ -5,15 +5,9 @@ use Rattle.routing.specs.Deciding.{planOf}
 use Rattle.routing.proofs.plan_of.Statement.{statement}
 use Rattle.routing.proofs.plan_of.Tie as tie
 
-reach-in-requires : tie.Need-reach-in-requires
-reach-in-requires c κs = search needs
-
-plan-by-requires : tie.Need-plan-by-requires
-plan-by-requires c κs = search needs
-
 returns : tie.Need-returns
 unfolding planOf
 returns c = simp (c .plan-by .ensures, c .before .reach-in .ensures)
 
 pub plan-of-spec : {M : Type 1} → statement M
-plan-of-spec = tie.close (tie.spec reach-in-requires plan-by-requires returns)
+plan-of-spec = tie.close (tie.spec (λ c κs. search needs) (λ c κs. search needs) returns)

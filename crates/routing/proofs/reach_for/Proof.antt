@@ -6,9 +6,6 @@ use Rattle.routing.specs.Deciding.{reachFor}
 use Rattle.routing.proofs.reach_for.Statement.{statement}
 use Rattle.routing.proofs.reach_for.Tie as tie
 
-named-in-requires : tie.Need-named-in-requires
-named-in-requires c κs = search needs
-
 returns : tie.Need-returns
 unfolding reachFor
 returns c = simp (eq-eqb _ _ (c .if1 .taken))
@@ -32,5 +29,4 @@ returns-4 c =
     )
 
 pub reach-for-spec : {M : Type 1} → statement M
-reach-for-spec =
-    tie.close (tie.spec named-in-requires returns returns-2 returns-3 returns-4)
+reach-for-spec = tie.close (tie.spec (λ c κs. search needs) returns returns-2 returns-3 returns-4)

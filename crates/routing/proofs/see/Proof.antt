@@ -6,21 +6,6 @@ use Rattle.routing.specs.Deciding.{seeOf}
 use Rattle.routing.proofs.see.Statement.{statement}
 use Rattle.routing.proofs.see.Tie as tie
 
-cast-at : tie.Need-cast-at
-cast-at c = search needs
-
-is-among-requires : tie.Need-is-among-requires
-is-among-requires c κs = search needs
-
-first-at-requires : tie.Need-first-at-requires
-first-at-requires c κs = search needs
-
-array-write-addresses : tie.Need-array-write-addresses
-array-write-addresses c = search needs
-
-add-count : tie.Need-add-count
-add-count c = search needs
-
 returns : tie.Need-returns
 unfolding seeOf
 returns c = simp (← c .first-at .ensures, ← c .before .before .before .is-among .ensures, lt-ltb _ _ (c .before .before .before .before .if1 .taken))
@@ -33,10 +18,6 @@ pub see-spec : {M : Type 1} → statement M
 see-spec =
     tie.close
     (tie.spec
-    cast-at
-    is-among-requires
-    first-at-requires
-    array-write-addresses
-    add-count
+    (λ c. search needs) (λ c κs. search needs) (λ c κs. search needs) (λ c. search needs) (λ c. search needs)
     returns
     returns-2)
