@@ -74,7 +74,8 @@ unfolding shownOf lookedOf shelfShow seenOf
 shows-place place row =
     ap (λ (w : Reach). shownWith w there) (ap (λ (s : Seen). reachFor s APlace) (seen-too (length row) place row ∙ whole) ∙ reach-for-is APlace place row)
     ∙ by-tests place (addressesOf row) there row
-    (λ l h. met (length row) place row (subst (λ (n : ℕ). place < n) (addresses-length row) l) (omega arith) (subst (λ (n : ℕ). n ≤ 16) (addresses-length row) h))
+    (λ l h. met (length row) place row (subst (λ (n : ℕ). place < n) (addresses-length row) l) (omega arith)
+    (subst (λ (n : ℕ). n ≤ 16) (addresses-length row) h))
   where
     there : Answer
     there = lookedTo (length row) place row .answer

@@ -18,7 +18,9 @@ use Rattle.text.proofs.Stores.{sets-on}
 
 -- ---- a line in pieces
 
-pub line-stored : (l : List ℕ) (at a b c d : ℕ) → set (sets (sets (sets (sets l at (hex2 a)) (at + 2) (hex2 b)) (at + 4) (hex2 c)) (at + 6) (hex2 d)) (at + 8) 0x0A ≡ sets l at (hex2 a ++ hex2 b ++ hex2 c ++ hex2 d ++ newline)
+pub line-stored : (l : List ℕ) (at a b c d : ℕ)
+    → set (sets (sets (sets (sets l at (hex2 a)) (at + 2) (hex2 b)) (at + 4) (hex2 c)) (at + 6) (hex2 d)) (at + 8) 0x0A
+    ≡ sets l at (hex2 a ++ hex2 b ++ hex2 c ++ hex2 d ++ newline)
 line-stored l at a b c d =
     let l1 : List ℕ = sets l at (hex2 a) in
     let l2 : List ℕ = sets l1 (at + 2) (hex2 b) in
@@ -27,11 +29,13 @@ line-stored l at a b c d =
     ∙ sets-on (hex2 b) (hex2 c ++ hex2 d ++ newline) l1 (at + 2) (at + 4) (omega arith)
     ∙ sets-on (hex2 a) (hex2 b ++ hex2 c ++ hex2 d ++ newline) l at (at + 2) refl
 
-pub head-stored : (l : List ℕ) (a n : ℕ) → set (sets (sets (set (sets l 0 (hex2 a)) 2 0x20) 3 (hex2 (n / 256))) 5 (hex2 (n % 256))) 7 0x0A ≡ sets l 0 (headLine a n)
+pub head-stored : (l : List ℕ) (a n : ℕ) → set (sets (sets (set (sets l 0 (hex2 a)) 2 0x20) 3 (hex2 (n / 256))) 5 (hex2 (n % 256))) 7 0x0A
+    ≡ sets l 0 (headLine a n)
 head-stored l a n = refl
 
 -- the line of the answer at `from` reads its bytes there
-pub line-at : (b : List ℕ) (from : ℕ) → lineIn (drop from b) ≡ hex2 (getD b from 0) ++ hex2 (getD b (from + 1) 0) ++ hex2 (getD b (from + 2) 0) ++ hex2 (getD b (from + 3) 0) ++ newline
+pub line-at : (b : List ℕ) (from : ℕ) → lineIn (drop from b) ≡ hex2 (getD b from 0) ++ hex2 (getD b (from + 1) 0) ++ hex2 (getD b (from + 2) 0)
+    ++ hex2 (getD b (from + 3) 0) ++ newline
 line-at b from = simp (getD-drop, add-zero)
 
 -- ---- lines after lines

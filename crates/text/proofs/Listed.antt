@@ -7,7 +7,8 @@ use native.Mathlib.Omega.{arith}
 use lib.ListN.{length, drop}
 use Rattle.arbiter.specs.Effects.{powerUp}
 use Rattle.arbiter.specs.Steps.{step, answersFrom}
-use Rattle.arbiter.specs.Traces.{headBytes, eventBytes, mostEvents, answerRoom, rawIn, rawsIn, answersIn, bytesOf, readTrace, refusalNumber, reportOf, bufferOf, report, bufferAfter}
+use Rattle.arbiter.specs.Traces.{headBytes, eventBytes, mostEvents, answerRoom, rawIn, rawsIn, answersIn, bytesOf, readTrace, refusalNumber, reportOf, bufferOf}
+use Rattle.arbiter.specs.Traces.{report, bufferAfter}
 use Rattle.arbiter.specs.Listing.{headLine, answerLine, answerLines, mostChars, listingOf, listing}
 use Rattle.traces.specs.declared.Head.{Head}
 use Rattle.traces.specs.Bodies.{headOf}
@@ -88,11 +89,13 @@ module _ (t room : List ℕ) (e : answerRoom ≡ length room) where
   unfolding listing
   same-reading = ap (λ (k : ℕ). listingOf (readTrace t k) t) e
 
-  accepted-listing : report t room .number ≡ 0 → headLine (report t room .address) (report t room .events) ++ linesIn (report t room .events) (bufferAfter t room) ≡ listing t
+  accepted-listing : report t room .number ≡ 0 → headLine (report t room .address) (report t room .events)
+      ++ linesIn (report t room .events) (bufferAfter t room) ≡ listing t
   unfolding listingOf report reportOf bufferAfter bufferOf
   accepted-listing h = go (readTrace t (length room)) h ∙ sym same-reading
     where
-      go : (x : TraceRead) → reportOf x t .number ≡ 0 → headLine (reportOf x t .address) (reportOf x t .events) ++ linesIn (reportOf x t .events) (bufferOf x t room) ≡ listingOf x t
+      go : (x : TraceRead) → reportOf x t .number ≡ 0 → headLine (reportOf x t .address) (reportOf x t .events)
+          ++ linesIn (reportOf x t .events) (bufferOf x t room) ≡ listingOf x t
       go (Accepted a n k) z = ap (λ (l : List ℕ). headLine a n ++ l) (sym (lines-in k n t (drop (eventBytes * n) room)))
       go (Refused r) z = absurd (some-number r z)
 

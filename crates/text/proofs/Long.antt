@@ -12,7 +12,8 @@ use lib.Seq.{getD-take, length-take-le}
 use borrow.Author.Tests.{ltb-false, le-ltb, lt-ltb}
 use Rattle.arbiter.specs.Words.{if_then_else_}
 use Rattle.arbiter.specs.Straps.{addressOf}
-use Rattle.arbiter.specs.Traces.{pinCount, pinBytes, headBytes, mostEvents, eventsEnd, kindCount, wholeBytes, answerRoom, byteAt, pinsIn, countIn, isKind, kindAt, readKind, readCounted, readStrapped, readTrace}
+use Rattle.arbiter.specs.Traces.{pinCount, pinBytes, headBytes, mostEvents, eventsEnd, kindCount, wholeBytes, answerRoom, byteAt, pinsIn, countIn, isKind}
+use Rattle.arbiter.specs.Traces.{kindAt, readKind, readCounted, readStrapped, readTrace}
 use Rattle.arbiter.specs.Listing.{listingOf, listing}
 use Rattle.arbiter.specs.declared.Pins.{Pins}
 use Rattle.arbiter.specs.declared.Refusal.{Refusal}
@@ -48,7 +49,8 @@ module _ (t : List ℕ) (room : ℕ) (long : enough ≤ length t) where
       )
       (go (not (eqb (byteAt (eventsEnd n) t) kindCount)) (not (isKind (kindAt n t))))
     where
-      go : (wrong unknown : Bool) → (if wrong then Refused BadCount else if unknown then Refused UnknownPart else Refused BytesAfterEnd) ≡ Refused (if wrong then BadCount else if unknown then UnknownPart else BytesAfterEnd)
+      go : (wrong unknown : Bool) → (if wrong then Refused BadCount else if unknown then Refused UnknownPart else Refused BytesAfterEnd)
+          ≡ Refused (if wrong then BadCount else if unknown then UnknownPart else BytesAfterEnd)
       go true unknown = refl
       go false true = refl
       go false false = refl
@@ -60,7 +62,9 @@ module _ (t : List ℕ) (room : ℕ) (long : enough ≤ length t) where
       n : ℕ
       n = countIn t
 
-      go : (many : Bool) → ltb mostEvents n ≡ many → (if many then Refused TooManyEvents else if ltb (length t) (eventsEnd n) then Refused TraceCut else readKind a n t room) ≡ Refused (whyLong false (Address a) many (afterEvents t))
+      go : (many : Bool) → ltb mostEvents n ≡ many
+          → (if many then Refused TooManyEvents else if ltb (length t) (eventsEnd n) then Refused TraceCut else readKind a n t room)
+          ≡ Refused (whyLong false (Address a) many (afterEvents t))
       go true h = refl
       go false h =
           let few = ltb-false mostEvents n h in
@@ -71,7 +75,8 @@ module _ (t : List ℕ) (room : ℕ) (long : enough ≤ length t) where
   read =
       simp (le-ltb (length t) 1 (omega arith), le-ltb (length t) pinBytes (omega arith)) (go (not (eqb (byteAt 0 t) pinCount)) (addressOf (pinsIn t)))
     where
-      go : (b : Bool) (s : Strapped) → (if b then Refused BadCount else readStrapped s t room) ≡ Refused (whyLong b s (ltb mostEvents (countIn t)) (afterEvents t))
+      go : (b : Bool) (s : Strapped) → (if b then Refused BadCount else readStrapped s t room)
+          ≡ Refused (whyLong b s (ltb mostEvents (countIn t)) (afterEvents t))
       go true s = refl
       go false Unlisted = refl
       go false (Address a) = counted a
@@ -91,12 +96,15 @@ unfolding listing listingOf
 long-listing t long =
     let k : List ℕ = take enough t in
     let whole : enough ≤ length k = subst (λ (n : ℕ). enough ≤ n) (sym (length-take-le enough t long)) (le-refl enough) in
-    let pins : pinsIn k ≡ pinsIn t = λ j. record { ad3 = byte-kept t 1 (lit< tt) j; ad2 = byte-kept t 2 (lit< tt) j; ad1 = byte-kept t 3 (lit< tt) j; ad0 = byte-kept t 4 (lit< tt) j } in
+    let pins : pinsIn k ≡ pinsIn t = λ j. record
+    { ad3 = byte-kept t 1 (lit< tt) j; ad2 = byte-kept t 2 (lit< tt) j; ad1 = byte-kept t 3 (lit< tt) j; ad0 = byte-kept t 4 (lit< tt) j } in
     let count : countIn k ≡ countIn t = λ j. byte-kept t 5 (lit< tt) j + 256 * byte-kept t 6 (lit< tt) j in
     ap (λ (x : TraceRead). listingOf x k) (read k answerRoom whole)
-    ∙ ap (λ (b : ℕ). listingOf (Refused (whyLong (not (eqb b pinCount)) (addressOf (pinsIn k)) (ltb mostEvents (countIn k)) (afterEvents k))) t) (byte-kept t 0 (lit< tt))
+    ∙ ap (λ (b : ℕ). listingOf (Refused (whyLong (not (eqb b pinCount)) (addressOf (pinsIn k)) (ltb mostEvents (countIn k)) (afterEvents k))) t)
+    (byte-kept t 0 (lit< tt))
     ∙ ap (λ (p : Pins). listingOf (Refused (whyLong (not (eqb (byteAt 0 t) pinCount)) (addressOf p) (ltb mostEvents (countIn k)) (afterEvents k))) t) pins
-    ∙ ap (λ (n : ℕ). listingOf (Refused (whyLong (not (eqb (byteAt 0 t) pinCount)) (addressOf (pinsIn t)) (ltb mostEvents n) (whyAfter (byteAt (eventsEnd n) k) (kindAt n k)))) t) count
+    ∙ ap (λ (n : ℕ). listingOf (Refused (whyLong (not (eqb (byteAt 0 t) pinCount)) (addressOf (pinsIn t)) (ltb mostEvents n)
+    (whyAfter (byteAt (eventsEnd n) k) (kindAt n k)))) t) count
     ∙ ap (λ (r : Refusal). listingOf (Refused r) t) (same-why (not (eqb (byteAt 0 t) pinCount)) (addressOf (pinsIn t)) (ltb mostEvents (countIn t)) _ _ kept)
     ∙ sym (ap (λ (x : TraceRead). listingOf x t) (read t answerRoom long))
   where

@@ -8,7 +8,8 @@ use native.Mathlib.Omega.{arith}
 use lib.ListN.{length, take, drop, length-append, length-drop, take-append-drop, drop-of-length-le}
 use lib.Seq.{drop-cons, drop-drop, length-take-le, getD-at, getD-append-add}
 use Rattle.arbiter.specs.Straps.{addressOf}
-use Rattle.arbiter.specs.Traces.{pinCount, headBytes, eventBytes, eventsEnd, kindCount, kindBytes, wholeBytes, byteAt, pinsIn, countIn, rawsIn, eventsIn, kindNumber, kindSection, kindAt, readTrace}
+use Rattle.arbiter.specs.Traces.{pinCount, headBytes, eventBytes, eventsEnd, kindCount, kindBytes, wholeBytes, byteAt, pinsIn, countIn, rawsIn, eventsIn}
+use Rattle.arbiter.specs.Traces.{kindNumber, kindSection, kindAt, readTrace}
 use Rattle.arbiter.specs.Writing.{traceHead, rawsBytes, traceOf, ReadsBack, WritesAsGiven, Bytes, WritesBack, UndoEachOther}
 use Rattle.arbiter.specs.declared.Kind.{Kind}
 use Rattle.arbiter.specs.declared.Pins.{Pins}
@@ -84,7 +85,8 @@ module _ (p : Pins) (rs : List Raw) (k : Kind) where
 pub reads-back : ReadsBack
 reads-back p rs k address room listed few fits =
     let t = traceOf p rs k in (
-      accepts t room address (length rs) (first p rs k) (ap addressOf (same-pins p rs k) ∙ listed) (count p rs k) few k (whole p rs k) (section p rs k) (kind p rs k) fits,
+      accepts t room address (length rs) (first p rs k) (ap addressOf (same-pins p rs k) ∙ listed) (count p rs k) few k (whole p rs k) (section p rs k)
+          (kind p rs k) fits,
       same-pins p rs k,
       same-events p rs k,
     )

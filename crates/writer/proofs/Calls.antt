@@ -10,7 +10,8 @@ use lib.ListN.{length, take, drop}
 use lib.Seq.{take-append-seam}
 use borrow.Author.Tests.{eq-eqb, eqb-true, not-false, le-ltb}
 use Rattle.arbiter.specs.Straps.{addressOf, strappedNumber, strappedAddress}
-use Rattle.arbiter.specs.Traces.{pinCount, pinBytes, eventBytes, mostEvents, wholeBytes, byteAt, pinsIn, rawsIn, eventsIn, kindNumber, isKind, kindOf, readStrapped, readTrace, eventCount}
+use Rattle.arbiter.specs.Traces.{pinCount, pinBytes, eventBytes, mostEvents, wholeBytes, byteAt, pinsIn, rawsIn, eventsIn, kindNumber, isKind, kindOf}
+use Rattle.arbiter.specs.Traces.{readStrapped, readTrace, eventCount}
 use Rattle.arbiter.specs.Writing.{rawsBytes, traceOf, writtenNumber, writtenBytes, written, bufferWritten, Bytes}
 use Rattle.arbiter.specs.declared.Kind.{Kind}
 use Rattle.arbiter.specs.declared.Kind.the-variants.{Pca9641, Tpt29641}
@@ -56,7 +57,8 @@ written-read-back p kind events buffer room told fits =
     let count = raws-length (eventCount events) events in
     let small = few .1 in
     let whole = few .0 in
-    let back = reads-back p (rs p kind events buffer told) (kindOf kind) (strappedAddress (addressOf p)) room (has-address p kind events buffer told) (omega (arith, count, small)) (omega (arith, count, whole, fits)) in
+    let back = reads-back p (rs p kind events buffer told) (kindOf kind) (strappedAddress (addressOf p)) room (has-address p kind events buffer told)
+    (omega (arith, count, small)) (omega (arith, count, whole, fits)) in
     let is = left-is p kind events buffer told in (
       ap (λ (t : List ℕ). readTrace t room) is ∙ back .0 ∙ ap (λ (n : ℕ). Accepted (strappedAddress (addressOf p)) n (kindOf kind)) count,
       ap pinsIn is ∙ back .1,
@@ -79,7 +81,8 @@ kind-same : (k : Kind) → kindOf (kindNumber k) ≡ k
 kind-same Pca9641 = refl
 kind-same Tpt29641 = refl
 
-module _ (t buffer : List ℕ) (address n room : ℕ) (k : Kind) (bytes : Bytes t) (accepted : readTrace t room ≡ Accepted address n k) (fit : length t ≤ length buffer) where
+module _ (t buffer : List ℕ) (address n room : ℕ) (k : Kind) (bytes : Bytes t) (accepted : readTrace t room ≡ Accepted address n k)
+    (fit : length t ≤ length buffer) where
   fits : Fits t room n k
   fits = accepted-fits t room address n k accepted
 

@@ -10,7 +10,8 @@ use lib.ListN.{length, drop, length-append, length-drop}
 use lib.Seq.{take-at, drop-append-add, drop-drop}
 use borrow.Author.Tests.{eq-eqb, ne-eqb, eqb-true, eqb-false, not-false, ltb-false, le-ltb}
 use Rattle.arbiter.specs.Straps.{addressOf, strappedNumber}
-use Rattle.arbiter.specs.Traces.{headBytes, eventBytes, mostEvents, eventsEnd, kindBytes, wholeBytes, mostBytes, rawsIn, kindSection, isKind, kindOf, eventCount}
+use Rattle.arbiter.specs.Traces.{headBytes, eventBytes, mostEvents, eventsEnd, kindBytes, wholeBytes, mostBytes, rawsIn, kindSection, isKind, kindOf}
+use Rattle.arbiter.specs.Traces.{eventCount}
 use Rattle.arbiter.specs.Writing.{traceHead, rawsBytes, traceOf, writtenNumber, writtenBytes, written, bufferWritten}
 use Rattle.arbiter.specs.declared.Pins.{Pins}
 use Rattle.arbiter.specs.declared.Written.{Written}
@@ -101,16 +102,19 @@ module _ (p : Pins) (kind : ℕ) (events out : List ℕ) (accepted : writtenNumb
   kinded : withKind ((head ++ events) ++ drop (eventsEnd n) out) n (kindOf kind) ≡ (head ++ events ++ section) ++ drop (wholeBytes n) out
   unfolding withKind
   kinded =
-      let whole : length ((head ++ events) ++ drop (eventsEnd n) out) ≡ eventsEnd n + length (drop (eventsEnd n) out) = length-append (head ++ events) (drop (eventsEnd n) out) ∙ ap (λ (k : ℕ). k + length (drop (eventsEnd n) out)) end-at in
+      let whole : length ((head ++ events) ++ drop (eventsEnd n) out) ≡ eventsEnd n + length (drop (eventsEnd n) out) =
+      length-append (head ++ events) (drop (eventsEnd n) out) ∙ ap (λ (k : ℕ). k + length (drop (eventsEnd n) out)) end-at in
       let rest : length (drop (eventsEnd n) out) ≡ length out - eventsEnd n = length-drop (eventsEnd n) out in
       simp (le-ltb (length ((head ++ events) ++ drop (eventsEnd n) out)) (wholeBytes n) (omega (arith, whole, rest, fits .2)))
-      (ap (λ (l : List ℕ). l ++ section ++ drop (wholeBytes n) ((head ++ events) ++ drop (eventsEnd n) out)) (take-at (head ++ events) (drop (eventsEnd n) out) (eventsEnd n) end-at)
+      (ap (λ (l : List ℕ). l ++ section ++ drop (wholeBytes n) ((head ++ events) ++ drop (eventsEnd n) out))
+      (take-at (head ++ events) (drop (eventsEnd n) out) (eventsEnd n) end-at)
       ∙ ap (λ (l : List ℕ). (head ++ events) ++ section ++ l)
       (ap (λ (k : ℕ). drop (k + kindBytes) ((head ++ events) ++ drop (eventsEnd n) out)) (sym end-at)
       ∙ drop-append-add (head ++ events) (drop (eventsEnd n) out) kindBytes
       ∙ drop-drop kindBytes (eventsEnd n) out))
 
-  pub all-stored : (first second last : List ℕ) → first ≡ withHead out p n → second ≡ withBytes first headBytes events → last ≡ withKind second n (kindOf kind) → last ≡ bufferWritten p kind events out
+  pub all-stored : (first second last : List ℕ) → first ≡ withHead out p n → second ≡ withBytes first headBytes events → last ≡ withKind second n (kindOf kind)
+      → last ≡ bufferWritten p kind events out
   unfolding bufferWritten
   all-stored first second last h e l =
       l

@@ -10,12 +10,6 @@ use Rattle.converter.proofs.Laws.{conversion-few}
 use Rattle.packed_traces.proofs.convert_packed.Statement.{statement}
 use Rattle.packed_traces.proofs.convert_packed.Tie as tie
 
-convert-trace-requires : tie.Need-convert-trace-requires
-convert-trace-requires c κs = search needs
-
-long-of-requires : tie.Need-long-of-requires
-long-of-requires c κs = search needs
-
 mul-result : tie.Need-mul-result
 mul-result c =
     let few = subst (λ (w : Written). w .length ≤ mostBytes) (sym (c .before .before .before .convert-trace .ensures .0)) (conversion-few _ _) in
@@ -26,9 +20,6 @@ add-result c =
     let few = subst (λ (w : Written). w .length ≤ mostBytes) (sym (c .before .before .before .convert-trace .ensures .0)) (conversion-few _ _) in
     omega (arith, few)
 
-same-length : tie.Need-same-length
-same-length c = search needs
-
 returns : tie.Need-returns
 returns c =
     let converted = c .before .before .before .convert-trace .ensures in
@@ -36,5 +27,4 @@ returns c =
 
 pub convert-packed-spec : {M : Type 1} → statement M
 convert-packed-spec =
-    tie.close
-    (tie.spec convert-trace-requires long-of-requires mul-result add-result same-length returns)
+    tie.close (tie.spec (λ c κs. search needs) (λ c κs. search needs) mul-result add-result (λ c. search needs) returns)

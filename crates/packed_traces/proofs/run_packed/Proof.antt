@@ -10,21 +10,6 @@ use borrow.Author.Needs.{needs}
 use Rattle.packed_traces.proofs.run_packed.Statement.{statement}
 use Rattle.packed_traces.proofs.run_packed.Tie as tie
 
-answer-trace-requires : tie.Need-answer-trace-requires
-answer-trace-requires c κs = search needs
-
-long-of-requires : tie.Need-long-of-requires
-long-of-requires c κs = search needs
-
-long-of-requires-2 : tie.Need-long-of-requires-2
-long-of-requires-2 c κs = search needs
-
-mul-result : tie.Need-mul-result
-mul-result c = search needs
-
-add-result : tie.Need-add-result
-add-result c = search needs
-
 mul-result-2 : tie.Need-mul-result-2
 mul-result-2 c =
     let few = subst (λ (r : Head). r .events ≤ mostEvents) (sym (c .before .before .before .before .answer-trace .ensures .0)) (report-few _ _) in
@@ -35,19 +20,10 @@ add-result-2 c =
     let few = subst (λ (r : Head). r .events ≤ mostEvents) (sym (c .before .before .before .before .answer-trace .ensures .0)) (report-few _ _) in
     omega (arith, few)
 
-long-of-requires-3 : tie.Need-long-of-requires-3
-long-of-requires-3 c κs = search needs
-
-mul-result-3 : tie.Need-mul-result-3
-mul-result-3 c = search needs
-
 add-result-3 : tie.Need-add-result-3
 add-result-3 c =
     let few = subst (λ (r : Head). r .events ≤ mostEvents) (sym (c .before .before .before .before .before .answer-trace .ensures .0)) (report-few _ _) in
     omega (arith, few)
-
-same-length : tie.Need-same-length
-same-length c = search needs
 
 returns : tie.Need-returns
 returns c =
@@ -61,15 +37,10 @@ pub run-packed-spec : {M : Type 1} → statement M
 run-packed-spec =
     tie.close
     (tie.spec
-    answer-trace-requires
-    long-of-requires
-    long-of-requires-2
-    mul-result
-    add-result
+    (λ c κs. search needs) (λ c κs. search needs) (λ c κs. search needs) (λ c. search needs) (λ c. search needs)
     mul-result-2
     add-result-2
-    long-of-requires-3
-    mul-result-3
+    (λ c κs. search needs) (λ c. search needs)
     add-result-3
-    same-length
+    (λ c. search needs)
     returns)

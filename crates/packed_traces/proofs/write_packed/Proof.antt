@@ -10,12 +10,6 @@ use Rattle.writer.proofs.Laws.{written-few}
 use Rattle.packed_traces.proofs.write_packed.Statement.{statement}
 use Rattle.packed_traces.proofs.write_packed.Tie as tie
 
-write-trace-requires : tie.Need-write-trace-requires
-write-trace-requires c κs = search needs
-
-long-of-requires : tie.Need-long-of-requires
-long-of-requires c κs = search needs
-
 mul-result : tie.Need-mul-result
 mul-result c =
     let few = subst (λ (w : Written). w .length ≤ mostBytes) (sym (c .before .before .before .write-trace .ensures .0)) (written-few _ _ _ _) in
@@ -26,9 +20,6 @@ add-result c =
     let few = subst (λ (w : Written). w .length ≤ mostBytes) (sym (c .before .before .before .write-trace .ensures .0)) (written-few _ _ _ _) in
     omega (arith, few)
 
-same-length : tie.Need-same-length
-same-length c = search needs
-
 returns : tie.Need-returns
 returns c =
     let wrote = c .before .before .before .write-trace .ensures in
@@ -36,5 +27,4 @@ returns c =
 
 pub write-packed-spec : {M : Type 1} → statement M
 write-packed-spec =
-    tie.close
-    (tie.spec write-trace-requires long-of-requires mul-result add-result same-length returns)
+    tie.close (tie.spec (λ c κs. search needs) (λ c κs. search needs) mul-result add-result (λ c. search needs) returns)

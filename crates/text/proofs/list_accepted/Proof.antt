@@ -12,26 +12,11 @@ use borrow.Author.Needs.{needs}
 use Rattle.text.proofs.list_accepted.Statement.{statement}
 use Rattle.text.proofs.list_accepted.Tie as tie
 
-mul-needed : tie.Need-mul-needed
-mul-needed c = search needs
-
-add-needed : tie.Need-add-needed
-add-needed c = search needs
-
 returns : tie.Need-returns
 returns c =
     let start = c .before .before .before .args in
     let k = listed-length (start .address) (start .n) (start .answers .now) in
     (k, no-room (8 + 9 * start .n) _ _ k (c .if1 .taken))
-
-put-head-requires : tie.Need-put-head-requires
-put-head-requires c κs = search needs
-
-put-lines-requires : tie.Need-put-lines-requires
-put-lines-requires c κs = search needs
-
-same-length : tie.Need-same-length
-same-length c = search needs
 
 returns-2 : tie.Need-returns-2
 returns-2 c =
@@ -50,10 +35,7 @@ pub list-accepted-spec : {M : Type 1} → statement M
 list-accepted-spec =
     tie.close
     (tie.spec
-    mul-needed
-    add-needed
+    (λ c. search needs) (λ c. search needs)
     returns
-    put-head-requires
-    put-lines-requires
-    same-length
+    (λ c κs. search needs) (λ c κs. search needs) (λ c. search needs)
     returns-2)

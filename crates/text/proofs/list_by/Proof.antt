@@ -11,45 +11,37 @@ use borrow.Author.Needs.{needs}
 use Rattle.text.proofs.list_by.Statement.{statement}
 use Rattle.text.proofs.list_by.Tie as tie
 
-answer-trace-requires : tie.Need-answer-trace-requires
-answer-trace-requires c κs = search needs
-
 list-accepted-requires : tie.Need-list-accepted-requires
 list-accepted-requires c κs =
+    let back10 = c .before .before .before .before .before .before .before .before .before .before in
     let ran = c .before .before .before .before .before .before .answer-trace in
-    let start = c .before .before .before .before .before .before .before .before .before .before .before .args in
-    let fit = told-fits (start .t .now) (start .answers .now) (c .before .before .before .before .before .before .before .before .before .before .before .pre) _ (ran .ensures .0) in
+    let start = back10 .before .args in
+    let fit = told-fits (start .t .now) (start .answers .now) (back10 .before .pre) _ (ran .ensures .0) in
     (fit .1, omega (arith, fit .0, ran .kept .1))
 
 list-refused-requires : tie.Need-list-refused-requires
 list-refused-requires c κs =
-    let start = c .before .before .before .before .before .before .before .before .before .before .args in
-    told-refused (start .t .now) (start .answers .now) (c .before .before .before .before .before .before .before .before .before .before .pre) _ (c .before .before .before .before .before .answer-trace .ensures .0) (c .before .if1 .left) .1
-
-same-length : tie.Need-same-length
-same-length c = search needs
-
-same-length-2 : tie.Need-same-length-2
-same-length-2 c = search needs
+    let back10 = c .before .before .before .before .before .before .before .before .before .before in
+    let start = back10 .args in
+    told-refused (start .t .now) (start .answers .now) (back10 .pre) _ (c .before .before .before .before .before .answer-trace .ensures .0)
+    (c .before .if1 .left) .1
 
 returns : tie.Need-returns
 returns c =
+    let back10 = c .before .before .before .before .before .before .before .before .before .before in
     let ran = c .before .before .before .before .before .before .before .before .before .answer-trace .ensures in
-    let start = c .before .before .before .before .before .before .before .before .before .before .before .before .before .before .args in
-    let same = told-accepted (start .t .now) (start .answers .now) (c .before .before .before .before .before .before .before .before .before .before .before .before .before .before .pre) _ (ran .0) _ (ran .1) (c .before .before .before .before .before .if1 .taken) in
+    let start = back10 .before .before .before .before .args in
+    let same = told-accepted (start .t .now) (start .answers .now) (back10 .before .before .before .before .pre) _ (ran .0) _ (ran .1)
+    (c .before .before .before .before .before .if1 .taken) in
     let listed = c .before .before .list-accepted .ensures in
     (listed .0 ∙ ap length same, listed .1 ∙ ap (λ (w : List ℕ). fitted w (start .text .now)) same)
 
-same-length-3 : tie.Need-same-length-3
-same-length-3 c = search needs
-
-same-length-4 : tie.Need-same-length-4
-same-length-4 c = search needs
-
 returns-2 : tie.Need-returns-2
 returns-2 c =
-    let start = c .before .before .before .before .before .before .before .before .before .before .before .before .before .args in
-    let same = told-refused (start .t .now) (start .answers .now) (c .before .before .before .before .before .before .before .before .before .before .before .before .before .pre) _ (c .before .before .before .before .before .before .before .before .answer-trace .ensures .0) (c .before .before .before .before .if1 .left) .0 in
+    let back10 = c .before .before .before .before .before .before .before .before .before .before in
+    let start = back10 .before .before .before .args in
+    let same = told-refused (start .t .now) (start .answers .now) (back10 .before .before .before .pre) _
+    (c .before .before .before .before .before .before .before .before .answer-trace .ensures .0) (c .before .before .before .before .if1 .left) .0 in
     let listed = c .before .before .list-refused .ensures in
     (listed .0 ∙ ap length same, listed .1 ∙ ap (λ (w : List ℕ). fitted w (start .text .now)) same)
 
@@ -57,12 +49,10 @@ pub list-by-spec : {M : Type 1} → statement M
 list-by-spec =
     tie.close
     (tie.spec
-    answer-trace-requires
+    (λ c κs. search needs)
     list-accepted-requires
     list-refused-requires
-    same-length
-    same-length-2
+    (λ c. search needs) (λ c. search needs)
     returns
-    same-length-3
-    same-length-4
+    (λ c. search needs) (λ c. search needs)
     returns-2)

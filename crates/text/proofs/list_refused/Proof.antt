@@ -10,12 +10,6 @@ use Rattle.text.proofs.list_refused.Tie as tie
 returns : tie.Need-returns
 returns c = let k = short-length _ (c .before .if1 .taken) in (k, no-room 3 _ _ k (c .if2 .taken))
 
-put-short-requires : tie.Need-put-short-requires
-put-short-requires c κs = search needs
-
-same-length : tie.Need-same-length
-same-length c = search needs
-
 returns-2 : tie.Need-returns-2
 returns-2 c =
     let k = short-length _ (c .before .before .before .before .before .if1 .taken) in
@@ -23,12 +17,6 @@ returns-2 c =
 
 returns-3 : tie.Need-returns-3
 returns-3 c = let k = long-length _ (c .before .if1 .left) in (k, no-room 4 _ _ k (c .if3 .taken))
-
-put-long-requires : tie.Need-put-long-requires
-put-long-requires c κs = search needs
-
-same-length-2 : tie.Need-same-length-2
-same-length-2 c = search needs
 
 returns-4 : tie.Need-returns-4
 returns-4 c =
@@ -40,10 +28,8 @@ list-refused-spec =
     tie.close
     (tie.spec
     returns
-    put-short-requires
-    same-length
+    (λ c κs. search needs) (λ c. search needs)
     returns-2
     returns-3
-    put-long-requires
-    same-length-2
+    (λ c κs. search needs) (λ c. search needs)
     returns-4)

@@ -50,7 +50,8 @@ loop-again c =
       c .before .before .put-line .kept .0 ∙ at .inv .1,
       c .before .before .put-line .ensures
           ∙ ap (λ (l : _). sets l (headChars + lineChars * at .i) (lineIn (drop (eventBytes * at .i) b))) (at .inv .2)
-          ∙ sets-on (linesIn (at .i) b) (lineIn (drop (eventBytes * at .i) b)) start headChars (headChars + lineChars * at .i) (ap (λ (n : _). headChars + n) (sym (lines-length (at .i) b)))
+          ∙ sets-on (linesIn (at .i) b) (lineIn (drop (eventBytes * at .i) b)) start headChars (headChars + lineChars * at .i)
+          (ap (λ (n : _). headChars + n) (sym (lines-length (at .i) b)))
           ∙ ap (sets start headChars) (sym (lines-more (at .i) b)),
     )
 

@@ -9,26 +9,11 @@ use borrow.Author.Needs.{needs}
 use Rattle.text.proofs.put_long.Statement.{statement}
 use Rattle.text.proofs.put_long.Tie as tie
 
-slice-write-text : tie.Need-slice-write-text
-slice-write-text c = search needs
-
-add-text : tie.Need-add-text
-add-text c = search needs
-
 slice-write-text-2 : tie.Need-slice-write-text-2
 slice-write-text-2 c = simp length-set (omega arith)
 
-add-text-2 : tie.Need-add-text-2
-add-text-2 c = search needs
-
 slice-write-text-3 : tie.Need-slice-write-text-3
 slice-write-text-3 c = simp length-set (omega arith)
-
-slice-write-text-4 : tie.Need-slice-write-text-4
-slice-write-text-4 c = search needs
-
-same-length : tie.Need-same-length
-same-length c = search needs
 
 returns : tie.Need-returns
 returns c = ap (sets (c .args .text .now) 0) (sym (long-line (c .args .number) (omega arith)))
@@ -37,11 +22,9 @@ pub put-long-spec : {M : Type 1} → statement M
 put-long-spec =
     tie.close
     (tie.spec
-    slice-write-text
-    add-text
+    (λ c. search needs) (λ c. search needs)
     slice-write-text-2
-    add-text-2
+    (λ c. search needs)
     slice-write-text-3
-    slice-write-text-4
-    same-length
+    (λ c. search needs) (λ c. search needs)
     returns)

@@ -9,20 +9,8 @@ use borrow.Author.Needs.{needs}
 use Rattle.text.proofs.put_short.Statement.{statement}
 use Rattle.text.proofs.put_short.Tie as tie
 
-slice-write-text : tie.Need-slice-write-text
-slice-write-text c = search needs
-
-add-text : tie.Need-add-text
-add-text c = search needs
-
 slice-write-text-2 : tie.Need-slice-write-text-2
 slice-write-text-2 c = simp length-set (omega arith)
-
-slice-write-text-3 : tie.Need-slice-write-text-3
-slice-write-text-3 c = search needs
-
-same-length : tie.Need-same-length
-same-length c = search needs
 
 returns : tie.Need-returns
 returns c = ap (sets (c .args .text .now) 0) (sym (short-line (c .args .number) (omega arith)))
@@ -30,4 +18,8 @@ returns c = ap (sets (c .args .text .now) 0) (sym (short-line (c .args .number) 
 pub put-short-spec : {M : Type 1} → statement M
 put-short-spec =
     tie.close
-    (tie.spec slice-write-text add-text slice-write-text-2 slice-write-text-3 same-length returns)
+    (tie.spec
+    (λ c. search needs) (λ c. search needs)
+    slice-write-text-2
+    (λ c. search needs) (λ c. search needs)
+    returns)

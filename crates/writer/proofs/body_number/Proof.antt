@@ -11,31 +11,29 @@ returns : tie.Need-returns
 unfolding bodyNumber
 returns c = simp (lt-ltb _ _ (c .if2 .taken), eq-eqb _ _ (c .before .if1 .taken))
 
-is-kind-requires : tie.Need-is-kind-requires
-is-kind-requires c κs = search needs
-
-mul-if4 : tie.Need-mul-if4
-mul-if4 c = search needs
-
-add-if4 : tie.Need-add-if4
-add-if4 c = search needs
-
-add-if4-2 : tie.Need-add-if4-2
-add-if4-2 c = search needs
-
 returns-2 : tie.Need-returns-2
 unfolding bodyNumber
 returns-2 c =
     let known = c .before in
     let few = known .before .before in
-    simp (lt-ltb _ _ (c .if4 .taken), sym (known .before .is-kind .ensures) ∙ known .if3 .taken, le-ltb _ _ (few .if2 .left), eq-eqb _ _ (few .before .if1 .taken))
+    simp (
+      lt-ltb _ _ (c .if4 .taken),
+      sym (known .before .is-kind .ensures) ∙ known .if3 .taken,
+      le-ltb _ _ (few .if2 .left),
+      eq-eqb _ _ (few .before .if1 .taken),
+    )
 
 returns-3 : tie.Need-returns-3
 unfolding bodyNumber
 returns-3 c =
     let known = c .before in
     let few = known .before .before in
-    simp (le-ltb _ _ (c .if4 .left), sym (known .before .is-kind .ensures) ∙ known .if3 .taken, le-ltb _ _ (few .if2 .left), eq-eqb _ _ (few .before .if1 .taken))
+    simp (
+      le-ltb _ _ (c .if4 .left),
+      sym (known .before .is-kind .ensures) ∙ known .if3 .taken,
+      le-ltb _ _ (few .if2 .left),
+      eq-eqb _ _ (few .before .if1 .taken),
+    )
 
 returns-4 : tie.Need-returns-4
 unfolding bodyNumber
@@ -52,10 +50,7 @@ body-number-spec =
     tie.close
     (tie.spec
     returns
-    is-kind-requires
-    mul-if4
-    add-if4
-    add-if4-2
+    (λ c κs. search needs) (λ c. search needs) (λ c. search needs) (λ c. search needs)
     returns-2
     returns-3
     returns-4

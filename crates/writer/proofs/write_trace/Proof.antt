@@ -7,34 +7,10 @@ use Rattle.writer.proofs.Laws.{zero-fits, refused-written, refused-buff
 use Rattle.writer.proofs.write_trace.Statement.{statement}
 use Rattle.writer.proofs.write_trace.Tie as tie
 
-write-number-requires : tie.Need-write-number-requires
-write-number-requires c κs = search needs
-
 cast-n : tie.Need-cast-n
 cast-n c =
     let fits = zero-fits _ _ _ _ (sym (c .before .write-number .ensures) ∙ c .if1 .taken) in
     omega (arith, fits .1)
-
-put-head-requires : tie.Need-put-head-requires
-put-head-requires c κs = search needs
-
-put-bytes-requires : tie.Need-put-bytes-requires
-put-bytes-requires c κs = search needs
-
-kind-of-requires : tie.Need-kind-of-requires
-kind-of-requires c κs = search needs
-
-put-kind-requires : tie.Need-put-kind-requires
-put-kind-requires c κs = search needs
-
-add-t10 : tie.Need-add-t10
-add-t10 c = search needs
-
-add-t19 : tie.Need-add-t19
-add-t19 c = search needs
-
-same-length : tie.Need-same-length
-same-length c = search needs
 
 returns : tie.Need-returns
 returns c =
@@ -44,7 +20,8 @@ returns c =
     let passed = head .before .before in
     let accepted = sym (passed .before .write-number .ensures) ∙ passed .if1 .taken in (
       all-written _ _ _ _ accepted,
-      all-stored _ _ _ _ accepted _ _ _ (head .put-head .ensures) (events .put-bytes .ensures) (simp (kind .before .kind-of .ensures) at (kind .put-kind .ensures)),
+      all-stored _ _ _ _ accepted _ _ _ (head .put-head .ensures) (events .put-bytes .ensures)
+          (simp (kind .before .kind-of .ensures) at (kind .put-kind .ensures)),
     )
 
 returns-2 : tie.Need-returns-2
@@ -56,14 +33,9 @@ pub write-trace-spec : {M : Type 1} → statement M
 write-trace-spec =
     tie.close
     (tie.spec
-    write-number-requires
+    (λ c κs. search needs)
     cast-n
-    put-head-requires
-    put-bytes-requires
-    kind-of-requires
-    put-kind-requires
-    add-t10
-    add-t19
-    same-length
+    (λ c κs. search needs) (λ c κs. search needs) (λ c κs. search needs) (λ c κs. search needs) (λ c. search needs)
+    (λ c. search needs) (λ c. search needs)
     returns
     returns-2)
