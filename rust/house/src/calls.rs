@@ -12,6 +12,11 @@ pub struct Call {
 }
 
 impl Call {
+    /// `listing` of `listing::why::say`.
+    pub fn crate_name(&self) -> &str {
+        self.name.split("::").next().unwrap_or_default()
+    }
+
     /// True if the contract has a clause that begins with this word.
     pub fn has(&self, word: &str) -> bool {
         self.contract.lines().any(|line| line.split_whitespace().next() == Some(word))

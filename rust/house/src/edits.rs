@@ -1,10 +1,9 @@
 //! The edits that show wrong answers refused: `crates/CRATE/must-fail/NAME.edit`, which the gate tries, and `crates/CRATE/tried/NAME.edit`.
 
 use crate::tree::Tree;
-use crate::LIST;
 use std::collections::BTreeMap;
 
-fn path_in(folder: &str, name: &str) -> String {
+pub fn path_in(folder: &str, name: &str) -> String {
     let (krate, edit) = name.split_once('/').unwrap_or(("", name));
     format!("crates/{krate}/{folder}/{edit}.edit")
 }
@@ -25,14 +24,12 @@ pub fn edits_in(tree: &Tree, folder: &str) -> Vec<String> {
     tree.paths("crates/", ".edit").filter_map(name).collect()
 }
 
-/// What is wrong with an edit that the list names.
+/// What is wrong with the edit of this name.
 pub fn fault_of(tree: &Tree, name: &str) -> Option<String> {
     let (gate, tried) = (path_in(GATE, name), path_in(TRIED, name));
     let (path, text) = match (tree.text(&gate), tree.text(&tried)) {
         (None, None) => {
-            return Some(format!(
-                "{LIST} names the edit `{name}`; neither {gate} nor {tried} is there."
-            ))
+            return Some(format!("There is no edit `{name}`: neither {gate} nor {tried}."))
         }
         (Some(_), Some(_)) => {
             return Some(format!("The edit `{name}` stands twice: {gate} and {tried}."))

@@ -10,8 +10,8 @@
 //!
 //! A cell without a name begins with "none: " and says why, or with "nothing yet". Names outside of tables may have any of these forms.
 
-use crate::list::{definitions_in, quoted};
 use crate::names::Names;
+use crate::tables::{definitions_in, quoted};
 use crate::tree::Tree;
 
 /// Where the sentences of the papers stand, each with what says, carries and shows it.

@@ -1,8 +1,8 @@
 //! Holds each statement to a field of a record, each record to the one term that fills it, and `docs/STATEMENTS.md` to all of them: a proof
 //! that is in no record could be deleted, and the check would still pass.
 
-use crate::list::quoted;
 use crate::stated::{stated, Defined, Record, Stated, Theorem};
+use crate::tables::quoted;
 use crate::tree::Tree;
 
 /// Where the statements are listed, a line each in plain words.
