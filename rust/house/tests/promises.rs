@@ -1,81 +1,15 @@
-//! Contracts, edits and the page that is made of them agree. Each way in which they could not is told in a sentence, seen here on a small
-//! repository.
+//! Contracts, edits and the page that is made of them agree. Each way in which they could not is told in a sentence, seen on a small repository:
+//! of calls and the page here, of edits in `edits.rs`.
+
+mod lamp;
 
 use house::{faults, promises_page, Tree, LIST, TEMPLATE};
+use lamp::{fault_after, only_fault, small, GATE, LIGHT, SAY, SOURCE, TRIED, UNIQUE};
 
 #[test]
 fn the_list_agrees_with_the_code() {
     let found = faults(&Tree::of_this_repository());
     assert!(found.is_empty(), "\n\n{}\n", found.join("\n"));
-}
-
-const SOURCE: &str = "crates/lamp/src/lib.rt";
-const SAY: &str = "crates/show/src/words.rt";
-const LIGHT: &str = "crates/lamp/specs/Light.antt";
-const UNIQUE: &str = "crates/lamp/proofs/Unique.antt";
-const TRIED: &str = "crates/lamp/tried/always_lit.edit";
-const GATE: &str = "crates/lamp/must-fail/never_lit.edit";
-const RULE: &str = "crates/lamp/tried/lit_when_off.edit";
-
-/// A crate with two calls and a private function, and a program.
-fn put_code(tree: &mut Tree) {
-    tree.put(
-        "crates.txt",
-        "# What this file is.\n\n# Lamps: one alone.\nlamp:\n\n# Programs.\nshow: lamp\n",
-    );
-    let source = "ghost use Rattle.lamp.specs.Light.{lit, off};\n\
-                  ghost use Rattle.lamp.specs.declared.Lamp.{on};\n\n\
-                  pub fn is_lit(on: bool) -> bool\n    ensures { λ r. ⌜ r ≡ lit on ⌝ }\n{\n    on\n}\n\n\
-                  pub fn glows(\n    off: bool,\n) -> bool\n    ensures { λ r. ⌜ r ≡ now (off .lit) ⌝ }\n{\n    (off)\n}\n\n\
-                  fn rest(on: bool) -> bool\n    requires { ⌜ on ⌝ }\n{\n    on\n}\n";
-    tree.put(SOURCE, source);
-    tree.put(LIGHT, "abbrev pub lit : Bool → Bool\nlit on = on\n\npub off : Bool\n");
-    tree.put("crates/lamp/proofs/Light.antt", "pub all-lit : AllLit\n");
-    tree.put(UNIQUE, "pub is-lit-once : OneResult\n\npub glows-once : OneResult\n");
-    tree.put("crates/show/src/main.rt", "mod words;\n\nfn main() {\n}\n");
-    tree.put(SAY, "pub fn say() {\n}\n");
-}
-
-/// The edits: one of a definition, two of the code beside the five devices.
-fn put_edits(tree: &mut Tree) {
-    let code = "file: src/lib.rt\nold:     (off)\nnew:     ";
-    tree.put(GATE, &format!("# call: lamp::glows, lamp::is_lit\n# wrong: dark\n{code}false\n"));
-    tree.put(
-        TRIED,
-        &format!("# call: lamp::is_lit\n# wrong: light\n# refused: is_lit returns, Light all-lit\n{code}(true)\nold: (true)\nnew: true\n"),
-    );
-    tree.put(RULE, "# wrong: lit when off\n# refused: Light all-lit\nfile: specs/Light.antt\nold: lit on = on\nnew: lit on = off\n");
-    for (number, name) in ["one", "two", "three", "four", "five"].into_iter().enumerate() {
-        tree.put(
-            &format!("crates/lamp/must-fail/{name}.edit"),
-            &format!("# call: lamp::glows\n# device: {} is {name}\n# wrong: wrong {name}\n# refused: glows\n{code}{number}\n", number + 1),
-        );
-    }
-}
-
-fn small() -> Tree {
-    let mut tree = Tree::default();
-    put_code(&mut tree);
-    put_edits(&mut tree);
-    tree.put(
-        TEMPLATE,
-        "# Promises\n\n{devices}\n\n{rules}\n\n{calls}\n\n## Exceptions\n\n| call | grounds | edits |\n|---|---|---|\n\
-         | `show::main` | a program | {edits} |\n| `show::words::say` | no result | {edits} |\n",
-    );
-    let page = promises_page(&tree);
-    tree.put(LIST, &page);
-    tree
-}
-
-/// The one fault that is left where a text stands in another's place.
-fn fault_after(path: &str, old: &str, new: &str) -> String {
-    only_fault(&small().replaced(path, old, new))
-}
-
-fn only_fault(tree: &Tree) -> String {
-    let found = faults(tree);
-    assert_eq!(found.len(), 1, "{found:#?}");
-    found[0].clone()
 }
 
 #[test]
@@ -131,10 +65,16 @@ fn a_template_without_a_place() {
 }
 
 #[test]
-fn a_public_call_whose_crate_is_not_listed() {
-    let found = faults(&small().replaced("crates.txt", "lamp:\n", ""));
-    let expected = "`lamp::is_lit` of crates/lamp/src/lib.rt is a public call, and crates.txt lacks its crate.";
-    assert_eq!(found[0], expected);
+fn a_crate_that_is_not_listed() {
+    let told = fault_after("crates.txt", "lamp:\n", "");
+    assert_eq!(told, "crates.txt lacks `lamp`, which has public calls or edits.");
+    let told = fault_after("crates.txt", "show: lamp\n", "");
+    assert_eq!(told, "crates.txt lacks `show`, which has public calls or edits.");
+    let mut tree = small();
+    let text = "# wrong: nothing\nfile: specs/Far.antt\nold: a\nnew: b\n";
+    tree.put("crates/far/tried/off.edit", text);
+    tree.put("crates/far/specs/Far.antt", "a\n");
+    assert_eq!(only_fault(&tree), "crates.txt lacks `far`, which has public calls or edits.");
 }
 
 #[test]
@@ -188,97 +128,15 @@ fn an_exception_without_grounds_or_with_a_promise() {
     let told = fault_after(TEMPLATE, "| a program |", "|  |");
     let expected = "The exception `show::main` has no grounds in rust/house/src/promises/page.md.";
     assert_eq!(told, expected);
+    assert_eq!(fault_after(TEMPLATE, "| a program | {edits} |", "| {edits} |"), expected);
+    let told = fault_after(TEMPLATE, "| a program | {edits} |", "| a program | none |");
+    let expected =
+        "The exception `show::main` has no cell {edits} in rust/house/src/promises/page.md.";
+    assert_eq!(told, expected);
     let told = fault_after(SAY, "pub fn say() {", "pub fn say()\n    ensures { λ _. ⌜ ⊤ ⌝ }\n{");
     let expected =
         "`show::words::say` has a promise in crates/show/src/words.rt, and rust/house/src/promises/page.md lists it as an exception.";
     assert_eq!(told, expected);
-}
-
-#[test]
-fn a_call_with_one_wrong_answer() {
-    let told = fault_after(GATE, ", lamp::is_lit", "");
-    let expected = "`lamp::is_lit` has fewer than 2 wrong answers, each an edit with the note `# call: lamp::is_lit`: 1.";
-    assert_eq!(told, expected);
-    let mut tree = small();
-    tree.remove(TRIED);
-    assert_eq!(only_fault(&tree), expected);
-}
-
-#[test]
-fn an_edit_that_stands_twice() {
-    let mut tree = small();
-    let text = tree.text(TRIED).expect("an edit").to_string();
-    tree.put("crates/lamp/must-fail/always_lit.edit", &text);
-    assert!(faults(&tree)[0].starts_with("The edit `lamp/always_lit` stands twice: "));
-}
-
-#[test]
-fn an_edit_that_does_not_fit_its_file() {
-    let told = fault_after(TRIED, "old:     (off)", "old: (on)");
-    assert_eq!(
-        told,
-        format!("{TRIED}: its old text `(on)` occurs 0 times in {SOURCE}, and has to occur once.")
-    );
-    let told = fault_after(TRIED, "old:     (off)", "old: pub fn");
-    assert!(told.contains("its old text `pub fn` occurs 2 times"), "{told}");
-    let told = fault_after(TRIED, "file: src/lib.rt", "file: src/main.rt");
-    assert_eq!(told, format!("{TRIED}: there is no crates/lamp/src/main.rt."));
-    let told = fault_after(GATE, "new:     false", "new:     (off)");
-    assert_eq!(told, format!("{GATE}: its old and its new text are the same."));
-    let told = fault_after(GATE, "new:     false", "");
-    assert_eq!(told, format!("{GATE}: it has no old and new text."));
-}
-
-#[test]
-fn an_edit_that_does_not_tell_its_call_or_its_wrong_answer() {
-    let told = fault_after(TRIED, "# wrong: light\n", "");
-    assert_eq!(told, format!("{TRIED}: no note `# wrong:` tells its wrong answer."));
-    let told = fault_after(TRIED, "# wrong: light", &format!("# wrong:{}", " light".repeat(16)));
-    assert_eq!(told, format!("{TRIED}: its wrong answer has 16 words, and is to have 15 at most."));
-    let told = fault_after(TRIED, "# wrong: light", "# wrong: light\n# wrong: bright");
-    assert_eq!(told, format!("{TRIED}: it has the note `# wrong:` twice."));
-    let told = fault_after(TRIED, "# call: lamp::is_lit", "# call: lamp::is_lit, lamp::rest");
-    assert_eq!(
-        told,
-        format!("{TRIED}: it names the call `lamp::rest`, and no crate has such a public call.")
-    );
-    let found = faults(&small().replaced(TRIED, "# call: lamp::is_lit\n", ""));
-    let expected = format!(
-        "{TRIED}: it touches src/, and no note `# call:` names the public call that answers wrong."
-    );
-    assert_eq!(found[1..], [expected], "{found:?}");
-}
-
-#[test]
-fn an_edit_refused_at_a_place_that_is_not_there() {
-    let told = |place: &str| {
-        format!("{RULE}: it is said to be refused at `{place}`, and its crate has no such place.")
-    };
-    for place in ["Dark all-lit", "Light all-dark", "dims returns"] {
-        assert_eq!(fault_after(RULE, "Light all-lit", place), told(place));
-    }
-    let mut tree = small().replaced(RULE, "Light all-lit", "rest returns-2");
-    let page = promises_page(&tree);
-    tree.put(LIST, &page);
-    assert_eq!(faults(&tree), Vec::<String>::new());
-}
-
-#[test]
-fn a_wrong_device_that_the_gate_does_not_try() {
-    const FIVE: &str = "crates/lamp/must-fail/five.edit";
-    let mut tree = small();
-    let text = tree.text(FIVE).expect("an edit").to_string();
-    tree.remove(FIVE);
-    assert_eq!(only_fault(&tree), "No edit has the note `# device: 5 ...`.");
-    tree.put("crates/lamp/tried/five.edit", &text);
-    let expected = "The gate is to try the edit `lamp/five`, a device that must not pass, and it stands in tried/, which the gate leaves out.";
-    assert_eq!(only_fault(&tree), expected);
-    let found = faults(&small().replaced(FIVE, "# device: 5 ", "# device: 4 "));
-    let expected = [
-        "More than one edit has the note `# device: 4 ...`.",
-        "No edit has the note `# device: 5 ...`.",
-    ];
-    assert_eq!(found, expected);
 }
 
 #[test]

@@ -16,7 +16,8 @@ use crate::tree::Tree;
 use cited::{cited, is_defined};
 use groups::{groups, CRATES};
 use noted::{noted, Noted};
-use page::PLACES;
+use page::{EDITS, PLACES};
+use std::collections::BTreeSet;
 
 /// Where the page stands, and its prose with the grounds of the exceptions.
 pub const LIST: &str = "docs/PROMISES.md";
@@ -37,6 +38,7 @@ pub fn faults(tree: &Tree) -> Vec<String> {
     let calls = calls_of(tree);
     let edits = noted(tree);
     let mut found = template_faults(tree, &calls);
+    found.extend(crate_faults(tree, &calls, &edits));
     for call in &calls {
         found.extend(call_faults(tree, call, &edits));
     }
@@ -64,18 +66,26 @@ fn page_fault(tree: &Tree) -> Option<String> {
         .then(|| format!("{LIST} has {words} words, and is to have {MOST_WORDS_OF_PAGE} at most."))
 }
 
+/// The crates that have calls or edits and do not stand in the list of crates, so that the page would lack them.
+fn crate_faults(tree: &Tree, calls: &[Call], edits: &[Noted]) -> Vec<String> {
+    let named = calls.iter().map(Call::crate_name).chain(edits.iter().map(Noted::crate_name));
+    let mut lacking: BTreeSet<&str> = named.collect();
+    let groups = groups(tree);
+    for krate in groups.iter().flat_map(|group| &group.crates) {
+        lacking.remove(krate.as_str());
+    }
+    let tell = |krate| format!("{CRATES} lacks `{krate}`, which has public calls or edits.");
+    lacking.into_iter().map(tell).collect()
+}
+
 // ---- exceptions
 
-/// The rows of the template's exceptions: calls, each with its grounds.
-fn exceptions(tree: &Tree) -> Vec<(String, String)> {
+/// The rows of the template's exceptions, each with its call first, then its grounds and the cell for its edits.
+fn exceptions(tree: &Tree) -> Vec<(String, Vec<&str>)> {
     let text = tree.text(TEMPLATE).unwrap_or_default();
     let section = text.split("\n## ").find(|section| section.starts_with("Exceptions"));
     let rows = section.unwrap_or_default().lines().filter_map(cells_of);
-    rows.filter_map(|cells| {
-        let call = quoted(cells[0]).into_iter().next()?;
-        Some((call, cells.get(1).copied().unwrap_or_default().to_string()))
-    })
-    .collect()
+    rows.filter_map(|cells| Some((quoted(cells[0]).into_iter().next()?, cells))).collect()
 }
 
 fn is_exception(tree: &Tree, call: &str) -> bool {
@@ -93,7 +103,7 @@ fn template_faults(tree: &Tree, calls: &[Call]) -> Vec<String> {
         }
     }
     let listed = exceptions(tree);
-    for (at, (name, grounds)) in listed.iter().enumerate() {
+    for (at, (name, cells)) in listed.iter().enumerate() {
         let Some(call) = calls.iter().find(|call| call.name == *name) else {
             found.push(format!("{TEMPLATE} lists `{name}`, and no crate has such a public call."));
             continue;
@@ -101,8 +111,11 @@ fn template_faults(tree: &Tree, calls: &[Call]) -> Vec<String> {
         if listed[..at].iter().any(|(other, _)| other == name) {
             found.push(format!("`{name}` stands in {TEMPLATE} twice."));
         }
-        if grounds.is_empty() {
+        if !cells.get(1).is_some_and(|grounds| !grounds.is_empty() && *grounds != EDITS) {
             found.push(format!("The exception `{name}` has no grounds in {TEMPLATE}."));
+        }
+        if cells.last() != Some(&EDITS) {
+            found.push(format!("The exception `{name}` has no cell {EDITS} in {TEMPLATE}."));
         }
         if call.has("ensures") && !call.has("requires") {
             found.push(format!(
@@ -119,9 +132,6 @@ fn template_faults(tree: &Tree, calls: &[Call]) -> Vec<String> {
 fn call_faults(tree: &Tree, call: &Call, edits: &[Noted]) -> Vec<String> {
     let mut found = Vec::new();
     let (name, file) = (&call.name, &call.file);
-    if !groups(tree).iter().any(|group| group.crates.iter().any(|k| k == call.crate_name())) {
-        found.push(format!("`{name}` of {file} is a public call, and {CRATES} lacks its crate."));
-    }
     if is_exception(tree, name) {
         return found;
     }
@@ -178,6 +188,9 @@ fn edit_faults(tree: &Tree, edit: &Noted, calls: &[Call]) -> Vec<String> {
     if let Some(note) = edit.doubled {
         told.push(format!("it has the note `# {note}:` twice."));
     }
+    if let Some(note) = &edit.unknown {
+        told.push(format!("its note `# {note}:` is none that is read."));
+    }
     if edit.wrong.is_empty() {
         told.push("no note `# wrong:` tells its wrong answer.".to_string());
     }
@@ -225,6 +238,12 @@ fn is_place(tree: &Tree, krate: &str, place: &str) -> bool {
 /// The five wrong devices are numbered, and the gate tries each.
 fn device_faults(edits: &[Noted]) -> Vec<String> {
     let mut found = Vec::new();
+    let devices = edits.iter().filter(|edit| edit.device.is_some()).count();
+    if devices > DEVICES {
+        found.push(format!(
+            "There are {DEVICES} wrong devices, and {devices} edits have the note `# device:`."
+        ));
+    }
     for number in 1..=DEVICES {
         let start = format!("{number} ");
         let is_it = |edit: &&Noted| edit.device.as_ref().is_some_and(|d| d.starts_with(&start));

@@ -20,6 +20,8 @@ pub struct Noted {
     pub is_of_code: bool,
     /// A note that it has more than once.
     pub doubled: Option<&'static str>,
+    /// What has the form of a note and is none: one word of small letters and a colon.
+    pub unknown: Option<String>,
 }
 
 const NOTES: [&str; 4] = ["call", "wrong", "refused", "device"];
@@ -57,6 +59,9 @@ fn noted_in(name: String, is_for_the_gate: bool, text: &str) -> Noted {
     let parts = |note: &str| -> Vec<String> {
         notes(note).iter().flat_map(|said| said.split(", ")).map(str::to_string).collect()
     };
+    let is_unknown =
+        |word: &&str| word.chars().all(|c| c.is_ascii_lowercase()) && !NOTES.contains(word);
+    let words = text.lines().filter_map(|line| Some(line.strip_prefix("# ")?.split_once(": ")?.0));
     Noted {
         name,
         is_for_the_gate,
@@ -66,5 +71,6 @@ fn noted_in(name: String, is_for_the_gate: bool, text: &str) -> Noted {
         device: notes("device").first().map(|device| device.to_string()),
         is_of_code: text.lines().any(|line| line.starts_with("file: src/")),
         doubled: NOTES.into_iter().find(|note| notes(note).len() > 1),
+        unknown: words.into_iter().find(is_unknown).map(str::to_string),
     }
 }

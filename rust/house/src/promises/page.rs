@@ -11,7 +11,7 @@ use std::collections::BTreeMap;
 
 /// The places of the template, each a line of its own, and in the row of an exception the cell for its edits.
 pub const PLACES: [&str; 3] = ["{devices}", "{rules}", "{calls}"];
-const EDITS: &str = "{edits}";
+pub const EDITS: &str = "{edits}";
 
 /// The page as it has to stand now.
 pub fn promises_page(tree: &Tree) -> String {
