@@ -46,11 +46,15 @@ fn no_list_or_one_that_is_not_made_of_what_stands_there() {
 
 #[test]
 fn a_list_that_is_too_long() {
-    let mut tree = small().replaced(TEMPLATE, "# Promises", &"so ".repeat(4000));
-    let page = promises_page(&tree);
-    tree.put(LIST, &page);
-    let told = only_fault(&tree);
-    assert!(told.ends_with(" words, and is to have 4000 at most."), "{told}");
+    let words = promises_page(&small()).split_whitespace().count();
+    for (more, is_told) in [(3999 - words, false), (4000 - words, true)] {
+        let heading = format!("# Promises{}", " so".repeat(more));
+        let mut tree = small().replaced(TEMPLATE, "# Promises", &heading);
+        let page = promises_page(&tree);
+        tree.put(LIST, &page);
+        let told = "docs/PROMISES.md has 4000 words, and is to have fewer than 4000.";
+        assert_eq!(faults(&tree), if is_told { vec![told] } else { vec![] });
+    }
 }
 
 #[test]

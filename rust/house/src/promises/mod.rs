@@ -27,9 +27,9 @@ pub const TEMPLATE: &str = "rust/house/src/promises/page.md";
 const WANTED: usize = 2;
 /// The devices that must not pass.
 const DEVICES: usize = 5;
-/// The words that tell a wrong answer, and those of the page, at most.
+/// The words that tell a wrong answer, at most; and the page stays below so many.
 const MOST_WORDS: usize = 15;
-const MOST_WORDS_OF_PAGE: usize = 4000;
+const WORDS_OF_PAGE: usize = 4000;
 
 const COMMAND: &str = "cargo run --release --offline --manifest-path rust/house/Cargo.toml --bin promises >docs/PROMISES.md";
 
@@ -62,8 +62,8 @@ fn page_fault(tree: &Tree) -> Option<String> {
         ));
     }
     let words = kept.split_whitespace().count();
-    (words > MOST_WORDS_OF_PAGE)
-        .then(|| format!("{LIST} has {words} words, and is to have {MOST_WORDS_OF_PAGE} at most."))
+    (words >= WORDS_OF_PAGE)
+        .then(|| format!("{LIST} has {words} words, and is to have fewer than {WORDS_OF_PAGE}."))
 }
 
 /// The crates that have calls or edits and do not stand in the list of crates, so that the page would lack them.
