@@ -1,6 +1,6 @@
 //! Completion of the command line for three shells, made from the table of commands.
 
-use crate::commands::{Command, COMMANDS};
+use crate::command::Command;
 use crate::options::{choices, count_after, names_file, of, takes};
 
 /// A shell for which there is completion.
@@ -22,20 +22,20 @@ impl Shell {
         }
     }
 
-    /// The whole script for it.
-    pub fn script(self) -> String {
+    /// The whole script for it, which knows these commands.
+    pub fn script(self, commands: &[Command]) -> String {
         match self {
-            Shell::Bash => bash(),
-            Shell::Zsh => zsh(),
-            Shell::Fish => fish(),
+            Shell::Bash => bash(commands),
+            Shell::Zsh => zsh(commands),
+            Shell::Fish => fish(commands),
         }
     }
 }
 
 /// The words that can be the first argument of a command, where it is no file.
-fn first_words(command: &str) -> Vec<&'static str> {
+fn first_words(commands: &[Command], command: &str) -> Vec<&'static str> {
     match command {
-        "help" => COMMANDS.iter().map(|command| command.name).collect(),
+        "help" => commands.iter().map(|command| command.name).collect(),
         "completion" => Shell::ALL.map(Shell::name).to_vec(),
         _ => vec![],
     }
@@ -44,13 +44,18 @@ fn first_words(command: &str) -> Vec<&'static str> {
 /// What stands for a command besides those of the table.
 const OTHERS: [&str; 3] = ["help", "--help", "--version"];
 
-fn names() -> impl Iterator<Item = &'static str> {
-    COMMANDS.iter().map(|command| command.name).chain(OTHERS)
+/// The commands whose first argument is a file.
+fn with_files(commands: &[Command]) -> impl Iterator<Item = &Command> {
+    commands.iter().filter(|command| first_words(commands, command.name).is_empty())
+}
+
+fn names(commands: &[Command]) -> impl Iterator<Item = &'static str> + '_ {
+    commands.iter().map(|command| command.name).chain(OTHERS)
 }
 
 /// All options that have few words after them.
-fn chosen() -> Vec<&'static str> {
-    let all = COMMANDS.iter().flat_map(|command| command.options).map(|(name, _)| *name);
+fn chosen(commands: &[Command]) -> Vec<&'static str> {
+    let all = commands.iter().flat_map(|command| command.options).map(|(name, _)| *name);
     let mut chosen: Vec<&str> = all.filter(|name| !choices(name).is_empty()).collect();
     chosen.sort();
     chosen.dedup();
@@ -61,7 +66,7 @@ fn joined<'a>(words: impl Iterator<Item = &'a str>) -> String {
     words.collect::<Vec<_>>().join(" ")
 }
 
-fn bash() -> String {
+fn bash(commands: &[Command]) -> String {
     let reply = |words: String| format!("COMPREPLY=($(compgen -W '{words}' -- \"$word\"))");
     let mut text = format!(
         "# Completion of gunwaleish in bash. To use it: source <(gunwaleish completion bash)\n\
@@ -70,18 +75,18 @@ fn bash() -> String {
              COMPREPLY=()\n    \
              if [ \"$COMP_CWORD\" -eq 1 ]; then\n        {}\n        return\n    fi\n    \
              case $before in\n",
-        reply(joined(names()))
+        reply(joined(names(commands)))
     );
-    for option in chosen() {
+    for option in chosen(commands) {
         let words = reply(joined(choices(option).iter().copied()));
         text.push_str(&format!("        {option}) {words}; return ;;\n"));
     }
     text.push_str("    esac\n    case ${COMP_WORDS[1]}:$word in\n");
     for name in ["help", "completion"] {
-        let words = reply(joined(first_words(name).into_iter()));
+        let words = reply(joined(first_words(commands, name).into_iter()));
         text.push_str(&format!("        {name}:*) {words} ;;\n"));
     }
-    for command in COMMANDS.iter().filter(|command| first_words(command.name).is_empty()) {
+    for command in with_files(commands) {
         let words = reply(joined(of(command)));
         text.push_str(&format!("        {}:-*) {words} ;;\n", command.name));
     }
@@ -90,13 +95,13 @@ fn bash() -> String {
     text
 }
 
-fn zsh() -> String {
+fn zsh(commands: &[Command]) -> String {
     let mut text = String::from(
         "#compdef gunwaleish\n\
          # Completion of gunwaleish in zsh. To use it, write this as _gunwaleish into a folder of $fpath.\n\
          _gunwaleish() {\n    local -a commands\n    commands=(\n",
     );
-    for command in COMMANDS {
+    for command in commands {
         let summary = command.summary.replace('\'', "'\\''").replace(':', "\\:");
         text.push_str(&format!("        '{}:{summary}'\n", command.name));
     }
@@ -106,10 +111,10 @@ fn zsh() -> String {
          local command=$words[2]\n    shift words\n    (( CURRENT-- ))\n    case $command in\n",
     );
     for name in ["help", "completion"] {
-        let words = joined(first_words(name).into_iter());
+        let words = joined(first_words(commands, name).into_iter());
         text.push_str(&format!("        {name}) _arguments '1:word:({words})' ;;\n"));
     }
-    for command in COMMANDS.iter().filter(|command| first_words(command.name).is_empty()) {
+    for command in with_files(commands) {
         text.push_str(&format!("        {}) _arguments", command.name));
         of(command).for_each(|option| text.push_str(&format!(" {}", zsh_option(command, option))));
         text.push_str(" '*:file:_files' ;;\n");
@@ -128,24 +133,24 @@ fn zsh_option(command: &Command, option: &str) -> String {
     format!("'{option}{after}'")
 }
 
-fn fish() -> String {
+fn fish(commands: &[Command]) -> String {
     let quoted = |text: &str| format!("'{}'", text.replace('\\', "\\\\").replace('\'', "\\'"));
     let mut text = String::from(
         "# Completion of gunwaleish in fish. To use it: gunwaleish completion fish | source\n",
     );
     let first = "complete -c gunwaleish -f -n __fish_use_subcommand";
-    for command in COMMANDS {
+    for command in commands {
         let summary = quoted(command.summary);
         text.push_str(&format!("{first} -a {} -d {summary}\n", command.name));
     }
     text.push_str(&format!("{first} -a help -d 'what a command does'\n{first} -l version\n"));
     for name in ["help", "completion"] {
-        let words = joined(first_words(name).into_iter());
+        let words = joined(first_words(commands, name).into_iter());
         text.push_str(&format!(
             "complete -c gunwaleish -f -n '__fish_seen_subcommand_from {name}' -a '{words}'\n"
         ));
     }
-    for command in COMMANDS.iter().filter(|command| first_words(command.name).is_empty()) {
+    for command in with_files(commands) {
         for option in of(command) {
             let (long, short) = (option.strip_prefix("--"), option.strip_prefix('-'));
             let name =

@@ -2,6 +2,8 @@
 
 use std::process::ExitCode;
 
+use crate::telling::complain;
+
 /// What kept a command from being done. The text is for a person.
 #[derive(Clone, Debug, PartialEq, Eq)]
 pub enum Failure {
@@ -28,7 +30,7 @@ impl Failure {
 
     pub fn say(&self) {
         if let Failure::Refused(text) | Failure::Wrong(text) = self {
-            crate::files::complain(text);
+            complain(text);
         }
     }
 

@@ -6,6 +6,7 @@ use std::io::{self, ErrorKind, IsTerminal, Read, Write};
 use std::path::Path;
 
 use crate::failure::Failure;
+use crate::telling::{complain, shown};
 
 /// What was read, with the name it goes by in messages.
 pub struct Input {
@@ -53,15 +54,6 @@ pub fn name_of(path: &Path) -> String {
         true => "standard input".to_string(),
         false => shown(&path.to_string_lossy()),
     }
-}
-
-/// A text without control characters, which a terminal would obey: they are escaped.
-pub fn shown(text: &str) -> String {
-    let escaped = |letter: char| match letter.is_control() {
-        true => letter.escape_default().to_string(),
-        false => letter.to_string(),
-    };
-    text.chars().map(escaped).collect()
 }
 
 /// Writes a file whole or not at all: under another name beside it, which then becomes its name.
@@ -143,11 +135,4 @@ pub fn print_bytes(bytes: &[u8]) -> Result<(), Failure> {
 fn is_binary(bytes: &[u8]) -> bool {
     let control = |letter: char| letter.is_control() && !matches!(letter, '\n' | '\t' | '\r');
     std::str::from_utf8(bytes).map_or(true, |text| text.chars().any(control))
-}
-
-/// Says something on standard error, with the tool's name before each line. Nothing can be done if that
-/// fails too.
-pub fn complain(text: &str) {
-    let lines: String = text.lines().map(|line| format!("gunwaleish: {}\n", shown(line))).collect();
-    let _ = io::stderr().write_all(lines.as_bytes());
 }

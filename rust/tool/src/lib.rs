@@ -14,8 +14,11 @@
 //! write rows for other programs, `samples` reads captures in all their forms, and `hint` says what a wrong
 //! file is.
 
+pub mod about;
 pub mod arguments;
 pub mod columns;
+pub mod command;
+pub mod command_line;
 pub mod commands;
 pub mod completion;
 pub mod cut;
@@ -45,6 +48,7 @@ pub mod stuck;
 pub mod summary;
 pub mod svg;
 pub mod table;
+pub mod telling;
 pub mod version;
 pub mod walk;
 pub mod watch;
@@ -54,8 +58,8 @@ pub mod wrap;
 use std::ffi::OsString;
 use std::process::ExitCode;
 
-use arguments::{read_arguments, Asked};
-use commands::{Command, COMMANDS};
+use command_line::Asked;
+use commands::COMMANDS;
 use failure::Failure;
 
 /// Runs the tool with these arguments and gives its exit code.
@@ -67,51 +71,10 @@ pub fn main(arguments: Vec<OsString>) -> ExitCode {
 }
 
 fn run(arguments: Vec<OsString>) -> Result<(), Failure> {
-    match read_arguments(arguments)? {
-        Asked::Help => files::print(&overview()),
+    match command_line::read(COMMANDS, arguments)? {
+        Asked::Help => files::print(&about::overview(COMMANDS)),
         Asked::Version => files::print(&version::text()),
-        Asked::HelpFor(command) => files::print(&help(command)),
-        Asked::Run(command, arguments) => (command.run)(&arguments),
+        Asked::HelpFor(command) => files::print(&about::help(command)),
+        Asked::Run(command, arguments) => command.run(COMMANDS, &arguments),
     }
-}
-
-/// What the tool is.
-pub const ABOUT: &str =
-    "traces of a PCA9641 or TPT29641 bus arbiter, answered by the proved library";
-
-/// How files are named.
-pub const FILES: &str =
-    "Without FILE, or with -, standard input is read; orders, shelf and diff need two files, sheet one or\n\
-     two; release needs a folder; share and run take folders too, and run and watch write no file. -o names the\n\
-     file to write, or a folder that is there; then each output has its input's name. Many files need\n\
-     such a folder.\n\
-     Controller 0 and controller 1 are document 01's masters 0 and 1.\n\n\
-     gunwaleish COMMAND --help, or gunwaleish help COMMAND, tells more, with an example. What stands after\n\
-     an option may stand after a sign = too, as in --part=PCA9641. --version gives the version and the\n\
-     library's commit.";
-
-/// What the exit code says.
-pub const EXIT_CODES: &str =
-    "Exit code: 0 done; 1 a trace, script, shelf, capture or order sheet is refused, standard\n\
-     error says why and where, or a bundle is not released, or what diff compares is not alike, or a\n\
-     watched chip did not answer as the model; 2 wrong use, or a file that cannot be read or written.";
-
-/// What the tool says of itself.
-pub fn overview() -> String {
-    let mut text = format!(
-        "gunwaleish: {ABOUT}\n\nUsage: gunwaleish COMMAND [FILE...] [-o OUT]\n\nCommands:\n"
-    );
-    for command in COMMANDS {
-        text.push_str(&format!("  {:<10} {}\n", command.name, command.summary));
-    }
-    text.push_str(&format!("\n{FILES}\n\n{EXIT_CODES}\n"));
-    text
-}
-
-/// What the tool says of one command.
-pub fn help(command: &Command) -> String {
-    format!(
-        "gunwaleish {}: {}\n\nUsage: gunwaleish {0} {}\n\n{}\n\nExample, at the repository's root:\n\n    {}\n",
-        command.name, command.summary, command.usage, command.help, command.example
-    )
 }

@@ -1,12 +1,12 @@
 //! The manual page, made from the table of commands that the help is made from. `man` shows it.
 
-use crate::commands::{Command, COMMANDS};
+use crate::about::{ABOUT, EXIT_CODES, FILES};
+use crate::command::Command;
 use crate::options::{takes, COMMON};
 use crate::version::TOOL;
-use crate::{ABOUT, EXIT_CODES, FILES};
 
-/// The whole page, in the macros of man(7).
-pub fn page() -> String {
+/// The whole page of these commands, in the macros of man(7).
+pub fn page(commands: &[Command]) -> String {
     let mut text = format!(
         ".TH GUNWALEISH 1 \"\" \"{TOOL}\" \"User Commands\"\n\
          .SH NAME\ngunwaleish \\- {}\n\
@@ -15,7 +15,7 @@ pub fn page() -> String {
         escaped(ABOUT),
         paragraphs(FILES)
     );
-    COMMANDS.iter().for_each(|command| text.push_str(&section(command)));
+    commands.iter().for_each(|command| text.push_str(&section(command)));
     text.push_str(&format!(
         ".SH OPTIONS OF ALL COMMANDS\n{}.SH EXIT STATUS\n{}",
         COMMON.map(|name| option(name, matches!(name, "-o" | "--output"))).concat(),

@@ -1,10 +1,13 @@
 //! What is known of options beside the commands' own table: what stands after each, and which name was
 //! likely meant by a word that is none.
 
-use crate::commands::Command;
+use crate::command::Command;
 
 /// The options of every command.
 pub const COMMON: [&str; 4] = ["-o", "--output", "-h", "--help"];
+
+/// The options that may be there more than once: each time they name one file more.
+pub const REPEATED: &[&str] = &["--shelf-script", "--traces"];
 
 /// How many words stand after an option of a command.
 pub fn count_after(command: &Command, option: &str) -> usize {

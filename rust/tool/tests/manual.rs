@@ -31,7 +31,7 @@ fn plain(text: &str) -> String {
 /// Everything that the help of a command says stands on the page.
 #[test]
 fn the_page_has_the_help_of_every_command() {
-    let page = page();
+    let page = page(COMMANDS);
     let text = read(&page);
     for command in COMMANDS {
         assert!(page.contains(&format!("\n.SS {}\n", command.name)), "{}", command.name);
@@ -60,7 +60,7 @@ fn the_page_has_the_help_of_every_command() {
 /// Every macro is one of man's, so that no line of text is taken for one.
 #[test]
 fn its_macros_are_known() {
-    for line in page().lines().filter(|line| line.starts_with(['.', '\''])) {
+    for line in page(COMMANDS).lines().filter(|line| line.starts_with(['.', '\''])) {
         let name = line.split(' ').next().unwrap();
         assert!([".TH", ".SH", ".SS", ".PP", ".TP", ".B", ".nf", ".fi"].contains(&name), "{line}");
     }
@@ -72,7 +72,7 @@ fn groff_shows_the_page() {
     let folder = Folder::new("manual");
     let file = folder.path("gunwaleish.1");
     assert_eq!(code(&run(&["manual", "-o", folder.name()])), 0);
-    assert_eq!(fs::read_to_string(&file).unwrap(), page());
+    assert_eq!(fs::read_to_string(&file).unwrap(), page(COMMANDS));
     let mut groff = Command::new("groff");
     let Ok(shown) = groff.args(["-man", "-Tutf8", "-ww", "-P-cbou", &file]).output() else {
         return println!("skipped: groff is not installed");
@@ -104,8 +104,8 @@ fn wrong_use_is_2() {
 fn the_scripts_have_the_table() {
     for shell in Shell::ALL {
         let output = run(&["completion", shell.name()]);
-        assert_eq!((code(&output), told(&output)), (0, shell.script()));
-        let script = shell.script();
+        assert_eq!((code(&output), told(&output)), (0, shell.script(COMMANDS)));
+        let script = shell.script(COMMANDS);
         let words: Vec<&str> = script.split(|c: char| !c.is_alphanumeric() && c != '-').collect();
         for command in COMMANDS {
             assert!(words.contains(&command.name), "{shell:?}: {}", command.name);
@@ -156,7 +156,7 @@ fn zsh_and_fish_read_theirs() {
     let folder = Folder::new("shells");
     for shell in [Shell::Zsh, Shell::Fish] {
         let file = folder.path(shell.name());
-        fs::write(&file, shell.script()).unwrap();
+        fs::write(&file, shell.script(COMMANDS)).unwrap();
         match Command::new(shell.name()).args(["-n", &file]).output() {
             Ok(read) => assert_eq!((code(&read), said(&read).as_str()), (0, ""), "{shell:?}"),
             Err(_) => println!("skipped: {} is not installed", shell.name()),

@@ -1,7 +1,7 @@
 //! `completion`: the completion of command lines in a shell.
 
-use super::Command;
 use crate::arguments::Arguments;
+use crate::command::{Command, Run};
 use crate::completion::Shell;
 use crate::each::{output_of, Made};
 use crate::failure::Failure;
@@ -17,10 +17,10 @@ pub const COMMAND: Command = Command {
            gunwaleish completion zsh -o DIR/_gunwaleish  # DIR stands in $fpath",
     options: &[],
     example: "build/release/gunwaleish completion bash | bash -n",
-    run,
+    run: Run::OfAll(run),
 };
 
-fn run(arguments: &Arguments) -> Result<(), Failure> {
+fn run(commands: &[Command], arguments: &Arguments) -> Result<(), Failure> {
     let wrong =
         |what: &str| Failure::Wrong(format!("{what}; gunwaleish completion --help tells more"));
     let [word] = arguments.files.as_slice() else {
@@ -34,5 +34,5 @@ fn run(arguments: &Arguments) -> Result<(), Failure> {
         )));
     };
     let output = output_of(&["gunwaleish".into()], shell.name(), arguments.output.as_deref())?;
-    Made::done(shell.script()).hand_out(output.as_deref())
+    Made::done(shell.script(commands)).hand_out(output.as_deref())
 }

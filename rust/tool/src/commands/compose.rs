@@ -2,7 +2,7 @@
 
 use gunwaleish::{write_trace, Refusal};
 
-use super::Command;
+use crate::command::{Command, Run};
 use crate::each::{Each, Made, Mistake};
 use crate::files::Input;
 use crate::hint::{hint, Kind};
@@ -41,13 +41,13 @@ pub const COMMAND: Command = Command {
            If a line cannot be read, nothing is written.",
     options: &[],
     example: "build/release/gunwaleish compose traces/m1.script | cmp - traces/m1.trace",
-    run: |arguments| {
+    run: Run::Alone(|arguments| {
         let make = |input: &Input| {
             warnings::tell(input);
             compose(input)
         };
         Each { most: MOST_TEXT, ending: "trace", make }.run(arguments)
-    },
+    }),
 };
 
 pub fn compose(input: &Input) -> Made {

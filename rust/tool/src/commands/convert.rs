@@ -2,7 +2,7 @@
 
 use gunwaleish::{convert_trace, Refusal};
 
-use super::{Command, TRACES};
+use crate::command::{Command, Run, TRACES};
 use crate::each::{each_trace, end_of_events, seen_at, Made};
 use crate::files::Input;
 use crate::hint::{hint, Kind};
@@ -19,7 +19,7 @@ pub const COMMAND: Command = Command {
     options: &[],
     example: "head -c -2 traces/m1.trace | build/release/gunwaleish convert | \
               cmp - traces/m1.trace",
-    run: |arguments| each_trace(arguments, "trace", convert),
+    run: Run::Alone(|arguments| each_trace(arguments, "trace", convert)),
 };
 
 pub fn convert(input: &Input) -> Made {

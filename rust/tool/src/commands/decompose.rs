@@ -1,6 +1,6 @@
 //! `decompose`: a trace to its script.
 
-use super::{Command, TRACES};
+use crate::command::{Command, Run, TRACES};
 use crate::each::{each_trace, refused, Made};
 use crate::files::Input;
 use crate::script::write_script;
@@ -13,7 +13,7 @@ pub const COMMAND: Command = Command {
         "Composing the script gives the same bytes again. gunwaleish compose --help has the words.",
     options: &[],
     example: "build/release/gunwaleish decompose traces/box14-rt50.trace",
-    run: |arguments| each_trace(arguments, "script", decompose),
+    run: Run::Alone(|arguments| each_trace(arguments, "script", decompose)),
 };
 
 pub fn decompose(input: &Input) -> Made {

@@ -3,8 +3,8 @@
 use gunwaleish::{run, write_trace, MOST_TRACE};
 
 use super::compose::MOST_TEXT;
-use super::Command;
 use crate::arguments::Arguments;
+use crate::command::{Command, Run};
 use crate::diff::{words, Difference, Side};
 use crate::each::{output_of, refused, Made};
 use crate::failure::Failure;
@@ -28,7 +28,7 @@ pub const COMMAND: Command = Command {
            neither a trace nor a script.",
     options: &[],
     example: "build/release/gunwaleish diff traces/box14-rt50.script traces/box14-rt50.trace",
-    run: compare,
+    run: Run::Alone(compare),
 };
 
 fn compare(arguments: &Arguments) -> Result<(), Failure> {

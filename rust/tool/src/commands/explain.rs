@@ -2,9 +2,9 @@
 
 use gunwaleish::{Master, MOST_TRACE};
 
-use super::Command;
 use crate::arguments::Arguments;
 use crate::columns::{Layout, Line};
+use crate::command::{Command, Run};
 use crate::each::{refused, Each, Made};
 use crate::failure::Failure;
 use crate::files::Input;
@@ -32,7 +32,7 @@ pub const COMMAND: Command = Command {
            columns.",
     options: &[("--csv", 0), ("--json", 0)],
     example: "build/release/gunwaleish explain traces/box14-rt00.trace",
-    run,
+    run: Run::Alone(run),
 };
 
 /// A row an event. `docs/FORMATS.md` says what each column has.

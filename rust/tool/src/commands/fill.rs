@@ -1,7 +1,7 @@
 //! `fill`: the text form of an order sheet to the sheet.
 
-use super::Command;
 use crate::arguments::Arguments;
+use crate::command::{Command, Run};
 use crate::each::{self, Each, Made};
 use crate::failure::Failure;
 use crate::files::Input;
@@ -34,7 +34,7 @@ pub const COMMAND: Command = Command {
            and word, and nothing is written; 2 wrong use, or a file that cannot be read or written.",
     options: &[],
     example: "build/release/gunwaleish fill sheets/board.txt | cmp - sheets/board.sheet",
-    run,
+    run: Run::Alone(run),
 };
 
 fn run(arguments: &Arguments) -> Result<(), Failure> {

@@ -4,19 +4,20 @@ use std::path::Path;
 
 use gunwaleish::{import_capture, write_trace, Event, Refusal, MOST_SAMPLES};
 
-use super::Command;
 use crate::arguments::Arguments;
+use crate::command::{Command, Run};
 use crate::cut::cuts;
 use crate::device::{read_device, Device};
 use crate::each::{EachFile, Made};
 use crate::failure::Failure;
-use crate::files::{self, name_of, Input};
+use crate::files::{name_of, Input};
 use crate::hint::{hint_of, Kind};
 use crate::samples::rate::samples_of_tick;
 use crate::samples::timed::timed;
 use crate::samples::{read_path, tell_crowded, Said, Taken};
 use crate::script::write_script;
 use crate::seen::Seen;
+use crate::telling::complain;
 
 pub const COMMAND: Command = Command {
     name: "import",
@@ -52,7 +53,7 @@ pub const COMMAND: Command = Command {
     ],
     example: "build/release/gunwaleish import traces/box14.capture --address 71 --part PCA9641 | \
               build/release/gunwaleish explain",
-    run,
+    run: Run::Alone(run),
 };
 
 /// What is to be made of a capture.
@@ -82,7 +83,7 @@ fn run(arguments: &Arguments) -> Result<(), Failure> {
         let mut taken = Taken::new(has("--below"));
         tell_crowded(&name_of(path), read_path(path, &said, &mut taken)?);
         let (made, summary) = import_taken(&name_of(path), &taken, wanted, every);
-        summary.iter().for_each(|line| files::complain(line));
+        summary.iter().for_each(|line| complain(line));
         Ok(made)
     };
     EachFile { ending, make }.run(arguments)

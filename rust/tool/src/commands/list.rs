@@ -1,6 +1,6 @@
 //! `list`: the listing, as the Rattle program prints it.
 
-use super::{Command, TRACES};
+use crate::command::{Command, Run, TRACES};
 use crate::each::{each_trace, refused, Made};
 use crate::files::Input;
 
@@ -13,7 +13,7 @@ pub const COMMAND: Command = Command {
            is R and the number.",
     options: &[],
     example: "build/release/gunwaleish list traces/m1.trace",
-    run: |arguments| each_trace(arguments, "listing", list),
+    run: Run::Alone(|arguments| each_trace(arguments, "listing", list)),
 };
 
 pub fn list(input: &Input) -> Made {

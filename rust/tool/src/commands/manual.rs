@@ -1,7 +1,7 @@
 //! `manual`: the manual page.
 
-use super::Command;
 use crate::arguments::Arguments;
+use crate::command::{Command, Run};
 use crate::each::{output_of, Made};
 use crate::failure::Failure;
 use crate::manual::page;
@@ -14,10 +14,10 @@ pub const COMMAND: Command = Command {
            folder man1 of the MANPATH by man gunwaleish.",
     options: &[],
     example: "build/release/gunwaleish manual -o build/gunwaleish.1",
-    run,
+    run: Run::OfAll(run),
 };
 
-fn run(arguments: &Arguments) -> Result<(), Failure> {
+fn run(commands: &[Command], arguments: &Arguments) -> Result<(), Failure> {
     if let [file, ..] = arguments.files.as_slice() {
         let what = format!("manual reads no file, and has {}", crate::files::name_of(file));
         return Err(Failure::Wrong(format!("{what}; gunwaleish manual --help tells more")));
@@ -25,5 +25,5 @@ fn run(arguments: &Arguments) -> Result<(), Failure> {
     // In a folder it has the name under which man looks for it.
     let inputs = ["gunwaleish.1".into()];
     let output = output_of(&inputs, "1", arguments.output.as_deref())?;
-    Made::done(page()).hand_out(output.as_deref())
+    Made::done(page(commands)).hand_out(output.as_deref())
 }

@@ -20,25 +20,9 @@ pub mod shelf;
 pub mod watch;
 pub mod wave;
 
-use crate::arguments::Arguments;
-use crate::failure::Failure;
+use crate::command::Command;
 
-/// A subcommand, and what the tool says of it.
-pub struct Command {
-    pub name: &'static str,
-    pub summary: &'static str,
-    pub usage: &'static str,
-    pub help: &'static str,
-    /// The options besides -o and --help, each with the count of words after it.
-    pub options: &'static [(&'static str, usize)],
-    /// A command line that works at the repository's root.
-    pub example: &'static str,
-    pub run: fn(&Arguments) -> Result<(), Failure>,
-}
-
-/// What the usage of most commands says after their name.
-const TRACES: &str = "[TRACE...] [-o OUT]";
-
+/// All of them, in the order of the help.
 pub const COMMANDS: &[Command] = &[
     release::COMMAND,
     sheet::COMMAND,

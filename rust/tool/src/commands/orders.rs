@@ -3,8 +3,8 @@
 use gunwaleish::{Event, Master, Part, Refusal, MOST_SCRIPT};
 
 use super::compose::MOST_TEXT;
-use super::Command;
 use crate::arguments::Arguments;
+use crate::command::{Command, Run};
 use crate::device::read_part;
 use crate::each::{output_of, Made};
 use crate::failure::Failure;
@@ -13,6 +13,7 @@ use crate::hint::{hint, Kind};
 use crate::script::{line_of, read_script, warnings, write_script, Script};
 use crate::startup::{rows, words, Ending, Pattern, Scripts, PART};
 use crate::table::Form;
+use crate::telling::complain;
 use crate::words::count;
 
 pub const COMMAND: Command = Command {
@@ -47,7 +48,7 @@ pub const COMMAND: Command = Command {
         ("--strict", 0),
     ],
     example: "build/release/gunwaleish orders traces/orders/start0.script traces/orders/start1.script",
-    run,
+    run: Run::Alone(run),
 };
 
 /// What is to be made of the two scripts.
@@ -104,7 +105,7 @@ fn run(arguments: &Arguments) -> Result<(), Failure> {
     let (script0, script1) = (read(script0)?, read(script1)?);
     [&script0, &script1].into_iter().for_each(warnings::tell);
     let (made, said) = tried(&script0, &script1, &wanted, how);
-    said.iter().for_each(|line| files::complain(line));
+    said.iter().for_each(|line| complain(line));
     made.hand_out(output.as_deref())
 }
 

@@ -7,8 +7,8 @@ use gunwaleish::MOST_TRACE;
 
 use super::compose::MOST_TEXT;
 use super::shelf::run_both;
-use super::Command;
 use crate::arguments::Arguments;
+use crate::command::{Command, Run};
 use crate::each::{output_of, refused, Each, Made};
 use crate::failure::Failure;
 use crate::files::{self, is_standard, Input};
@@ -18,6 +18,7 @@ use crate::share::of_files;
 use crate::share::progress::Progress;
 use crate::share::words::past;
 use crate::story::{follow, Story};
+use crate::telling::complain;
 use crate::walk::find;
 
 pub const COMMAND: Command = Command {
@@ -40,7 +41,7 @@ pub const COMMAND: Command = Command {
            controller, of all ticks.",
     options: &[("--from", 1), ("--to", 1), ("--shelf", 0), ("--share", 0)],
     example: "build/release/gunwaleish picture traces/box14-rt00.trace -o build/box14-rt00.svg",
-    run,
+    run: Run::Alone(run),
 };
 
 /// The ticks between which a run is shown.
@@ -163,7 +164,7 @@ fn run_share(arguments: &Arguments) -> Result<(), Failure> {
     let (counted, unread) = of_files(&found.files, cores(), &progress)?;
     progress.end();
     let failures: Vec<&Failure> = found.failures().chain(&unread).collect();
-    found.said.iter().for_each(|line| files::complain(line));
+    found.said.iter().for_each(|line| complain(line));
     failures.iter().for_each(|failure| failure.say());
     if counted.totals.ticks() == 0 {
         return Err(Failure::Refused(NO_TICK.to_string()));

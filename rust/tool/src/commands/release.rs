@@ -3,8 +3,8 @@
 use std::path::{Path, PathBuf};
 use std::time::{SystemTime, UNIX_EPOCH};
 
-use super::Command;
 use crate::arguments::Arguments;
+use crate::command::{Command, Run};
 use crate::failure::Failure;
 use crate::files;
 use crate::release::find::{read_bundle, Named};
@@ -52,7 +52,7 @@ pub const COMMAND: Command = Command {
         ("--traces", 1),
     ],
     example: "build/release/gunwaleish release releases/safe",
-    run,
+    run: Run::Alone(run),
 };
 
 fn run(arguments: &Arguments) -> Result<(), Failure> {

@@ -4,13 +4,14 @@ use std::io::{self, IsTerminal, Write};
 use std::path::PathBuf;
 use std::time::{Duration, Instant};
 
-use super::Command;
 use crate::arguments::Arguments;
+use crate::command::{Command, Run};
 use crate::failure::Failure;
 use crate::files::{self, is_standard, name_of};
 use crate::json::Value;
 use crate::many::{cores, run_all, Came, Tally};
 use crate::table::{Columns, Form};
+use crate::telling::complain;
 use crate::walk::{find, Found};
 use crate::words::count;
 
@@ -31,7 +32,7 @@ pub const COMMAND: Command = Command {
            that cannot be read.",
     options: &[("--csv", 0), ("--json", 0)],
     example: "build/release/gunwaleish run traces || echo 'some are refused'",
-    run,
+    run: Run::Alone(run),
 };
 
 /// The columns of a row.
@@ -48,14 +49,14 @@ fn run(arguments: &Arguments) -> Result<(), Failure> {
     }
     let form = Form::asked(COMMAND.name, arguments)?;
     let found = traces_of(&arguments.files)?;
-    found.said.iter().for_each(|line| files::complain(line));
+    found.said.iter().for_each(|line| complain(line));
     found.failures().for_each(Failure::say);
     let start = Instant::now();
     let tally = run_in_parts(&found.files, form)?;
     let line = closing(&tally, start.elapsed());
     match form {
         None => files::print(&line)?,
-        Some(_) => files::complain(line.trim_end()),
+        Some(_) => complain(line.trim_end()),
     }
     let failures = tally.failures.iter().map(|(_, failure)| failure).chain(found.failures());
     match failures.map(Failure::code).max() {

@@ -7,8 +7,8 @@ use std::thread;
 
 use gunwaleish::MOST_TRACE;
 
-use super::Command;
 use crate::arguments::Arguments;
+use crate::command::{Command, Run};
 use crate::each::{output_of, Made};
 use crate::failure::Failure;
 use crate::files::{self, is_standard, name_of, Input};
@@ -17,6 +17,7 @@ use crate::share::progress::Progress;
 use crate::share::stream::{name_in, of_stream};
 use crate::share::{kept, of_files, rows, words, Counted};
 use crate::table::Form;
+use crate::telling::complain;
 use crate::walk::find;
 
 pub const COMMAND: Command = Command {
@@ -54,7 +55,7 @@ pub const COMMAND: Command = Command {
         ("--threads", 1),
     ],
     example: "build/release/gunwaleish share traces --table",
-    run,
+    run: Run::Alone(run),
 };
 
 fn run(arguments: &Arguments) -> Result<(), Failure> {
@@ -186,7 +187,7 @@ fn share_files(arguments: &Arguments, report: &Report, threads: usize) -> Result
     progress.end();
     let (counted, unread) = counted?;
     let failures: Vec<&Failure> = found.failures().chain(&unread).collect();
-    found.said.iter().for_each(|line| files::complain(line));
+    found.said.iter().for_each(|line| complain(line));
     failures.iter().for_each(|failure| failure.say());
     let name = |place: usize| name_of(&found.files[place]);
     let handed = hand_out(report.shape, &counted, &name, &String::new, &outputs);
@@ -215,7 +216,7 @@ fn share_joined(arguments: &Arguments, report: &Report) -> Result<(), Failure> {
         }
     }
     if code > 0 {
-        files::complain("nothing is joined");
+        complain("nothing is joined");
         return Err(Failure::OfMany { refused: code == 1 });
     }
     // Of the traces behind the totals no place is known, and no name.
@@ -242,7 +243,7 @@ fn hand_out(
     // A long count is not lost for one file that cannot be written.
     let kept = keep(counted, to.totals.as_deref());
     if shape != Shape::Table {
-        words::refused(counted).iter().for_each(|line| files::complain(line));
+        words::refused(counted).iter().for_each(|line| complain(line));
     }
     let text = match shape {
         Shape::Lines => words::lines(counted),
@@ -269,7 +270,7 @@ fn keep(counted: &Counted, to: Option<&Path>) -> Result<(), Failure> {
     };
     if counted.past > 0 {
         let why = "is not written, since the totals are not of all traces";
-        files::complain(&format!("{} {why}", files::name_of(path)));
+        complain(&format!("{} {why}", files::name_of(path)));
         return Ok(());
     }
     files::write_whole(path, kept::write(&counted.totals).as_bytes())

@@ -4,8 +4,8 @@ use std::path::Path;
 
 use gunwaleish::{sheet_events, write_trace, Master, Refusal, Sheet, MOST_TRACE, SHEET_EVENTS};
 
-use super::Command;
 use crate::arguments::Arguments;
+use crate::command::{Command, Run};
 use crate::device::{read_device, Device};
 use crate::each::{output_of, Each, Made};
 use crate::failure::Failure;
@@ -43,7 +43,7 @@ pub const COMMAND: Command = Command {
            or a file that cannot be read or written.",
     options: &[("--address", 1), ("--pins", 4), ("--part", 1), ("--script", 0), ("--controller", 1)],
     example: "build/release/gunwaleish sheet sheets/board.sheet sheets/house.sheet",
-    run,
+    run: Run::Alone(run),
 };
 
 /// What is to be made of the two sheets.

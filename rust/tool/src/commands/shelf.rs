@@ -1,8 +1,8 @@
 //! `shelf`: a script run over a shelf of several devices.
 
 use super::compose::MOST_TEXT;
-use super::Command;
 use crate::arguments::Arguments;
+use crate::command::{Command, Run};
 use crate::each::{output_of, Made};
 use crate::failure::Failure;
 use crate::files::{self, is_standard, Input};
@@ -12,6 +12,7 @@ use crate::script::{warnings, Unread};
 use crate::shelf::file::{self, read_shelf};
 use crate::shelf::{rows, run_over, words, Shelved};
 use crate::table::Form;
+use crate::telling::complain;
 use crate::words::count;
 
 pub const COMMAND: Command = Command {
@@ -39,7 +40,7 @@ pub const COMMAND: Command = Command {
            or written.",
     options: &[("--list", 0), ("--csv", 0), ("--json", 0)],
     example: "build/release/gunwaleish shelf traces/shelf/chassis.shelf traces/shelf/hang.script",
-    run,
+    run: Run::Alone(run),
 };
 
 fn run(arguments: &Arguments) -> Result<(), Failure> {
@@ -58,7 +59,7 @@ fn run(arguments: &Arguments) -> Result<(), Failure> {
     let output = output_of(&inputs, wanted.ending(), arguments.output.as_deref())?;
     let read = |path| files::read(path, MOST_TEXT);
     let (made, warned) = told_over(&read(shelf)?, &read(script)?, wanted);
-    warned.iter().for_each(|line| files::complain(line));
+    warned.iter().for_each(|line| complain(line));
     made.hand_out(output.as_deref())
 }
 

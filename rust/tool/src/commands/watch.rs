@@ -5,15 +5,16 @@ use std::time::Duration;
 
 use gunwaleish::{Master, MOST_TRACE};
 
-use super::Command;
 use crate::arguments::Arguments;
+use crate::command::{Command, Run};
 use crate::device::read_device;
 use crate::failure::Failure;
-use crate::files::{self, complain, name_of};
+use crate::files::{self, name_of};
 use crate::order::Order;
 use crate::release::bench::promised;
 use crate::samples::{read_all, read_path, tell_crowded, Said};
 use crate::table::Form;
+use crate::telling::complain;
 use crate::watch::following::Following;
 use crate::watch::rows::{row, COLUMNS};
 use crate::watch::status::Status;
@@ -58,7 +59,7 @@ pub const COMMAND: Command = Command {
     ],
     example: "build/release/gunwaleish watch traces/take-over.capture --address 71 --part PCA9641 \
               --samplerate 400k --below",
-    run,
+    run: Run::Alone(run),
 };
 
 fn wrong(what: &str) -> Failure {

@@ -4,7 +4,7 @@ use std::fmt::Write;
 
 use gunwaleish::{Event, Master, Outcome};
 
-use super::{Command, TRACES};
+use crate::command::{Command, Run, TRACES};
 use crate::each::{each_trace, refused, Made};
 use crate::files::Input;
 use crate::story::{follow, Step, Story};
@@ -20,7 +20,7 @@ pub const COMMAND: Command = Command {
            why the claim was won, is 0 no claim, 1 sole requester, 2 priority, 3 last granted.",
     options: &[],
     example: "build/release/gunwaleish wave traces/box14-rt50.trace -o build/box14-rt50.vcd",
-    run: |arguments| each_trace(arguments, "vcd", wave),
+    run: Run::Alone(|arguments| each_trace(arguments, "vcd", wave)),
 };
 
 /// Units of time in a tick. There are more of them than a trace has events, so no two events meet.

@@ -1,8 +1,8 @@
 //! The text form, read line by line.
 
+use super::boxes::Boxes;
 use super::nearest::nearest;
 use super::values::value_of;
-use super::Boxes;
 use crate::order::BoxName;
 use crate::script::shown;
 

@@ -2,8 +2,8 @@
 
 use gunwaleish::{Master, Section};
 
+use super::boxes::Boxes;
 use super::values::{written, WITHOUT_LIMIT};
-use super::Boxes;
 use crate::order::words::idle_limits;
 use crate::order::BoxName;
 

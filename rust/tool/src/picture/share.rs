@@ -4,7 +4,8 @@ use gunwaleish::{Master, Totals};
 
 use super::paper::{Look, Paper};
 use super::places::LEFT;
-use crate::share::words::{per_cent, REFUSALS};
+use crate::share::kept::REFUSALS;
+use crate::share::words::per_cent;
 use crate::svg::Joined;
 use crate::version::TOOL;
 use crate::words::{count, ticks};

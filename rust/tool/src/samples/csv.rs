@@ -1,10 +1,11 @@
 //! Comma-separated values with a header of names: a row a sample, or a row a change with its time.
 
 use super::channels::{find, Channels, LINES};
+use super::form::Form;
+use super::piece::{Head, Piece, Said, Taker, HIGH};
 use super::rate::{attoseconds, read_rate};
 use super::timeline::{Timeline, Wrong};
 use super::vcd::Stop;
-use super::{Form, Head, Piece, Said, Taker, HIGH};
 use crate::each::Mistake;
 
 /// The longest line that is read.

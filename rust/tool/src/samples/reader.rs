@@ -5,11 +5,11 @@ use std::io::{self, ErrorKind, Read};
 use std::path::Path;
 
 use super::csv::Csv;
-use super::form::form_of;
+use super::form::{form_of, Form};
+use super::piece::{Head, Piece, Said, Taker};
 use super::rate::read_rate;
 use super::session;
 use super::vcd::{Stop, Vcd};
-use super::{Form, Head, Piece, Said, Taker};
 use crate::failure::Failure;
 use crate::files::{hint_at_terminal, is_standard, name_of};
 

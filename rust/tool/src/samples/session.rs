@@ -6,7 +6,8 @@ use std::path::Path;
 use std::process::{Child, ChildStdout, Command, Stdio};
 
 use crate::failure::Failure;
-use crate::files::{name_of, shown};
+use crate::files::name_of;
+use crate::telling::shown;
 
 /// What is told of a session that comes where no program can be asked for it.
 pub const TOLD: &str =

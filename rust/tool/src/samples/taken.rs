@@ -2,7 +2,8 @@
 
 use gunwaleish::MOST_SAMPLES;
 
-use super::{Form, Head, Piece, Taker, BELOW};
+use super::form::Form;
+use super::piece::{Head, Piece, Taker, BELOW};
 use crate::failure::Failure;
 
 /// The lines of both buses above.

@@ -1,7 +1,7 @@
 //! Levels by their times, turned into samples: a level lasts until the next one comes.
 
+use super::piece::{Piece, Taker};
 use super::rate::sample_at;
-use super::{Piece, Taker};
 use crate::failure::Failure;
 
 /// Samples out of levels with times.

@@ -1,9 +1,10 @@
 //! Waveforms (VCD), read word by word as they come.
 
 use super::channels::{find, LINES};
+use super::form::Form;
+use super::piece::{Head, Said, Taker, HIGH};
 use super::rate::read_rate;
 use super::timeline::{Timeline, Wrong};
-use super::{Form, Head, Said, Taker, HIGH};
 use crate::each::Mistake;
 use crate::failure::Failure;
 

@@ -9,7 +9,7 @@
 
 use gunwaleish::{Event, Master};
 
-use super::words::small;
+use super::letters::small;
 
 /// In what a byte is written.
 #[derive(Clone, Copy, Debug, PartialEq, Eq)]

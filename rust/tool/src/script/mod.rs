@@ -8,11 +8,13 @@
 
 pub mod bytes;
 pub mod forms;
+mod letters;
 pub mod named;
 pub mod warnings;
 mod words;
 
-pub use words::{each_line, shown, Unread, Words};
+pub use letters::shown;
+pub use words::{each_line, Unread, Words};
 
 use gunwaleish::{run, write_trace, Event, Master, Part, Pins, MOST_EVENTS};
 
@@ -79,7 +81,7 @@ impl Reading {
         let Some(word) = words.word() else {
             return Ok(());
         };
-        match words::small(word).as_ref() {
+        match letters::small(word).as_ref() {
             "pins" if self.pins.is_some() => Err(words.unread(word, PINS_ONCE)),
             "pins" => {
                 let codes = [words.byte()?, words.byte()?, words.byte()?, words.byte()?];

@@ -10,9 +10,10 @@ use gunwaleish::{run, write_trace};
 use super::bytes::{Mark, Written};
 use super::named::read_named_bytes;
 use super::{read_script, Script, RT};
-use crate::files::{complain, Input};
+use crate::files::Input;
 use crate::shelf::Shelved;
 use crate::story::pointers;
+use crate::telling::complain;
 use crate::words::register;
 
 /// Tells what is worth a second look in a script. Of one that cannot be read, nothing.

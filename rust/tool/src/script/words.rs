@@ -1,10 +1,9 @@
 //! The words of a line, read one by one as what they are expected to be.
 
-use std::borrow::Cow;
-
 use gunwaleish::{Event, Master, Part, MOST_EVENTS};
 
 use super::bytes::{self, Byte};
+use super::letters::{shown, small};
 
 /// What could not be read, and where.
 #[derive(Clone, Debug, PartialEq, Eq)]
@@ -165,22 +164,4 @@ impl<'a> Words<'a> {
             _ => return Err(self.unread(word, expected)),
         })
     }
-}
-
-/// A word in small letters. Most have no others, and a long script has thousands of words.
-pub fn small(word: &str) -> Cow<'_, str> {
-    match word.bytes().any(|byte| byte.is_ascii_uppercase()) {
-        true => word.to_ascii_lowercase().into(),
-        false => word.into(),
-    }
-}
-
-/// A word as it can be shown: no control characters, and not too long.
-pub fn shown(word: &str) -> String {
-    let most = 40;
-    let text: Cow<str> = match word.chars().count() > most {
-        true => format!("{}...", word.chars().take(most).collect::<String>()).into(),
-        false => word.into(),
-    };
-    text.escape_debug().to_string()
 }

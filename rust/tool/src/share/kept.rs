@@ -6,8 +6,6 @@
 
 use gunwaleish::{Master, Totals, MOST_TRACES, TOTAL_COUNT};
 
-use super::words::REFUSALS;
-
 /// The first line, with the number of this form.
 pub const HEAD: &str = "gunwaleish totals 1";
 const END: &str = "end";
@@ -35,6 +33,9 @@ pub const NAMES: [&str; TOTAL_COUNT] = [
     "refused8",
     "refused10",
 ];
+
+/// The numbers with which a trace is refused here.
+pub const REFUSALS: [u8; 6] = [3, 5, 6, 7, 8, 10];
 
 /// The totals as text.
 pub fn write(totals: &Totals) -> String {

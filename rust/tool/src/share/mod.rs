@@ -81,7 +81,7 @@ impl Counted {
 
     /// True if traces were counted that were not refused.
     pub fn has_taken(&self) -> bool {
-        let refused: u64 = words::REFUSALS.map(|number| self.totals.refused(number)).iter().sum();
+        let refused: u64 = kept::REFUSALS.map(|number| self.totals.refused(number)).iter().sum();
         self.totals.traces() > refused
     }
 

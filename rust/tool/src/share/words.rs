@@ -2,13 +2,11 @@
 
 use gunwaleish::{Master, Refusal, Totals};
 
+use super::kept::REFUSALS;
 use super::Counted;
 use crate::words::count;
 
-/// The numbers with which a trace is refused here.
-pub const REFUSALS: [u8; 6] = [3, 5, 6, 7, 8, 10];
-
-/// And the refusals of these numbers.
+/// The refusals that a trace has here, by their numbers as `REFUSALS` has them.
 const WHY: [Refusal; 6] = [
     Refusal::NoSuchPart,
     Refusal::TraceCut,

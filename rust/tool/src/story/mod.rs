@@ -5,69 +5,23 @@
 //! before its grant, which `claim` derives from that; whether a full mailbox drops a byte, which
 //! `mail` derives as `written` does; and whether the bus is hung, which `hung` asks the library.
 
+mod between;
 mod changes;
 mod claim;
 mod hung;
 mod mail;
 mod part;
+mod step;
 mod written;
 
 pub use changes::{Change, GrantEnd, InitialisationEnd};
 pub use part::{idle_limit, write_pointer_rolls};
+pub use step::{Scene, Step};
 pub use written::Written;
 
-use gunwaleish::{Answer, Event, Ground, Master, Part, Pins, Refusal, Run};
+use gunwaleish::{Answer, Event, Master, Part, Pins, Refusal, Run};
 
-/// What can be seen of the device at one moment. A pair has master 0's first.
-#[derive(Clone, Copy, Debug, PartialEq, Eq)]
-pub struct Scene {
-    pub owner: Option<Master>,
-    /// Who claims the bus, or owns it, and on what ground.
-    pub claimant: Option<Master>,
-    pub ground: Option<Ground>,
-    pub connected: Option<Master>,
-    pub initialising: bool,
-    pub asserted: [bool; 2],
-    pub scl: bool,
-    pub sda: bool,
-    /// A request stands and is not granted.
-    pub waits: [bool; 2],
-    pub hung: bool,
-}
-
-/// A device after power-up.
-const POWER_UP: Scene = Scene {
-    owner: None,
-    claimant: None,
-    ground: None,
-    connected: None,
-    initialising: false,
-    asserted: [false; 2],
-    scl: true,
-    sda: true,
-    waits: [false; 2],
-    hung: false,
-};
-
-/// One event of a run.
-#[derive(Clone, Debug, PartialEq, Eq)]
-pub struct Step {
-    /// Its place in the trace, or in the script of a shelf, from 1.
-    pub number: usize,
-    /// The ticks that have passed, this one included.
-    pub tick: usize,
-    pub event: Event,
-    pub answer: Answer,
-    /// What each master had written before this event, and after it.
-    pub before: [Written; 2],
-    pub after: [Written; 2],
-    /// A byte that this master wrote was dropped, since its partner's mailbox is full.
-    pub dropped: [bool; 2],
-    /// What can be seen after it.
-    pub scene: Scene,
-    /// What changed in it.
-    pub changes: Vec<Change>,
-}
+use step::POWER_UP;
 
 /// A whole run.
 #[derive(Clone, Debug, PartialEq, Eq)]
@@ -76,17 +30,6 @@ pub struct Story {
     pub pins: Pins,
     pub part: Part,
     pub steps: Vec<Step>,
-}
-
-impl Step {
-    pub fn is_quiet_tick(&self) -> bool {
-        self.event == Event::Tick && self.changes.is_empty()
-    }
-
-    /// True if this event was a reset: of the pin, or a general call that was taken as one.
-    pub fn is_reset(&self) -> bool {
-        written::is_reset(self.event, self.answer)
-    }
 }
 
 impl Story {
@@ -145,7 +88,7 @@ pub fn follow_run(run: Run) -> Story {
             scene: now,
             changes: vec![],
         };
-        step.changes = changes::between(&scene, &step);
+        step.changes = between::between(&scene, &step);
         last = if step.is_reset() { None } else { now.owner.or(last) };
         steps.push(step);
         scene = now;

@@ -1,9 +1,6 @@
-//! What is found on a watched bus, and who is told of it.
+//! What is found on a watched bus.
 
 use gunwaleish::{Check, Master, Register};
-
-use super::State;
-use crate::failure::Failure;
 
 /// Something that is told.
 #[derive(Clone, Debug, PartialEq, Eq)]
@@ -27,11 +24,4 @@ pub struct Found {
     /// Samples a second.
     pub rate: u64,
     pub finding: Finding,
-}
-
-/// Who is told.
-pub trait Told {
-    fn found(&mut self, found: &Found) -> Result<(), Failure>;
-    /// Some more samples were heard.
-    fn goes_on(&mut self, state: &State) -> Result<(), Failure>;
 }

@@ -24,7 +24,7 @@ use crate::samples::{Head, Piece, Taker};
 use kept::Kept;
 use waits::Waits;
 
-pub use finding::{Finding, Found, Told};
+pub use finding::{Finding, Found};
 
 /// How a bus is to be watched.
 #[derive(Clone, Copy, Debug, PartialEq, Eq)]
@@ -55,6 +55,13 @@ pub struct State {
     pub taken: u64,
     /// The first TICK's sample after which an initialisation ran.
     pub initialising: Option<u64>,
+}
+
+/// Who is told.
+pub trait Told {
+    fn found(&mut self, found: &Found) -> Result<(), Failure>;
+    /// Some more samples were heard.
+    fn goes_on(&mut self, state: &State) -> Result<(), Failure>;
 }
 
 /// Listens to the samples of a file.

@@ -2,7 +2,8 @@
 
 use gunwaleish::{Check, Master};
 
-use super::{words, Finding, Found};
+use super::finding::{Finding, Found};
+use super::words;
 use crate::json::Value;
 use crate::samples::rate::micros_of;
 use crate::table::Columns;

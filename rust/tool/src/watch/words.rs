@@ -2,7 +2,7 @@
 
 use gunwaleish::{Check, Register};
 
-use super::{Finding, Found};
+use super::finding::{Finding, Found};
 use crate::samples::rate::time_of;
 use crate::words::ticks;
 
