@@ -8,8 +8,8 @@ use model::images::any_image;
 use model::rng::Rng;
 use model::{image_advance, image_of, Advanced};
 
-use crate::check::{pattern, Difference};
-use crate::figures::Figures;
+use crate::check::pattern;
+use crate::figures::{Difference, Figures};
 use crate::imaging::{good_images, images_differ};
 
 /// "This is never above six from any state reached from power-up", and what is proved is three.

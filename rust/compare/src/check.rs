@@ -3,10 +3,8 @@
 use gunwaleish::{boundary, Refusal};
 use model::TraceResult;
 
+use crate::figures::{Difference, Figures};
 use crate::words::{answer_in_words, event_in_words};
-
-/// What differs, in words. The caller knows the trace.
-pub type Difference = String;
 
 /// A buffer with a pattern. Neighbouring bytes differ, so a stray write of any one value shows.
 pub fn pattern(length: usize) -> Vec<u8> {
@@ -161,4 +159,22 @@ pub fn check_pins_of(address: u8) -> Result<(), Difference> {
         ));
     }
     Ok(())
+}
+
+impl Figures {
+    /// Runs a trace on both sides and counts it.
+    pub fn run(&mut self, trace: &[u8], room: usize) {
+        match check_run(trace, room) {
+            Ok(result) => self.count(trace, &result),
+            Err(difference) => self.tell("trace", trace, &format!("room {room}; {difference}")),
+        }
+    }
+
+    /// Lists a trace on both sides and counts it.
+    pub fn list(&mut self, trace: &[u8]) {
+        self.listed();
+        if let Err(difference) = check_listing(trace) {
+            self.tell("trace", trace, &difference);
+        }
+    }
 }

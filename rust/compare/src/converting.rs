@@ -8,8 +8,8 @@ use model::straps::pins_of;
 use model::trace::MOST_EVENTS;
 use model::traces::{event_list, old_trace_of, trace};
 
-use crate::check::{pattern, Difference};
-use crate::figures::Figures;
+use crate::check::pattern;
+use crate::figures::{Difference, Figures};
 use crate::writing::same_written;
 
 /// Converts a trace into a buffer of this room. Gives the number of the answer.
@@ -47,4 +47,16 @@ pub fn converter_calls(rng: &mut Rng, figures: &mut Figures) {
     let most = MOST_EVENTS + rng.below(2) as usize;
     let old = old_trace_of([0; 4], &vec![[6, 0, 0, 0]; most]);
     figures.convert(&old, old.len() + rng.pick(&[1, 2]));
+}
+
+impl Figures {
+    /// Gives an old trace its third section on both sides and counts it.
+    pub fn convert(&mut self, old: &[u8], room: usize) {
+        match check_convert(old, room) {
+            Ok(number) => self.answered("convert", number),
+            Err(difference) => {
+                self.tell("trace", old, &format!("converted in room {room}; {difference}"))
+            }
+        }
+    }
 }

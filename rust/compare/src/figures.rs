@@ -1,21 +1,18 @@
-//! How many cases there were, what happened in them, and what never did.
+//! How many cases there were, what happened in them, and what never did. Each comparison adds to it the call that makes and
+//! counts it; here is only the counting.
 
 use std::collections::BTreeMap;
 use std::fmt;
 
 use model::happenings::{kinds_of, Happenings};
 use model::part::BOTH_KINDS;
-use model::scripts::Scripts;
 use model::trace::hex;
 use model::{read_trace, TraceResult};
 
-use crate::check::{check_listing, check_run, Difference};
-use crate::converting::check_convert;
-use crate::importing::check_import;
-use crate::ordering::{check_box, check_sheet_events};
-use crate::starting::check_orders;
 use crate::wanted::{sights, CALLS};
-use crate::writing::{check_write, check_write_again};
+
+/// What differs, in words. The caller knows the trace.
+pub type Difference = String;
 
 /// So many mismatches are told in full. The rest are only counted.
 const TOLD: usize = 3;
@@ -47,103 +44,6 @@ impl Figures {
         Figures { seed, ..Figures::default() }
     }
 
-    /// Runs a trace on both sides and counts it.
-    pub fn run(&mut self, trace: &[u8], room: usize) {
-        match check_run(trace, room) {
-            Ok(result) => self.count(trace, &result),
-            Err(difference) => self.tell("trace", trace, &format!("room {room}; {difference}")),
-        }
-    }
-
-    /// Writes a trace on both sides and counts it.
-    pub fn write(&mut self, pins: [u8; 4], kind: u8, events: &[u8], room: usize) {
-        match check_write(pins, kind, events, room) {
-            Ok(number) => self.answered("write", number),
-            Err(difference) => {
-                let call = format!("written with pins {pins:?}, kind {kind}, room {room}");
-                self.tell("events", events, &format!("{call}; {difference}"))
-            }
-        }
-    }
-
-    /// Gives an old trace its third section on both sides and counts it.
-    pub fn convert(&mut self, old: &[u8], room: usize) {
-        match check_convert(old, room) {
-            Ok(number) => self.answered("convert", number),
-            Err(difference) => {
-                self.tell("trace", old, &format!("converted in room {room}; {difference}"))
-            }
-        }
-    }
-
-    /// Imports a capture on both sides and counts it.
-    pub fn import(&mut self, samples: &[u8], address: u8, room: usize) {
-        match check_import(samples, address, room) {
-            Ok(number) => {
-                self.answered("import", number);
-                // What is seen does not depend on the room, so 9 is left out.
-                if number != 9 && number != 11 {
-                    self.sights.see(samples, address);
-                }
-            }
-            Err(difference) => {
-                let call = format!("address {address:02X}h, room {room}");
-                self.tell("capture", samples, &format!("{call}; {difference}"))
-            }
-        }
-    }
-
-    /// Looks up a box on both sides and counts it.
-    pub fn look_up(&mut self, board: &[u8], house: &[u8], section: u8, controller: u8) {
-        match check_box(board, house, section, controller) {
-            Ok(number) => {
-                self.answered("look up", number);
-                self.sights.see_box(board, house, section, controller);
-            }
-            Err(difference) => self.tell("board", board, &difference),
-        }
-    }
-
-    /// Has the twelve events written on both sides and counts it.
-    pub fn sheet_events(&mut self, board: &[u8], house: &[u8], room: usize) {
-        match check_sheet_events(board, house, room) {
-            Ok(number) => {
-                self.answered("sheet events", number);
-                self.sights.see_sheet_events(board, house);
-            }
-            Err(difference) => self.tell("board", board, &difference),
-        }
-    }
-
-    /// Lists the orders of two scripts on both sides and counts it.
-    pub fn orders(&mut self, scripts: &Scripts, limit: usize, room: usize) {
-        match check_orders(scripts, limit, room) {
-            Ok(listed) => {
-                self.answered("list orders", listed.number);
-                self.orders += listed.count as u64;
-                self.sights.see_orders(scripts, limit, room);
-            }
-            Err(difference) => {
-                let call = format!("script 1 {}, limit {limit}, room {room}", hex(&scripts[1]));
-                self.tell("script0", &scripts[0], &format!("{call}; {difference}"))
-            }
-        }
-    }
-
-    /// Has the library write an accepted trace again.
-    pub fn write_again(&mut self, trace: &[u8]) {
-        if let Err(difference) = check_write_again(trace) {
-            self.tell("trace", trace, &difference);
-        }
-    }
-
-    pub fn list(&mut self, trace: &[u8]) {
-        self.listings += 1;
-        if let Err(difference) = check_listing(trace) {
-            self.tell("trace", trace, &difference);
-        }
-    }
-
     /// Counts a comparison that has no trace.
     pub fn note(&mut self, result: Result<(), Difference>) {
         if let Err(difference) = result {
@@ -167,7 +67,18 @@ impl Figures {
         }
     }
 
-    fn count(&mut self, trace: &[u8], result: &TraceResult) {
+    /// Counts one listing.
+    pub(crate) fn listed(&mut self) {
+        self.listings += 1;
+    }
+
+    /// Counts so many orders that were listed.
+    pub(crate) fn listed_orders(&mut self, count: usize) {
+        self.orders += count as u64;
+    }
+
+    /// Counts a run, and what happened in it.
+    pub(crate) fn count(&mut self, trace: &[u8], result: &TraceResult) {
         self.answered("run", result.number);
         if let (0, Ok(read)) = (result.number, read_trace(trace)) {
             self.events += read.events.len() as u64;

@@ -11,8 +11,8 @@ use model::trace::hex;
 use model::traces::{event_list_of, trace_of_kind};
 use model::{image_fresh, image_of, image_read, image_step, Kind};
 
-use crate::check::{pattern, Difference};
-use crate::figures::Figures;
+use crate::check::pattern;
+use crate::figures::{Difference, Figures};
 use crate::words::{answer_in_words, event_in_words};
 
 type Image = [u8; IMAGE_LENGTH];

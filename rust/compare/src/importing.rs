@@ -10,8 +10,8 @@ use model::straps::pins_of;
 use model::trace::four;
 use model::traces::trace_of;
 
-use crate::check::{pattern, Difference};
-use crate::figures::Figures;
+use crate::check::pattern;
+use crate::figures::{Difference, Figures};
 use crate::words::event_in_words;
 
 /// Imports a capture into a buffer of this room. Gives the number of the answer.
@@ -118,4 +118,23 @@ fn long_captures(rng: &mut Rng, figures: &mut Figures) {
     let bad = damaged(rng, &dense);
     figures.damage("captures", &dense, &bad);
     import_in_rooms(rng, &bad, made.address, figures);
+}
+
+impl Figures {
+    /// Imports a capture on both sides and counts it.
+    pub fn import(&mut self, samples: &[u8], address: u8, room: usize) {
+        match check_import(samples, address, room) {
+            Ok(number) => {
+                self.answered("import", number);
+                // What is seen does not depend on the room, so 9 is left out.
+                if number != 9 && number != 11 {
+                    self.sights.see(samples, address);
+                }
+            }
+            Err(difference) => {
+                let call = format!("address {address:02X}h, room {room}");
+                self.tell("capture", samples, &format!("{call}; {difference}"))
+            }
+        }
+    }
 }

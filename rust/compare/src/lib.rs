@@ -6,7 +6,7 @@
 //! - `writing`: the writer of traces on both sides.
 //! - `converting`: the converter of old traces on both sides.
 //! - `importing`: the importer of captures on both sides.
-//! - `ordering`: the order sheet on both sides.
+//! - `sheets`: the order sheet on both sides.
 //! - `waiting`: how long a controller can wait by its sheets, on both sides.
 //! - `imaging`: the flat image of a device on both sides.
 //! - `starting`: all orders of two start-up scripts on both sides.
@@ -27,8 +27,8 @@ pub mod figures;
 pub mod fixed;
 pub mod imaging;
 pub mod importing;
-pub mod ordering;
 pub mod sharing;
+pub mod sheets;
 pub mod shelving;
 pub mod starting;
 pub mod waiting;

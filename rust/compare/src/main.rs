@@ -5,8 +5,8 @@ use std::thread;
 use compare::advancing::advances_about_ends;
 use compare::fixed::*;
 use compare::imaging::{images_byte_by_byte, images_of_every_length};
-use compare::ordering::{sheets_one_by_one, sheets_side_by_side};
 use compare::sharing::{joins_about_the_most, shares_of_stored, totals_of_every_length};
+use compare::sheets::{sheets_one_by_one, sheets_side_by_side};
 use compare::shelving::{names_on_rows, rows_of_every_length};
 use compare::starting::{limits_of_orders, orders_of_every_length};
 use compare::waiting::{waits_of_every_reserve, waits_one_by_one};
@@ -27,34 +27,39 @@ fn main() {
     let seed = seed_or(clock_seed());
     println!("seed {seed}, {rounds} rounds");
     let mut figures = all_rounds(seed, rounds);
-    kept_traces(&mut figures);
-    short_strings(&mut figures);
-    third_sections(&mut figures);
-    all_kinds(&mut figures);
-    all_pins(&mut figures);
-    all_addresses(&mut figures);
-    captures_about_bytes(&mut figures);
-    short_captures(&mut figures);
-    sheets_one_by_one(&mut figures);
-    sheets_side_by_side(&mut figures);
-    waits_one_by_one(&mut figures);
-    waits_of_every_reserve(&mut figures);
-    images_byte_by_byte(&mut figures);
-    images_of_every_length(&mut figures);
-    orders_of_every_length(&mut figures);
-    limits_of_orders(&mut figures);
-    names_on_rows(&mut figures);
-    rows_of_every_length(&mut figures);
-    shares_of_stored(&mut figures);
-    totals_of_every_length(&mut figures);
-    joins_about_the_most(&mut figures);
-    advances_about_ends(&mut figures);
+    all_fixed(&mut figures);
     print!("{figures}{}", figures.happenings());
     let never = figures.never();
     if !never.is_empty() {
         println!("NEVER OCCURRED: {}", never.join("; "));
     }
     std::process::exit(i32::from(!figures.agree() || !never.is_empty()));
+}
+
+/// The calls that are few enough to try them all.
+fn all_fixed(figures: &mut Figures) {
+    kept_traces(figures);
+    short_strings(figures);
+    third_sections(figures);
+    all_kinds(figures);
+    all_pins(figures);
+    all_addresses(figures);
+    captures_about_bytes(figures);
+    short_captures(figures);
+    sheets_one_by_one(figures);
+    sheets_side_by_side(figures);
+    waits_one_by_one(figures);
+    waits_of_every_reserve(figures);
+    images_byte_by_byte(figures);
+    images_of_every_length(figures);
+    orders_of_every_length(figures);
+    limits_of_orders(figures);
+    names_on_rows(figures);
+    rows_of_every_length(figures);
+    shares_of_stored(figures);
+    totals_of_every_length(figures);
+    joins_about_the_most(figures);
+    advances_about_ends(figures);
 }
 
 /// All rounds, dealt out to as many threads as the machine runs at once.

@@ -8,8 +8,7 @@ use model::shares::{any_numbers, any_trace};
 use model::stored::stored_traces;
 use model::{share_add, share_join};
 
-use crate::check::Difference;
-use crate::figures::Figures;
+use crate::figures::{Difference, Figures};
 
 /// What each number of the row is.
 const NAMES: [&str; NUMBERS] = [

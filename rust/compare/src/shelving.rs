@@ -11,8 +11,8 @@ use model::shelves::*;
 use model::trace::hex;
 use model::{image_of, row_of, Device, Record, Shelf};
 
-use crate::check::{pattern, Difference};
-use crate::figures::Figures;
+use crate::check::pattern;
+use crate::figures::{Difference, Figures};
 use crate::imaging::images_differ;
 use crate::words::{answer_in_words, event_in_words};
 

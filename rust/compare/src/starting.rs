@@ -4,11 +4,11 @@ use gunwaleish::{boundary, Bus};
 use model::orders::{bytes_of_orders, patterns, MOST_SCRIPT};
 use model::rng::Rng;
 use model::scripts::{damage_scripts, good_scripts, Scripts};
-use model::trace::four;
+use model::trace::{four, hex};
 use model::{list_orders, Listed};
 
-use crate::check::{pattern, Difference};
-use crate::figures::Figures;
+use crate::check::pattern;
+use crate::figures::{Difference, Figures};
 
 /// Lists the orders of two scripts, up to the limit, into a buffer of this room. Gives what the model
 /// said.
@@ -120,4 +120,21 @@ pub fn limits_of_orders(figures: &mut Figures) {
         [[0, m, 0x87, 0], [1, m, 1, 0], [1, m, 1, 0], [1, m, 1, 0], [3, m, 0, 0]].concat()
     };
     figures.orders(&[rolls(0), rolls(1)], usize::MAX, 252);
+}
+
+impl Figures {
+    /// Lists the orders of two scripts on both sides and counts it.
+    pub fn orders(&mut self, scripts: &Scripts, limit: usize, room: usize) {
+        match check_orders(scripts, limit, room) {
+            Ok(listed) => {
+                self.answered("list orders", listed.number);
+                self.listed_orders(listed.count);
+                self.sights.see_orders(scripts, limit, room);
+            }
+            Err(difference) => {
+                let call = format!("script 1 {}, limit {limit}, room {room}", hex(&scripts[1]));
+                self.tell("script0", &scripts[0], &format!("{call}; {difference}"))
+            }
+        }
+    }
 }

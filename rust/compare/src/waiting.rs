@@ -7,8 +7,7 @@ use model::sheets::{complete_pair, damage_sheet, good_pair, pair_without_a_box, 
 use model::trace::hex;
 use model::{wait_of, Wait};
 
-use crate::check::Difference;
-use crate::figures::Figures;
+use crate::figures::{Difference, Figures};
 
 /// Asks how long a controller can wait. Gives what the model said.
 pub fn check_wait(

@@ -7,8 +7,8 @@ use model::trace::MOST_EVENTS;
 use model::traces::event_list;
 use model::{address_of, read_trace, write_trace, Written};
 
-use crate::check::{check_run, pattern, Difference};
-use crate::figures::Figures;
+use crate::check::{check_run, pattern};
+use crate::figures::{Difference, Figures};
 
 /// Writes a trace into a buffer of this room. Gives the number of the answer.
 pub fn check_write(pins: [u8; 4], kind: u8, events: &[u8], room: usize) -> Result<u8, Difference> {
@@ -126,4 +126,24 @@ fn about_the_most(rng: &mut Rng, figures: &mut Figures) {
     let one_more = &bytes[..4 * MOST_EVENTS + 4];
     figures.write([0; 4], any_kind(rng), one_more, rng.pick(&[0, exact, room]));
     figures.write([0; 4], any_kind(rng), &bytes, room);
+}
+
+impl Figures {
+    /// Writes a trace on both sides and counts it.
+    pub fn write(&mut self, pins: [u8; 4], kind: u8, events: &[u8], room: usize) {
+        match check_write(pins, kind, events, room) {
+            Ok(number) => self.answered("write", number),
+            Err(difference) => {
+                let call = format!("written with pins {pins:?}, kind {kind}, room {room}");
+                self.tell("events", events, &format!("{call}; {difference}"))
+            }
+        }
+    }
+
+    /// Has the library write an accepted trace again.
+    pub fn write_again(&mut self, trace: &[u8]) {
+        if let Err(difference) = check_write_again(trace) {
+            self.tell("trace", trace, &difference);
+        }
+    }
 }

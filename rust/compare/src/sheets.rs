@@ -7,8 +7,8 @@ use model::sheets::{complete_pair, damage_sheet, good_pair};
 use model::trace::hex;
 use model::{look_up, sheet_events};
 
-use crate::check::{pattern, Difference};
-use crate::figures::Figures;
+use crate::check::pattern;
+use crate::figures::{Difference, Figures};
 use crate::importing::same_events;
 
 /// Looks up a box. Gives the number of the answer.
@@ -198,4 +198,28 @@ fn look_up_all(board: &[u8], house: &[u8], figures: &mut Figures) {
         (0..2).for_each(|controller| figures.look_up(board, house, section, controller));
     }
     figures.sheet_events(board, house, 50);
+}
+
+impl Figures {
+    /// Looks up a box on both sides and counts it.
+    pub fn look_up(&mut self, board: &[u8], house: &[u8], section: u8, controller: u8) {
+        match check_box(board, house, section, controller) {
+            Ok(number) => {
+                self.answered("look up", number);
+                self.sights.see_box(board, house, section, controller);
+            }
+            Err(difference) => self.tell("board", board, &difference),
+        }
+    }
+
+    /// Has the twelve events written on both sides and counts it.
+    pub fn sheet_events(&mut self, board: &[u8], house: &[u8], room: usize) {
+        match check_sheet_events(board, house, room) {
+            Ok(number) => {
+                self.answered("sheet events", number);
+                self.sights.see_sheet_events(board, house);
+            }
+            Err(difference) => self.tell("board", board, &difference),
+        }
+    }
 }
