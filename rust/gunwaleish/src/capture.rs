@@ -8,7 +8,7 @@ use alloc::{vec, vec::Vec};
 
 use crate::{boundary, Refusal};
 #[cfg(feature = "alloc")]
-use crate::{run::fours, Event};
+use crate::{layout::fours, Event};
 
 /// The most samples that a capture may have.
 pub const MOST_SAMPLES: usize = 32_768;

@@ -74,6 +74,8 @@ mod capture;
 mod device;
 mod event;
 mod identity;
+mod layout;
+mod listing;
 mod orders;
 mod part;
 mod pins;
@@ -94,11 +96,15 @@ pub use capture::{import_capture_into, MOST_CAPTURED, MOST_SAMPLES};
 pub use device::{Device, Register, IMAGE_LENGTH, MOST_TICKS};
 pub use event::{Event, Master};
 pub use identity::{library_identity, Identity};
+pub use layout::{MOST_EVENTS, MOST_TRACE};
+#[cfg(feature = "alloc")]
+pub use listing::listing;
+pub use listing::listing_into;
 #[cfg(feature = "alloc")]
 pub use orders::list_orders;
 pub use orders::{list_orders_into, MOST_ORDERS, MOST_SCRIPT};
 pub use part::Part;
-pub use pins::Pins;
+pub use pins::{address_of, pins_of, Pins};
 pub use refusal::Refusal;
 #[cfg(feature = "alloc")]
 pub use run::{run, Run};
@@ -114,54 +120,3 @@ pub use watch::{Check, Watch, WatchSettings, WATCH_LENGTH};
 #[cfg(feature = "alloc")]
 pub use writing::{convert_trace, write_trace};
 pub use writing::{convert_trace_into, write_trace_into};
-
-#[cfg(feature = "alloc")]
-use alloc::{string::String, vec};
-
-/// The most events a trace may have.
-pub const MOST_EVENTS: usize = 4096;
-
-/// The bytes of a trace before its events: the first count, the pins and the count of events.
-const HEAD: usize = 7;
-
-/// The bytes of a trace after its events: the count 1 and the kind of part.
-const TAIL: usize = 2;
-
-/// The bytes of the longest trace.
-pub const MOST_TRACE: usize = HEAD + 4 * MOST_EVENTS + TAIL;
-
-/// The address of a strapping. Four codes pass as well as `Pins`.
-pub fn address_of(pins: impl Into<Pins>) -> Result<u8, Refusal> {
-    let [number, address, ..] = boundary::address_of(pins.into().into()).to_le_bytes();
-    Refusal::of(number).map_or(Ok(address), Err)
-}
-
-/// The one strapping of an address, as the codes of AD3, AD2, AD1 and AD0. `Pins::of_address`
-/// gives it with names.
-pub fn pins_of(address: u8) -> Result<[u8; 4], Refusal> {
-    let [number, ad3, ad2, ad1, ad0, ..] = boundary::pins_of(address).to_le_bytes();
-    Refusal::of(number).map_or(Ok([ad3, ad2, ad1, ad0]), Err)
-}
-
-/// Writes a trace's listing into a lent buffer and gives the listing's length.
-///
-/// If the buffer is shorter than that, nothing is written. Bytes past the listing stay as they
-/// are.
-pub fn listing_into(trace: &[u8], text: &mut [u8]) -> usize {
-    boundary::listing(trace, text)
-}
-
-/// A trace's listing: address and count, then one answer a line, in capital hex; or `R` and the
-/// number of a refused trace.
-#[cfg(feature = "alloc")]
-pub fn listing(trace: &[u8]) -> String {
-    // 8 bytes for the first line and 9 for each event are enough, and a refusal is shorter.
-    let mut text = vec![0; 8 + 9 * (trace.len() / 4).min(MOST_EVENTS)];
-    let length = listing_into(trace, &mut text);
-    if length > text.len() {
-        text.resize(length, 0);
-        listing_into(trace, &mut text);
-    }
-    text.truncate(length);
-    String::from_utf8_lossy(&text).into_owned()
-}

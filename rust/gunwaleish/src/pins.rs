@@ -2,7 +2,7 @@
 
 use core::fmt;
 
-use crate::{address_of, pins_of, Refusal};
+use crate::{boundary, Refusal};
 
 /// A strapping: the codes of the four pins. 0 is VSS, 1 VDD, 2 pull-down, 3 pull-up.
 ///
@@ -49,4 +49,17 @@ impl fmt::Display for Pins {
     fn fmt(&self, f: &mut fmt::Formatter) -> fmt::Result {
         write!(f, "{} {} {} {}", self.ad3, self.ad2, self.ad1, self.ad0)
     }
+}
+
+/// The address of a strapping. Four codes pass as well as `Pins`.
+pub fn address_of(pins: impl Into<Pins>) -> Result<u8, Refusal> {
+    let [number, address, ..] = boundary::address_of(pins.into().into()).to_le_bytes();
+    Refusal::of(number).map_or(Ok(address), Err)
+}
+
+/// The one strapping of an address, as the codes of AD3, AD2, AD1 and AD0. `Pins::of_address`
+/// gives it with names.
+pub fn pins_of(address: u8) -> Result<[u8; 4], Refusal> {
+    let [number, ad3, ad2, ad1, ad0, ..] = boundary::pins_of(address).to_le_bytes();
+    Refusal::of(number).map_or(Ok([ad3, ad2, ad1, ad0]), Err)
 }

@@ -174,48 +174,49 @@ impl Refusal {
     }
 }
 
-impl fmt::Display for Refusal {
-    fn fmt(&self, f: &mut fmt::Formatter) -> fmt::Result {
-        let line = match self {
-            Refusal::NoSuchPart => "the kind of part is neither 0, PCA9641, nor 1, TPT29641",
-            Refusal::TraceCut => "cut: bytes are missing at the end",
-            Refusal::TooManyEvents => "there are more than 4,096 events",
-            Refusal::BytesAfterEnd => "there are bytes after the trace's end",
-            Refusal::NoSuchStrapping => "a pin code is above 3, or the strapping has no address",
-            Refusal::TooLittleRoom => "the buffer is too short for what is to be written",
-            Refusal::WrongCount => {
-                "the count of the pins is not 4, or that of the kind of part is not 1"
-            }
-            Refusal::AddressOutside => "the address is not one of 08h to 77h",
-            Refusal::ByteCut => "a START or STOP inside a byte, or the capture ends inside one",
-            Refusal::TooManySamples => "the capture has more than 32,768 samples",
-            Refusal::BadBox => {
-                "a tick or value is out of range, or a box that is not ticked has a value"
-            }
-            Refusal::SheetCut => "the sheet has under 15 bytes",
-            Refusal::BytesAfterSheet => "there are bytes after the sheet's end",
-            Refusal::WrongBoxCount => "a section's count is not 2, the boxes of two controllers",
-            Refusal::LongScript => "a start-up script has more than six events",
-            Refusal::EmptyBox => "a box is ticked on neither sheet, and an empty box is no value",
-            Refusal::NoSuchBox => "a sheet has no such section or controller",
-            Refusal::OtherLength => "the image of a device has 38 bytes, and these are not so many",
-            Refusal::ImageOutOfRange => {
+impl Refusal {
+    /// What it says, without its number.
+    fn words(self) -> &'static str {
+        use Refusal::*;
+        match self {
+            NoSuchPart => "the kind of part is neither 0, PCA9641, nor 1, TPT29641",
+            TraceCut => "cut: bytes are missing at the end",
+            TooManyEvents => "there are more than 4,096 events",
+            BytesAfterEnd => "there are bytes after the trace's end",
+            NoSuchStrapping => "a pin code is above 3, or the strapping has no address",
+            TooLittleRoom => "the buffer is too short for what is to be written",
+            WrongCount => "the count of the pins is not 4, or that of the kind of part is not 1",
+            AddressOutside => "the address is not one of 08h to 77h",
+            ByteCut => "a START or STOP inside a byte, or the capture ends inside one",
+            TooManySamples => "the capture has more than 32,768 samples",
+            BadBox => "a tick or value is out of range, or a box that is not ticked has a value",
+            SheetCut => "the sheet has under 15 bytes",
+            BytesAfterSheet => "there are bytes after the sheet's end",
+            WrongBoxCount => "a section's count is not 2, the boxes of two controllers",
+            LongScript => "a start-up script has more than six events",
+            EmptyBox => "a box is ticked on neither sheet, and an empty box is no value",
+            NoSuchBox => "a sheet has no such section or controller",
+            OtherLength => "the image of a device has 38 bytes, and these are not so many",
+            ImageOutOfRange => {
                 "a field of the image has a value that no run from power-up gives it"
             }
-            Refusal::OtherWatchLength => "a listener has 142 bytes, and these are not so many",
-            Refusal::WatchOutOfRange => {
-                "a field of the listener has a value that no samples give it"
-            }
-            Refusal::EmptyRow => "the shelf has no record",
-            Refusal::LongRow => "the shelf has more than 16 records",
-            Refusal::TooManyTicks => "an advance goes 65,535 ticks at most",
-            Refusal::TooManyTraces => "the totals are over 65,535 traces, and no more fit",
-            Refusal::OtherRowLength => "a shelf's row has 39 bytes for each record",
-            Refusal::EqualAddresses => "two records of the shelf have the same address",
-            Refusal::NotInRow => "the address or place is not in the shelf's row",
-            Refusal::Unknown(_) => "the library gave a number that no document has here",
-        };
-        write!(f, "refusal {}: {line}", self.number())
+            OtherWatchLength => "a listener has 142 bytes, and these are not so many",
+            WatchOutOfRange => "a field of the listener has a value that no samples give it",
+            EmptyRow => "the shelf has no record",
+            LongRow => "the shelf has more than 16 records",
+            TooManyTicks => "an advance goes 65,535 ticks at most",
+            TooManyTraces => "the totals are over 65,535 traces, and no more fit",
+            OtherRowLength => "a shelf's row has 39 bytes for each record",
+            EqualAddresses => "two records of the shelf have the same address",
+            NotInRow => "the address or place is not in the shelf's row",
+            Unknown(_) => "the library gave a number that no document has here",
+        }
+    }
+}
+
+impl fmt::Display for Refusal {
+    fn fmt(&self, f: &mut fmt::Formatter) -> fmt::Result {
+        write!(f, "refusal {}: {}", self.number(), self.words())
     }
 }
 

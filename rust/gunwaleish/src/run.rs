@@ -3,9 +3,11 @@
 #[cfg(feature = "alloc")]
 use alloc::{vec, vec::Vec};
 
+#[cfg(feature = "alloc")]
+use crate::layout::{fours, HEAD, MOST_EVENTS};
 use crate::{boundary, Part, Refusal};
 #[cfg(feature = "alloc")]
-use crate::{Answer, Event, Pins, HEAD, MOST_EVENTS};
+use crate::{Answer, Event, Pins};
 
 /// What an accepted trace reports. Its answers are in the buffer.
 #[derive(Clone, Copy, Debug, PartialEq, Eq)]
@@ -66,8 +68,4 @@ pub fn run(trace: &[u8]) -> Result<Run, Refusal> {
         events: fours(events).map(Event::from).collect(),
         answers: fours(&answers).map(Answer::from).collect(),
     })
-}
-
-pub(crate) fn fours(bytes: &[u8]) -> impl Iterator<Item = [u8; 4]> + '_ {
-    bytes.chunks_exact(4).map(|four| [four[0], four[1], four[2], four[3]])
 }

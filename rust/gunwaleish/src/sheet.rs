@@ -7,7 +7,7 @@
 
 use core::fmt;
 
-use crate::run::fours;
+use crate::layout::fours;
 use crate::{boundary, Event, Master, Refusal};
 
 /// The bytes of a sheet.

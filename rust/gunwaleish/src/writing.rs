@@ -3,9 +3,9 @@
 #[cfg(feature = "alloc")]
 use alloc::{vec, vec::Vec};
 
-use crate::{boundary, Part, Pins, Refusal};
 #[cfg(feature = "alloc")]
-use crate::{HEAD, TAIL};
+use crate::layout::{HEAD, TAIL};
+use crate::{boundary, Part, Pins, Refusal};
 
 /// Writes a trace into a lent buffer and gives the trace's length.
 ///
