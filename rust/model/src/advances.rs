@@ -4,11 +4,11 @@
 use crate::advance::{differ_beside_counts, MOST_TICKS};
 use crate::device::*;
 use crate::event::make::*;
-use crate::happenings::Happenings;
 use crate::image::{read_image, OTHER_LENGTH};
 use crate::part::{Kind, BOTH_KINDS};
 use crate::phrases::Phrase;
 use crate::rng::Rng;
+use crate::seen::Happenings;
 use crate::traces::event_list_of;
 
 /// Numbers of ticks about which something ends: a hold and a time-out, the idle timers, a reserve,

@@ -1,32 +1,8 @@
 //! Part 5 of a step: who claims the bus, and on what ground. Document 01, "Order inside a step", and
 //! document 02, #107.
 
+use crate::claimant::{Claim, Ground};
 use crate::device::{Device, LOCK_REQ, PRIORITY};
-
-/// Why a claim was won. "1 sole requester, 2 priority, 3 last granted."
-#[derive(Clone, Copy, Debug, PartialEq, Eq)]
-pub enum Ground {
-    SoleRequester,
-    Priority,
-    LastGranted,
-}
-
-impl Ground {
-    pub fn number(self) -> u8 {
-        match self {
-            Ground::SoleRequester => 1,
-            Ground::Priority => 2,
-            Ground::LastGranted => 3,
-        }
-    }
-}
-
-/// The claimant, and the ground on which it was chosen. Nothing that comes later moves the ground.
-#[derive(Clone, Copy, Debug, PartialEq, Eq)]
-pub struct Claim {
-    pub master: usize,
-    pub ground: Ground,
-}
 
 impl Device {
     pub fn claimant(&self) -> Option<usize> {

@@ -1,7 +1,7 @@
 //! What the device remembers, and what follows from that.
 //! Document 01, "Registers, one set per master" and "Answers and the trace".
 
-use crate::claim::Claim;
+use crate::claimant::Claim;
 use crate::part::Kind;
 
 /// Bits of CONTR. Bit 1, LOCK_GRANT, is computed and never stored.

@@ -1,10 +1,10 @@
 //! Counts on what grounds claims are won, and what leaves a ground as it is (document 02, #107). See
 //! `happenings`.
 
-use crate::claim::Ground;
+use crate::claimant::Ground;
 use crate::device::*;
 use crate::event::Event;
-use crate::happenings::{Happenings, Seen};
+use crate::seen::{Happenings, Seen};
 
 impl Happenings {
     /// Looks at one accepted step.

@@ -2,7 +2,7 @@
 
 use crate::device::*;
 use crate::event::Event;
-use crate::happenings::{Happenings, Seen};
+use crate::seen::{Happenings, Seen};
 
 /// What the steps so far have to do with a hung bus.
 #[derive(Default)]

@@ -4,24 +4,15 @@
 //! A happening is told from the device before and after the step and from the
 //! event. The model itself holds nothing that is there for counting only.
 
-use std::collections::BTreeMap;
-
 use crate::device::*;
 use crate::event::{read_event, Event};
 use crate::hanging::Watch;
 use crate::part::Kind;
 use crate::second_part::Rolled;
+use crate::seen::{Seen, EVENT_NAMES};
 
 pub use crate::kinds::kinds_of;
-
-/// The kinds of event, by number.
-pub(crate) const EVENT_NAMES: [&str; 10] =
-    ["COMMAND", "WRITE", "READ", "STOP", "PAIR", "LINES", "TICK", "PULSE", "RESET", "GENERAL CALL"];
-
-#[derive(Default)]
-pub struct Happenings {
-    counts: BTreeMap<String, u64>,
-}
+pub use crate::seen::Happenings;
 
 /// What the counters remember of the steps before.
 #[derive(Default)]
@@ -30,53 +21,7 @@ struct Memory {
     rolled: Rolled,
 }
 
-/// One accepted step, as the counters see it.
-pub(crate) struct Seen<'a> {
-    pub event: Event,
-    pub before: &'a Device,
-    pub after: &'a Device,
-}
-
-impl Seen<'_> {
-    /// The register and the value that master m writes in this event, if any.
-    pub fn written_by(&self, m: usize) -> Option<(u8, u8)> {
-        let pointer = self.before.masters[m].pointer;
-        match self.event {
-            Event::Write { master, value } if master == m => Some((pointer, value)),
-            Event::Pair { values } => Some((pointer, values[m])),
-            _ => None,
-        }
-    }
-
-    /// True if master m writes LOCK_REQ 0.
-    fn lets_go(&self, m: usize) -> bool {
-        matches!(self.written_by(m), Some((1, value)) if value & LOCK_REQ == 0)
-    }
-}
-
 impl Happenings {
-    pub fn count(&self, kind: &str) -> u64 {
-        self.counts.get(kind).copied().unwrap_or(0)
-    }
-
-    /// Every kind that was counted, also one that has no name in `kinds`.
-    pub fn counted(&self) -> impl Iterator<Item = &str> {
-        self.counts.keys().map(|kind| kind.as_str())
-    }
-
-    /// Adds what was counted elsewhere.
-    pub fn add(&mut self, other: &Happenings) {
-        for (kind, count) in &other.counts {
-            *self.counts.entry(kind.clone()).or_insert(0) += count;
-        }
-    }
-
-    pub(crate) fn note(&mut self, condition: bool, kind: &str) {
-        if condition {
-            *self.counts.entry(kind.to_string()).or_insert(0) += 1;
-        }
-    }
-
     /// Runs a list on a fresh part of this kind and counts along.
     pub fn run(&mut self, kind: Kind, events: &[[u8; 4]]) -> Vec<[u8; 4]> {
         let mut device = Device::power_up_of(kind);

@@ -1,7 +1,7 @@
 //! The numbers that the fields of an image have, row by row of docs/IMAGE.md's table, and the device
 //! that has them. "Registers as stored: computed bits are not in the image."
 
-use crate::claim::{Claim, Ground};
+use crate::claimant::{Claim, Ground};
 use crate::device::*;
 use crate::part::Kind;
 

@@ -3,10 +3,10 @@
 
 use crate::device::{BOTH_HIGH, LOCK_REQ};
 use crate::event::{make::*, read_event};
-use crate::happenings::Happenings;
 use crate::image::*;
 use crate::part::Kind;
 use crate::rng::Rng;
+use crate::seen::Happenings;
 use crate::{Device, Switch};
 
 /// An image with every field in its range, each by itself. Few of them are reached by a run.

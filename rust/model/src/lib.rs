@@ -11,7 +11,7 @@
 //! - `event`: what four bytes mean, refusals 2 and 3 ("Events").
 //! - `part`: the two kinds of part (document 02, #105).
 //! - `device`: what the device remembers, and what follows from it.
-//! - `claim`: who claims the bus, and on what ground (part 5 of a step; document 02, #107).
+//! - `claim`, `claimant`: who claims the bus, and on what ground (part 5 of a step; document 02, #107).
 //! - `bytes`: what a byte written or read does ("Registers").
 //! - `step`: one event, in the order of "Order inside a step".
 //! - `trace`: whole traces and the listing ("Answers and the trace").
@@ -27,7 +27,7 @@
 //!   #112).
 //! - `advance`: as many TICK events as one call (document 02, #113).
 //! - `rng`, `phrases`, `waits`, `traces`, `damage`: random cases for the tests.
-//! - `happenings`, `hanging`, `second_part`, `grounds`, `kinds`: what happens in them.
+//! - `happenings`, `seen`, `hanging`, `second_part`, `grounds`, `kinds`: what happens in them.
 //! - `pen`, `captures`, `capture_damage`, `sightings`: random captures, and what is seen in them.
 //! - `sheets`: random order sheets, and what is seen in them.
 //! - `wait_sights`: what is seen in the waits that they come to.
@@ -50,6 +50,7 @@ pub mod capture;
 pub mod capture_damage;
 pub mod captures;
 pub mod claim;
+pub mod claimant;
 pub mod converter;
 pub mod crashes;
 pub mod damage;
@@ -72,6 +73,7 @@ pub mod rng;
 pub mod row;
 pub mod scripts;
 pub mod second_part;
+pub mod seen;
 pub mod share;
 pub mod shares;
 pub mod sheet;

@@ -3,11 +3,11 @@
 
 use crate::device::*;
 use crate::event::make::*;
-use crate::happenings::Happenings;
 use crate::orders::*;
 use crate::part::Kind;
 use crate::phrases::{Bytes, Phrase};
 use crate::rng::Rng;
+use crate::seen::Happenings;
 use crate::trace::four;
 
 /// A pair of scripts, script 0 first.

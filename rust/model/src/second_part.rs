@@ -2,8 +2,8 @@
 
 use crate::device::*;
 use crate::event::Event;
-use crate::happenings::{Happenings, Seen};
 use crate::part::Kind;
+use crate::seen::{Happenings, Seen};
 
 /// For each master: whether its write pointer has gone from 7 to 0 since its last COMMAND.
 #[derive(Default)]

@@ -1,8 +1,8 @@
 //! Seeded random pairs of order sheets, good and damaged (document 02, #106), and what is seen in
 //! them. The random sheets say nothing about what is right.
 
-use crate::happenings::Happenings;
 use crate::rng::Rng;
+use crate::seen::Happenings;
 use crate::sheet::*;
 
 /// A pair of sheets, the board's first.

@@ -2,10 +2,10 @@
 
 use crate::device::{Port, SMBUS_SWRST};
 use crate::event::{read_event, Event, SOFT_RESET};
-use crate::happenings::{Happenings, EVENT_NAMES};
 use crate::image::{read_image, OTHER_LENGTH, OUT_OF_RANGE};
 use crate::part::Kind;
 use crate::row::{read_row, RECORD_LENGTH};
+use crate::seen::{Happenings, EVENT_NAMES};
 use crate::shelf::*;
 
 /// The names of all sights that calls with shelves have to reach.

@@ -3,7 +3,7 @@
 
 use crate::capture::MOST_SAMPLES;
 use crate::capture::{bus_events, edges, events_of, transfers, Edge, Purpose, Transfer};
-use crate::happenings::Happenings;
+use crate::seen::Happenings;
 
 /// The names of all sights that random captures have to reach.
 pub const SIGHTS: &[&str] = &[

@@ -1,7 +1,7 @@
 //! What is seen when it is asked how long a controller can wait by a pair of order sheets. It says
 //! nothing about what is right.
 
-use crate::happenings::Happenings;
+use crate::seen::Happenings;
 use crate::sheet::{judge, look_up, IDLE, RESERVE};
 use crate::wait_of::{wait_of, BOUNDED};
 

@@ -2,10 +2,11 @@
 
 use super::chip::{flaws, Flaw};
 use super::lists::reread;
+use super::noise;
 use super::play::play;
+use super::played::Played;
 use super::random::{scene, Sort};
 use super::stories::{stories, Story};
-use super::{noise, Played};
 use crate::part::{Kind, BOTH_KINDS};
 use crate::rng::Rng;
 

@@ -1,7 +1,7 @@
 //! The chip that is played: a right one, or one that errs in a single thing. It steps the independent
 //! model and spoils what it shows, or what the model has.
 
-use super::{answer_of, DOWN_SCL, DOWN_SDA};
+use super::bus::{answer_of, DOWN_SCL, DOWN_SDA};
 use crate::device::*;
 use crate::event::make::general_call;
 use crate::part::Kind;

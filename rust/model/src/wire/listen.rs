@@ -6,7 +6,7 @@
 //! is counted, the byte is lost, and the condition is what it is: a START begins a transfer, and a
 //! STOP ends one, with its event if one is due.
 
-use super::{answer_of, Fault, ReadByte, Setting, LINES};
+use super::bus::{answer_of, Fault, ReadByte, Setting, LINES};
 use crate::event::make::*;
 use crate::Device;
 

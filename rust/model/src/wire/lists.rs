@@ -1,8 +1,9 @@
 //! A second reader, for samples of which nobody knows what they mean: it goes from list to list with
 //! the importer's parts (`capture`), and puts lines and ticks beside what they give.
 
+use super::bus::{answer_of, Fault, ReadByte, Setting, Sign, LINES};
 use super::chip::Flaw;
-use super::{answer_of, Fault, Played, ReadByte, Setting, Sign, LINES};
+use super::played::Played;
 use crate::capture::{bus_events, edges, transfers, Edge, Purpose, Transfer};
 use crate::event::make::*;
 use crate::Device;

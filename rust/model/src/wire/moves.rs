@@ -1,7 +1,7 @@
 //! What a plan is made of. A move is a level of SCL and SDA and how long it lasts; some moves wait for
 //! something before they begin, and the bus stays as it was until then.
 
-use super::Sign;
+use super::bus::Sign;
 
 /// Where the level of SDA comes from.
 #[derive(Clone, Copy, Debug, PartialEq, Eq)]

@@ -1,8 +1,8 @@
 //! A controller's script as moves on its bus.
 
+use super::bus::{Setting, Sign};
 use super::moves::{Gate, Manner, Move, Sda, Wait};
 use super::script::Item;
-use super::{Setting, Sign};
 use crate::event::make::*;
 use crate::rng::Rng;
 

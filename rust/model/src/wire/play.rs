@@ -1,11 +1,12 @@
 //! Plays two scripts, the world downstream and a chip, sample by sample. What is true of the capture
 //! is written down as it is made: nothing is read back from the samples.
 
+use super::bus::{answer_of, Fault, ReadByte, Setting, Sign, LINES};
 use super::chip::{Chip, Flaw};
 use super::moves::{Gate, Manner, Move, Sda, Wait};
 use super::plan::plan;
+use super::played::Played;
 use super::script::{Script, World};
-use super::{answer_of, Fault, Played, ReadByte, Setting, Sign, LINES};
 use crate::event::make::*;
 use crate::rng::Rng;
 use crate::Device;

@@ -1,11 +1,11 @@
 //! Random scenes by their seed: two controllers that ask, look, send mail and let go, and a world that
 //! moves the downstream lines.
 
+use super::bus::{Setting, DOWN_SCL, DOWN_SDA, INT_IN, LINES};
 use super::chip::Flaw;
 use super::moves::Manner;
 use super::play::Scene;
 use super::script::{get, set, Item, Script, World};
-use super::{Setting, DOWN_SCL, DOWN_SDA, INT_IN, LINES};
 use crate::part::BOTH_KINDS;
 use crate::rng::Rng;
 

@@ -1,6 +1,6 @@
 //! What a controller does on its bus, and what goes on downstream.
 
-use super::LINES;
+use super::bus::LINES;
 
 /// One thing that a controller does. All transfers begin with a START, a repeated one if the last was
 /// not ended by a STOP.

@@ -1,10 +1,10 @@
 //! Captures by hand: what the controllers of a shelf do, each in short.
 
+use super::bus::{Setting, DOWN_SCL, DOWN_SDA, INT_IN, LINES};
 use super::chip::Flaw;
 use super::moves::{Manner, PLAIN};
 use super::play::Scene;
 use super::script::{get, look, low, set, Item, Script, World};
-use super::{Setting, DOWN_SCL, DOWN_SDA, INT_IN, LINES};
 use crate::part::Kind;
 
 /// A story's name, both scripts and what goes on downstream, by ticks.
