@@ -3,9 +3,13 @@
 //! One struct with a field for each thing the paper names, and for each event all seven parts of a
 //! step in their order.
 
+mod bytes;
+mod device;
 mod registers;
 
-use crate::reading::{read, Kind, Report};
+use crate::reading::{read, Report};
+pub use device::Device;
+use device::{Levels, Switch};
 use registers::{Registers, BUS_CONNECT, BUS_INIT, IDLE_TIMER, LOCK_REQ, PRIORITY, SMBUS_DIS};
 
 #[derive(Clone, Copy, PartialEq, Eq)]
@@ -20,49 +24,6 @@ enum Event {
     Pulse { sda: bool },
     Reset,
     GeneralCall { master: usize, code: u8 },
-}
-
-#[derive(Clone, Copy, PartialEq, Eq)]
-enum Switch {
-    Open,
-    /// With the count of PULSE of 0 so far.
-    Initialising {
-        master: usize,
-        zeros: u8,
-    },
-    Closed {
-        master: usize,
-    },
-}
-
-#[derive(Clone, Copy)]
-struct Levels {
-    scl: bool,
-    sda: bool,
-}
-
-pub struct Device {
-    kind: Kind,
-    masters: [Registers; 2],
-    /// The outside levels.
-    outside: Levels,
-    int_in: bool,
-    /// The drives: false pulls a line low.
-    drives: Levels,
-    hold: u8,
-    busy: bool,
-    scl_low: u16,
-    sda_low: u16,
-    idle: u8,
-    claimant: Option<usize>,
-    /// The claimant is granted.
-    granted: bool,
-    /// Why the claim was won: 1 sole requester, 2 priority, 3 last granted.
-    ground: u8,
-    reserve: u8,
-    last_granted: Option<usize>,
-    switch: Switch,
-    init_fail: bool,
 }
 
 /// Runs a trace and writes four answer bytes an event. A refusal leaves the answers as they are.
@@ -110,33 +71,6 @@ fn decode(bytes: [u8; 4]) -> Result<Event, u8> {
 }
 
 impl Device {
-    /// A device after power-up.
-    pub fn new(kind: Kind) -> Device {
-        let high = Levels {
-            scl: true,
-            sda: true,
-        };
-        Device {
-            kind,
-            masters: [Registers::new(); 2],
-            outside: high,
-            int_in: true,
-            drives: high,
-            hold: 0,
-            busy: false,
-            scl_low: 0,
-            sda_low: 0,
-            idle: 0,
-            claimant: None,
-            granted: false,
-            ground: 0,
-            reserve: 0,
-            last_granted: None,
-            switch: Switch::Open,
-            init_fail: false,
-        }
-    }
-
     /// Takes one event and gives its four answer bytes.
     pub fn step(&mut self, bytes: [u8; 4]) -> [u8; 4] {
         let event = match decode(bytes) {
@@ -182,26 +116,6 @@ impl Device {
         [outcome, byte_read, third, fourth]
     }
 
-    fn owner(&self) -> Option<usize> {
-        self.claimant.filter(|_| self.granted)
-    }
-
-    fn levels(&self) -> Levels {
-        Levels {
-            scl: self.outside.scl && self.drives.scl && self.hold == 0,
-            sda: self.outside.sda && self.drives.sda,
-        }
-    }
-
-    fn is_idle(&self) -> bool {
-        let levels = self.levels();
-        !self.busy && levels.scl && levels.sda
-    }
-
-    fn is_hung(&self) -> bool {
-        self.scl_low == 500 || self.sda_low == 501
-    }
-
     /// Part 1: the event's own effect. Outcome and byte read, or the number of the refusal.
     fn effect(&mut self, event: Event) -> Result<(u8, u8), u8> {
         match event {
@@ -221,12 +135,7 @@ impl Device {
             }
             Event::Pair { values } => self.pair(values),
             Event::Lines { scl, sda, int_in } => {
-                if self.int_in && !int_in {
-                    self.masters[0].int_status |= 0x01;
-                    self.masters[1].int_status |= 0x01;
-                }
-                self.outside = Levels { scl, sda };
-                self.int_in = int_in;
+                self.lines(Levels { scl, sda }, int_in);
                 Ok((0, 0))
             }
             Event::Tick => {
@@ -242,12 +151,28 @@ impl Device {
                 Ok((0, 0))
             }
             Event::GeneralCall { master, code: 0x06 } => {
-                let holds = self.masters[master].has_swrst();
-                self.reset(if holds { 35 } else { 0 });
+                self.soft_reset(master);
                 Ok((0, 0))
             }
             Event::GeneralCall { .. } => Ok((1, 0)),
         }
+    }
+
+    /// The outside levels. A fall of INT_IN is told to both masters.
+    #[inline(always)]
+    fn lines(&mut self, outside: Levels, int_in: bool) {
+        if self.int_in && !int_in {
+            self.masters[0].int_status |= 0x01;
+            self.masters[1].int_status |= 0x01;
+        }
+        self.outside = outside;
+        self.int_in = int_in;
+    }
+
+    #[inline(always)]
+    fn soft_reset(&mut self, sender: usize) {
+        let holds = self.masters[sender].has_swrst();
+        self.reset(if holds { 35 } else { 0 });
     }
 
     /// Both bytes see the state before the event. A bit that one clears and the other sets ends
@@ -325,18 +250,6 @@ impl Device {
             self.masters[owner].int_status |= 0x02;
             self.end_grant(owner);
         }
-    }
-
-    /// The end of a grant, by a byte or by a loss.
-    fn end_grant(&mut self, owner: usize) {
-        self.masters[owner].contr &= !BUS_CONNECT;
-        self.drives = Levels {
-            scl: true,
-            sda: true,
-        };
-        self.claimant = None;
-        self.granted = false;
-        self.ground = 0;
     }
 
     /// Part 4: SCL low for 35 ticks cuts the owner's connection, not its grant.
