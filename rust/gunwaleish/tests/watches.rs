@@ -175,6 +175,10 @@ fn what_is_refused_leaves_the_buffer() {
         assert_eq!(boundary::watch_fresh(kind, address, 50, below, &mut buffer), number);
         assert!(buffer.iter().all(|byte| *byte == 0xA5));
     }
+}
+
+#[test]
+fn bytes_that_are_no_listener_are_refused() {
     let good = *fresh().bytes();
     for bytes in [&good[1..], &[&good[..], &[0]].concat(), &[]] {
         assert_eq!(Watch::from_bytes(bytes), Err(Refusal::OtherWatchLength));

@@ -59,25 +59,15 @@ pub fn damage(rng: &mut Rng, good: &[u8], kind: Damage) -> Refused {
     let mut room = end - 7 + rng.below(9) as usize;
     let number = match kind {
         Damage::FirstCountMissing => cut(&mut trace, 0, 5),
-        Damage::FirstCountWrong => {
-            trace[0] = rng.pick(&[0, 1, 2, 3, 5, 8, 255]);
-            cut(&mut trace, rng.between(1, good.len() as u64) as usize, 10)
-        }
+        Damage::FirstCountWrong => wrong_first_count(rng, &mut trace),
         Damage::CutInPins => cut(&mut trace, rng.between(1, 4) as usize, 5),
-        Damage::PinAboveThree => {
-            trace[rng.between(1, 4) as usize] = rng.between(4, 255) as u8;
-            8
-        }
+        Damage::PinAboveThree => pin_above_three(rng, &mut trace),
         Damage::UnlistedStrapping => {
             trace[1..5].copy_from_slice(&unlisted(rng));
             8
         }
         Damage::CutInCount => cut(&mut trace, rng.between(5, 6) as usize, 5),
-        Damage::CountTooBig => {
-            let n = rng.between(MOST_EVENTS as u64 + 1, 65_535) as u16;
-            trace[5..7].copy_from_slice(&n.to_le_bytes());
-            6
-        }
+        Damage::CountTooBig => count_too_big(rng, &mut trace),
         Damage::CutInEvents => cut(&mut trace, rng.between(7, end as u64 - 1) as usize, 5),
         // This one is an old trace.
         Damage::NoKindSection => cut(&mut trace, end, 5),
@@ -87,11 +77,7 @@ pub fn damage(rng: &mut Rng, good: &[u8], kind: Damage) -> Refused {
             10
         }
         Damage::KindMissing => cut(&mut trace, end + 1, 5),
-        Damage::AnotherKind => {
-            trace[end + 1] = rng.between(2, 255) as u8;
-            more_bytes(rng, &mut trace, 0);
-            3
-        }
+        Damage::AnotherKind => another_kind(rng, &mut trace),
         Damage::BytesAfterEnd => {
             more_bytes(rng, &mut trace, 1);
             7
@@ -102,6 +88,31 @@ pub fn damage(rng: &mut Rng, good: &[u8], kind: Damage) -> Refused {
         }
     };
     Refused { trace, room, number }
+}
+
+fn wrong_first_count(rng: &mut Rng, trace: &mut Vec<u8>) -> u8 {
+    trace[0] = rng.pick(&[0, 1, 2, 3, 5, 8, 255]);
+    let length = rng.between(1, trace.len() as u64) as usize;
+    cut(trace, length, 10)
+}
+
+fn pin_above_three(rng: &mut Rng, trace: &mut [u8]) -> u8 {
+    trace[rng.between(1, 4) as usize] = rng.between(4, 255) as u8;
+    8
+}
+
+fn count_too_big(rng: &mut Rng, trace: &mut [u8]) -> u8 {
+    let n = rng.between(MOST_EVENTS as u64 + 1, 65_535) as u16;
+    trace[5..7].copy_from_slice(&n.to_le_bytes());
+    6
+}
+
+/// The kind of part is the last byte.
+fn another_kind(rng: &mut Rng, trace: &mut Vec<u8>) -> u8 {
+    let kind = trace.len() - 1;
+    trace[kind] = rng.between(2, 255) as u8;
+    more_bytes(rng, trace, 0);
+    3
 }
 
 fn cut(trace: &mut Vec<u8>, length: usize, number: u8) -> u8 {

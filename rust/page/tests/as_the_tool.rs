@@ -97,6 +97,11 @@ fn traces() {
         same(name, &done("convert", &[old, title]).fields[0], &new);
         assert_eq!(ask("convert", &[&trace, title]).text(0), refusal(&["convert", name]));
     }
+}
+
+#[test]
+fn a_part_of_a_picture() {
+    at_root();
     let part = made(&["picture", "traces/recovery.trace", "--from", "300", "--to", "310"]);
     let recovery = file("traces/recovery.trace");
     same(
@@ -190,6 +195,12 @@ fn sheets() {
         let text = name.replace(".sheet", ".txt");
         same(name, &done("fill", &[&file(&text), text.as_bytes()]).fields[0], &file(name));
     }
+}
+
+#[test]
+fn pairs_of_sheets() {
+    at_root();
+    let all = files("sheets", ".sheet");
     for (board, house) in all.iter().flat_map(|board| all.iter().map(move |house| (board, house))) {
         let names = [board.as_bytes(), house.as_bytes()];
         let answer = done("sheet", &[&file(board), &file(house), names[0], names[1]]);
@@ -216,6 +227,11 @@ fn sheets() {
             }
         }
     }
+}
+
+#[test]
+fn sheets_that_are_refused() {
+    at_root();
     let wrong = b"Downstream reserve, ms, controller 0: 0\nPrioriti, controller 1: 7\n";
     let text = env::temp_dir().join(format!("page-{}.txt", process::id()));
     fs::write(&text, wrong).unwrap();
@@ -317,22 +333,8 @@ fn releases() {
         // The tool's page has the moment at which it was made.
         let ran = tool(&[&["release", folder], options].concat());
         let page = String::from_utf8(ran.made.unwrap()).unwrap();
-        let mut given: Vec<Vec<u8>> = vec![];
-        for name in files(folder, "") {
-            let changed = fs::metadata(&name)
-                .unwrap()
-                .modified()
-                .unwrap()
-                .duration_since(UNIX_EPOCH)
-                .unwrap();
-            let changed = changed.as_secs().to_string();
-            given.extend([
-                name.clone().into_bytes(),
-                file(&name),
-                b"--changed".to_vec(),
-                changed.into_bytes(),
-            ]);
-        }
+        let mut given: Vec<Vec<u8>> =
+            files(folder, "").iter().flat_map(|name| with_time(name)).collect();
         given.extend(options.iter().map(|word| word.as_bytes().to_vec()));
         given.extend([b"--folder".to_vec(), folder.into()]);
         let given: Vec<&[u8]> = given.iter().map(Vec::as_slice).collect();
@@ -342,6 +344,13 @@ fn releases() {
         assert_eq!(answer.text(1).starts_with("{\"released\":true"), ran.done);
         same(folder, without_moment(answer.text(2)).as_bytes(), without_moment(&page).as_bytes());
     }
+}
+
+/// A file of a bundle as it is given: its name, what it has, and when it was changed.
+fn with_time(name: &str) -> [Vec<u8>; 4] {
+    let changed = fs::metadata(name).unwrap().modified().unwrap();
+    let seconds = changed.duration_since(UNIX_EPOCH).unwrap().as_secs().to_string();
+    [name.into(), file(name), b"--changed".to_vec(), seconds.into_bytes()]
 }
 
 /// A page without the moment at which it was made.

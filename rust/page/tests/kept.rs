@@ -72,6 +72,17 @@ fn the_digest_is_the_tools() {
     }
 }
 
+/// The policy that a page gives itself.
+fn policy(page: &str) -> &str {
+    let after = page.split("http-equiv=\"Content-Security-Policy\" content=\"").nth(1);
+    after.expect("a policy").split('"').next().unwrap()
+}
+
+/// True of a word of a policy that names a kind of thing, such as `img-src`.
+fn is_kind(word: &str) -> bool {
+    ["-src", "-uri", "-action"].iter().any(|end| word.ends_with(end))
+}
+
 /// One file that refers to nothing outside it, and may not.
 #[test]
 fn nothing_from_outside() {
@@ -81,21 +92,10 @@ fn nothing_from_outside() {
     }
     let page = String::from_utf8(file(PAGE)).unwrap();
     assert!(page.len() <= 500_000, "{} bytes", page.len());
-    let policy = page
-        .split("http-equiv=\"Content-Security-Policy\" content=\"")
-        .nth(1)
-        .expect("a policy")
-        .split('"')
-        .next()
-        .unwrap();
+    let policy = policy(&page);
     assert!(policy.starts_with("default-src 'none';"), "{policy}");
     let allowed = ["'none'", "'unsafe-inline'", "'wasm-unsafe-eval'", "data:", "blob:"];
-    for word in policy.split([' ', ';']).filter(|word| {
-        !word.is_empty()
-            && !word.ends_with("-src")
-            && !word.ends_with("-uri")
-            && !word.ends_with("-action")
-    }) {
+    for word in policy.split([' ', ';']).filter(|word| !word.is_empty() && !is_kind(word)) {
         assert!(allowed.contains(&word) || word.starts_with("'sha256-"), "{word} in {policy}");
     }
     let code =
@@ -105,15 +105,9 @@ fn nothing_from_outside() {
         policy.contains(&format!("'sha256-{}'", base64(&sha256::of(code.as_bytes())))),
         "the script's own hash is in {policy}"
     );
-    for from in [
-        "src=\"http",
-        "href=\"http",
-        "url(http",
-        "@import",
-        "fetch(",
-        "XMLHttpRequest",
-        "WebSocket",
-    ] {
+    let urls = ["src=\"http", "href=\"http", "url(http", "@import"];
+    let calls = ["fetch(", "XMLHttpRequest", "WebSocket"];
+    for from in urls.into_iter().chain(calls) {
         assert!(!page.contains(from), "{from}");
     }
 }

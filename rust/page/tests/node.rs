@@ -16,6 +16,15 @@ fn requests() -> Vec<Vec<u8>> {
     for request in ["boxes", "words", "samples"] {
         ask(&[request.as_bytes()]);
     }
+    of_each_file(&mut ask);
+    of_sheets(&mut ask);
+    of_scripts(&mut ask);
+    of_many(&mut ask);
+    all
+}
+
+/// What every sample is, and what is made of it.
+fn of_each_file(ask: &mut impl FnMut(&[&[u8]])) {
     let everything = ["traces", "sheets", "releases"].iter().flat_map(|folder| files(folder, ""));
     for name in everything.collect::<Vec<_>>() {
         let bytes = file(&name);
@@ -37,6 +46,14 @@ fn requests() -> Vec<Vec<u8>> {
     for event in 0..30 {
         ask(&[b"state", &trace, event.to_string().as_bytes()]);
     }
+    let capture = file("traces/box14.capture");
+    for address in ["71", "70", "x"] {
+        ask(&[b"import", &capture, address.as_bytes(), b"PCA9641"]);
+    }
+}
+
+/// Every two sheets.
+fn of_sheets(ask: &mut impl FnMut(&[&[u8]])) {
     let sheets: Vec<Vec<u8>> = files("sheets", ".sheet").iter().map(|name| file(name)).collect();
     for (board, house) in
         sheets.iter().flat_map(|board| sheets.iter().map(move |house| (board, house)))
@@ -44,10 +61,10 @@ fn requests() -> Vec<Vec<u8>> {
         ask(&[b"sheet", board, house]);
         ask(&[b"start", board, house, b"71", b"PCA9641"]);
     }
-    let capture = file("traces/box14.capture");
-    for address in ["71", "70", "x"] {
-        ask(&[b"import", &capture, address.as_bytes(), b"PCA9641"]);
-    }
+}
+
+/// Scripts over a shelf, in all orders, and beside a trace.
+fn of_scripts(ask: &mut impl FnMut(&[&[u8]])) {
     let [shelf, hang, typo] = ["chassis.shelf", "hang.script", "typo.script"]
         .map(|name| file(&format!("traces/shelf/{name}")));
     ask(&[b"shelf", &shelf, &hang]);
@@ -57,6 +74,10 @@ fn requests() -> Vec<Vec<u8>> {
     ask(&[b"orders", &first, &second]);
     ask(&[b"orders", &first, &third, b"", b"", b"TPT29641"]);
     ask(&[b"diff", &file("traces/box14-rt00.trace"), b"", &file("traces/box14-rt50.script"), b""]);
+}
+
+/// Requests with many files: the bus share, and the releases.
+fn of_many(ask: &mut impl FnMut(&[&[u8]])) {
     let traces = files("traces", ".trace");
     let bytes: Vec<Vec<u8>> = traces.iter().map(|name| file(name)).collect();
     let pairs = traces.iter().zip(&bytes).flat_map(|(name, trace)| [name.as_bytes(), trace]);
@@ -69,7 +90,6 @@ fn requests() -> Vec<Vec<u8>> {
         let head: [&[u8]; 3] = [b"release", b"--folder", folder.as_bytes()];
         ask(&head.into_iter().chain(pairs).collect::<Vec<_>>());
     }
-    all
 }
 
 #[test]

@@ -56,69 +56,72 @@ pub fn looks_like(name: &str, bytes: &[u8]) -> Option<Kind> {
 
 /// What a file is and what to do with it, where another kind is wanted.
 pub fn said(kind: Kind, wanted: Kind) -> Option<String> {
-    if kind == wanted {
-        return None;
-    }
-    Some(match kind {
-        Kind::Empty => "is empty".to_string(),
+    (kind != wanted && !is_told(kind, wanted)).then(|| in_words(kind, wanted))
+}
+
+/// True if the refusal itself says enough.
+fn is_told(kind: Kind, wanted: Kind) -> bool {
+    match kind {
         // That it is old is told with the refusal.
-        Kind::OldTrace if wanted == Kind::Trace => return None,
-        Kind::Trace | Kind::OldTrace => format!("looks like a trace: {}", of_trace(wanted)),
-        Kind::Stream => {
-            "looks like a stream of traces: gunwaleish share --stream counts it".to_string()
-        }
+        Kind::OldTrace => wanted == Kind::Trace,
         // The word that cannot be read says so itself.
-        Kind::ShelfScript if wanted == Kind::Script => return None,
+        Kind::ShelfScript => wanted == Kind::Script,
+        // The name of a box has commas too, and what cannot be filled in says so itself.
+        Kind::Csv | Kind::Utf16 => wanted == Kind::SheetText,
+        Kind::Text => {
+            let texts = [Kind::Script, Kind::ShelfScript, Kind::Shelf];
+            texts.contains(&wanted) || matches!(wanted, Kind::Totals | Kind::SheetText)
+        }
+        _ => false,
+    }
+}
+
+fn in_words(kind: Kind, wanted: Kind) -> String {
+    let words = match kind {
+        Kind::Empty => "is empty",
+        Kind::Trace | Kind::OldTrace => {
+            return format!("looks like a trace: {}", of_trace(wanted));
+        }
+        Kind::Stream => "looks like a stream of traces: gunwaleish share --stream counts it",
         Kind::ShelfScript if wanted == Kind::Shelf => {
-            "looks like a script: the shelf comes first, and then its script".to_string()
+            "looks like a script: the shelf comes first, and then its script"
         }
-        Kind::ShelfScript => {
-            "looks like a script for a shelf: gunwaleish shelf runs it".to_string()
-        }
+        Kind::ShelfScript => "looks like a script for a shelf: gunwaleish shelf runs it",
         Kind::Script => {
-            "looks like a script for one device: gunwaleish compose makes a trace of it".to_string()
+            "looks like a script for one device: gunwaleish compose makes a trace of it"
         }
-        Kind::Shelf => {
-            "looks like a shelf file: gunwaleish shelf takes it, and then a script".to_string()
-        }
+        Kind::Shelf => "looks like a shelf file: gunwaleish shelf takes it, and then a script",
         Kind::Sheet => {
             "looks like an order sheet: gunwaleish sheet shows it, and tells what two of them order"
-                .to_string()
         }
         Kind::SheetText => {
             "looks like the text of an order sheet: gunwaleish fill makes the sheet of it"
-                .to_string()
         }
-        Kind::Capture => "looks like a capture: gunwaleish import makes a trace of it".to_string(),
-        Kind::Totals => "looks like totals: gunwaleish share --join takes them".to_string(),
+        Kind::Capture => "looks like a capture: gunwaleish import makes a trace of it",
+        Kind::Totals => "looks like totals: gunwaleish share --join takes them",
         Kind::Listing => {
             "looks like a listing, which gunwaleish list makes of a trace, and nothing reads"
-                .to_string()
         }
-        Kind::Zip => {
-            "looks like a zip file, as a sigrok session is one (.sr): gunwaleish import takes \
-                      that, if sigrok-cli is installed, and docs/CAPTURES.md tells more"
-                .to_string()
-        }
-        Kind::Gzip => "is compressed: gunzip gives what is in it".to_string(),
-        Kind::Vcd => exported("a VCD file of waveforms"),
-        // The name of a box has commas too.
-        Kind::Csv if wanted == Kind::SheetText => return None,
-        Kind::Csv => exported("a CSV file"),
-        Kind::Picture => "looks like a picture, which nothing reads".to_string(),
-        // What cannot be filled in says so itself.
-        Kind::Utf16 if wanted == Kind::SheetText => return None,
-        Kind::Utf16 => "is text in UTF-16: save it as UTF-8".to_string(),
-        Kind::Text => match wanted {
-            Kind::Script | Kind::ShelfScript | Kind::Shelf | Kind::Totals | Kind::SheetText => {
-                return None
-            }
-            Kind::Sheet => {
-                "looks like plain text: gunwaleish fill makes a sheet of a sheet's text".to_string()
-            }
-            _ => "looks like plain text, which no trace, capture or order sheet is".to_string(),
-        },
-    })
+        Kind::Zip => ZIP,
+        Kind::Gzip => "is compressed: gunzip gives what is in it",
+        Kind::Vcd => return exported("a VCD file of waveforms"),
+        Kind::Csv => return exported("a CSV file"),
+        Kind::Picture => "looks like a picture, which nothing reads",
+        Kind::Utf16 => "is text in UTF-16: save it as UTF-8",
+        Kind::Text => of_text(wanted),
+    };
+    words.to_string()
+}
+
+const ZIP: &str =
+    "looks like a zip file, as a sigrok session is one (.sr): gunwaleish import takes \
+                   that, if sigrok-cli is installed, and docs/CAPTURES.md tells more";
+
+fn of_text(wanted: Kind) -> &'static str {
+    match wanted {
+        Kind::Sheet => "looks like plain text: gunwaleish fill makes a sheet of a sheet's text",
+        _ => "looks like plain text, which no trace, capture or order sheet is",
+    }
 }
 
 fn exported(what: &str) -> String {

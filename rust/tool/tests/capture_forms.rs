@@ -145,18 +145,23 @@ fn texts_of_other_programs() {
         (vcd("#7\n$dumpvars\n1!\n1\"\n1#\n0$\n$end\nb101 x\n#8\n1$"), Some(1_000_000), "77 7F"),
     ];
     for (text, rate, expected) in cases {
-        for pieces in [1, 3, 1000] {
-            let (all, _) = read(text.as_bytes(), &Said::default(), pieces).expect(&text);
-            let hex: Vec<String> =
-                all.samples.iter().map(|sample| format!("{sample:02X}")).collect();
-            assert_eq!(
-                (hex.join(" ").as_str(), all.head.unwrap().rate),
-                (expected, rate),
-                "{text}"
-            );
-        }
+        gives(&text, rate, expected);
     }
-    // Two changes in one sample: the first is lost, and told.
+}
+
+/// A text has these samples, in hex, at this rate, in whatever pieces it comes.
+fn gives(text: &str, rate: Option<u64>, expected: &str) {
+    for pieces in [1, 3, 1000] {
+        let (all, _) = read(text.as_bytes(), &Said::default(), pieces).expect(text);
+        let hex: Vec<String> = all.samples.iter().map(|sample| format!("{sample:02X}")).collect();
+        assert_eq!((hex.join(" ").as_str(), all.head.unwrap().rate), (expected, rate), "{text}");
+    }
+}
+
+/// Two changes in one sample: the first is lost, and told.
+#[test]
+fn changes_in_one_sample() {
+    let vcd = |values: &str| format!("{HEAD}$enddefinitions $end\n{values}");
     let text = vcd("#0 1! 1\" 1# 1$\n#1000 0\"\n#1100 1\"\n#3000\n");
     let said = Said { rate: Some(1000), channels: None };
     let (all, crowded) = read(text.as_bytes(), &said, 1000).unwrap();
@@ -240,6 +245,10 @@ fn mistakes_are_told_with_their_lines() {
             assert!(why.starts_with(&format!("a: {expected}")), "{text}: {why}");
         }
     }
+}
+
+#[test]
+fn words_and_lines_that_are_too_long() {
     assert_eq!(
         read(&[b"$date ".to_vec(), vec![b'x'; 5000]].concat(), &Said::default(), 64).err().unwrap(),
         "a: line 1: a word is longer than any of a VCD file"

@@ -190,8 +190,6 @@ fn what_is_seen_is_the_models() {
 #[test]
 fn what_is_seen_is_told() {
     let capture = input(&file("box14.capture"));
-    let of =
-        |address: u8| Wanted { device: Device { address, ..BOX_14 }, script: false, empty: false };
     let (_, summary) = import(&capture, of(0x71));
     let transfers: Vec<u8> = model_seen(&capture.bytes).concat();
     let times = transfers.iter().filter(|&&byte| byte / 2 == 0x71).count();
@@ -217,6 +215,16 @@ fn what_is_seen_is_told() {
     let (made, summary) = import(&capture, Wanted { empty: true, ..of(0x70) });
     assert_eq!(run(&made.output.unwrap()).unwrap().events, []);
     assert!(summary.unwrap().ends_with("; 0 events"));
+}
+
+/// For the device of box 14 at another address.
+fn of(address: u8) -> Wanted {
+    Wanted { device: Device { address, ..BOX_14 }, script: false, empty: false }
+}
+
+/// What is said where no event comes of a capture.
+#[test]
+fn what_has_no_event_is_told() {
     let cases: [(&[u8], &str); 2] = [
         (&[], "a.capture: no sample; it is empty; --empty"),
         (

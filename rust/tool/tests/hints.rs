@@ -99,15 +99,13 @@ fn where_something_else_is_wanted() {
     }
 }
 
+const EXPORTED: &str = "docs/CAPTURES.md tells how one is exported";
+
 /// What logic analysers and other programs save, told where a capture is wanted and where a trace is.
 #[test]
 fn files_of_other_programs() {
     let folder = Folder::new("hints");
     let vcd = run(&["wave", "traces/m1.trace"]).stdout;
-    let exported = "docs/CAPTURES.md tells how one is exported";
-    let utf16 = |text: &str| -> Vec<u8> {
-        [0xFEFF].into_iter().chain(text.encode_utf16()).flat_map(u16::to_le_bytes).collect()
-    };
     let session = b"PK\x03\x04\x14\0\0\0\x08\0version".to_vec();
     fs::write(folder.path("box.sr"), session).unwrap();
     for command in ["explain", "compose"] {
@@ -136,12 +134,21 @@ fn files_of_other_programs() {
     for (name, bytes, of_import) in texts {
         let path = folder.path(name);
         fs::write(&path, bytes).unwrap();
-        refused(&["explain", &path], exported);
-        refused(&["compose", &path], exported);
+        refused(&["explain", &path], EXPORTED);
+        refused(&["compose", &path], EXPORTED);
         let output = run(&[&["import", &path], &DEVICE[..]].concat());
         assert_eq!((code(&output), output.stdout.len()), (1, 0), "{name}");
         assert!(said(&output).contains(of_import), "{name}: {}", said(&output));
     }
+}
+
+/// Files that no command reads as they are.
+#[test]
+fn files_that_nothing_reads() {
+    let folder = Folder::new("hints-of-none");
+    let utf16 = |text: &str| -> Vec<u8> {
+        [0xFEFF].into_iter().chain(text.encode_utf16()).flat_map(u16::to_le_bytes).collect()
+    };
     let cases: [(&str, Vec<u8>, &str); 4] = [
         (
             "m1.trace.gz",
@@ -151,7 +158,7 @@ fn files_of_other_programs() {
         ("m1.script", utf16("pins 0 0 0 1\n"), "is text in UTF-16: save it as UTF-8"),
         ("empty", vec![], "is empty"),
         // The bytes say nothing, but the name does.
-        ("odd.vcd", vec![0xFE, 0x01, 0x9C], exported),
+        ("odd.vcd", vec![0xFE, 0x01, 0x9C], EXPORTED),
     ];
     for (name, bytes, expected) in cases {
         let path = folder.path(name);

@@ -50,7 +50,13 @@ fn import_takes_every_form() {
         let count = times * samples.len();
         assert!(said(&output).contains(&format!("{name}: {count} samples; 9 transfers")), "{name}");
     }
-    // A fault is told where it stands in the file, not among the samples that are left.
+}
+
+/// A fault is told where it stands in the file, not among the samples that are left.
+#[test]
+fn faults_of_a_long_capture() {
+    let folder = Folder::new("faults");
+    let samples = fs::read(root().join("traces/box14.capture")).unwrap();
     let cut = [vec![0x0F; 50_000], samples[..150].to_vec(), vec![0x0F; 9]].concat();
     fs::write(folder.path("cut"), cut).unwrap();
     let output = run(&[&["import", &folder.path("cut")], &DEVICE[..]].concat());

@@ -12,7 +12,7 @@ use gunwaleish_tool::form::write;
 use gunwaleish_tool::order::BoxName;
 use gunwaleish_tool::release::judge::examine;
 use gunwaleish_tool::release::words::{told, verdict};
-use gunwaleish_tool::release::{Asked, Bundle, Rank};
+use gunwaleish_tool::release::{Asked, Bundle, Examined, Rank};
 
 #[test]
 fn a_good_bundle_is_released() {
@@ -60,53 +60,71 @@ fn every_empty_box_is_named() {
     }
 }
 
+/// The reserves and idle timers of a pair of sheets, and what is asked for on purpose; controller 0's come first.
+#[derive(Clone, Copy, Debug)]
+struct Case {
+    reserves: [u8; 2],
+    idle: [u8; 2],
+    without_limit: [bool; 2],
+}
+
+/// The reasons that a pair has to have, each with the controller whose box it is about.
+fn reasons_of(case: Case) -> Vec<(Rank, usize)> {
+    let of = |holder: usize| match (case.reserves[holder], case.without_limit[holder]) {
+        (0, true) => None,
+        (0, false) if case.idle[holder] == 0 => Some((Rank::Unbounded, holder)),
+        (0, false) => Some((Rank::SilentAlone, holder)),
+        (_, true) => Some((Rank::NotWithoutLimit, holder)),
+        (_, false) => None,
+    };
+    let mut expected: Vec<_> = [0, 1].into_iter().filter_map(of).collect();
+    expected.sort_by_key(|(rank, holder)| (*rank, 1 - holder));
+    expected
+}
+
 /// A wait is told by the reserve and the idle timer of the partner, and is passed only if it has a bound
 /// behind a live one, or on purpose.
 #[test]
 fn waits_without_a_bound_are_reasons() {
     let mut seen = [0; 3];
-    for (reserve0, reserve1) in [(0, 0), (0, 1), (1, 0), (255, 0), (0, 255), (7, 9)] {
-        for idle in 0..4 {
-            for flags in 0..4 {
-                let bit = |of: u8, m: usize| of >> m & 1;
-                let boxes = [Some(reserve0), Some(reserve1), Some(0), Some(0)];
-                let idles = [0, 1].map(|m| Some(bit(idle, m)));
-                let boxes = [&boxes[..], &idles].concat().try_into().unwrap();
-                let without_limit = [0, 1].map(|m| bit(flags, m) == 1);
-                let asked = Asked { most: None, without_limit };
-                let examined = examine(pair(OPEN, boxes), asked);
-                let mut expected = vec![];
-                for (holder, reserve) in [reserve0, reserve1].into_iter().enumerate() {
-                    expected.extend(match (reserve, without_limit[holder], bit(idle, holder)) {
-                        (0, true, _) => None,
-                        (0, false, 0) => Some((Rank::Unbounded, holder)),
-                        (0, false, _) => Some((Rank::SilentAlone, holder)),
-                        (_, true, _) => Some((Rank::NotWithoutLimit, holder)),
-                        (_, false, _) => None,
-                    });
-                }
-                expected.sort_by_key(|(rank, holder)| (*rank, 1 - holder));
-                let found = examined.reasons.iter().map(|reason| {
-                    assert_eq!(reason.file, "h.sheet");
-                    let place = reason.place.as_deref().unwrap();
-                    let holder = place.strip_prefix("Downstream reserve, ms, controller ").unwrap();
-                    (reason.rank, holder.parse::<usize>().unwrap())
-                });
-                let mut found: Vec<_> = found.collect();
-                assert!(found.is_sorted_by_key(|(rank, _)| *rank));
-                found.sort_by_key(|(rank, holder)| (*rank, 1 - holder));
-                assert_eq!(found, expected);
-                let passed = examined.allowed.iter().map(|allowed| allowed.controller as usize);
-                let both = [reserve0, reserve1];
-                let zero = (0..2).filter(|&m| both[m] == 0 && without_limit[m]);
-                assert!(passed.eq(zero), "{both:?} {without_limit:?}");
-                seen[0] += examined.allowed.len();
-                seen[1] += expected.len();
-                seen[2] += usize::from(examined.is_released());
-            }
+    for reserves in [[0, 0], [0, 1], [1, 0], [255, 0], [0, 255], [7, 9]] {
+        for bits in 0..16 {
+            let bit = |place: u8| bits >> place & 1;
+            let without_limit = [bit(2), bit(3)].map(|bit| bit == 1);
+            let case = Case { reserves, idle: [bit(0), bit(1)], without_limit };
+            let examined = examined(case);
+            let expected = reasons_of(case);
+            assert_eq!(found_in(&examined), expected, "{case:?}");
+            let passed = examined.allowed.iter().map(|allowed| allowed.controller as usize);
+            let zero = (0..2).filter(|&m| reserves[m] == 0 && without_limit[m]);
+            assert!(passed.eq(zero), "{case:?}");
+            seen[0] += examined.allowed.len();
+            seen[1] += expected.len();
+            seen[2] += usize::from(examined.is_released());
         }
     }
     assert!(seen.iter().all(|&number| number > 8), "{seen:?}");
+}
+
+fn examined(case: Case) -> Examined {
+    let [reserve0, reserve1] = case.reserves.map(Some);
+    let [idle0, idle1] = case.idle.map(Some);
+    let boxes = [reserve0, reserve1, Some(0), Some(0), idle0, idle1];
+    examine(pair(OPEN, boxes), Asked { most: None, without_limit: case.without_limit })
+}
+
+/// The reasons that were found, all about reserves of the house sheet, the worst first.
+fn found_in(examined: &Examined) -> Vec<(Rank, usize)> {
+    let found = examined.reasons.iter().map(|reason| {
+        assert_eq!(reason.file, "h.sheet");
+        let place = reason.place.as_deref().unwrap();
+        let holder = place.strip_prefix("Downstream reserve, ms, controller ").unwrap();
+        (reason.rank, holder.parse::<usize>().unwrap())
+    });
+    let mut found: Vec<_> = found.collect();
+    assert!(found.is_sorted_by_key(|(rank, _)| *rank));
+    found.sort_by_key(|(rank, holder)| (*rank, 1 - holder));
+    found
 }
 
 #[test]
@@ -216,7 +234,12 @@ fn the_worst_comes_first() {
     ] {
         assert!(found.contains(&rank), "{rank:?}: {}", told(&examined));
     }
-    let text = told(&examined);
+    each_is_told(&examined);
+}
+
+/// Each reason stands in the text under its number, in sentences.
+fn each_is_told(examined: &Examined) {
+    let text = told(examined);
     let count = examined.reasons.len();
     assert!(text.contains(&format!("\nNOT RELEASED: {count} reasons\n")));
     let mut rest = text.as_str();

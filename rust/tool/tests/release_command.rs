@@ -139,7 +139,11 @@ fn files_are_named_by_option_too() {
         lines.skip(1).map(str::to_string).collect()
     };
     assert_eq!(without(&told(&by_option)), without(&told(&whole)));
-    // With a folder, an option takes the place of its file.
+}
+
+/// With a folder, an option takes the place of its file.
+#[test]
+fn an_option_beside_a_folder() {
     let other = run(&["release", SAFE, "--board", "sheets/board-box14.sheet"]);
     assert_eq!(code(&other), 1);
     let text = told(&other);

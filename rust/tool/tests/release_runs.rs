@@ -180,78 +180,59 @@ fn a_refused_trace_is_a_reason() {
     }
 }
 
+const TWO: &str = "70 PCA9641\n71 TPT29641\n";
+
+/// A shelf that is none, and a script that cannot be read: both texts, the file and its line, and what is said.
+const UNREAD: [(&str, &str, &str, &str, &str); 4] = [
+    ("70 PCA9641\n70 PCA9641\n", "tick\n", "a.shelf", "line 2", "refusal 17: "),
+    ("", "tick\n", "a.shelf", "line 1", "refusal 5: "),
+    ("70\n", "tick\n", "a.shelf", "line 1", "the line ends, expected the name of a part"),
+    (TWO, "tick\nsing\n", "a.script", "line 2", "'sing', expected at, place"),
+];
+
+/// Events that are refused: the script, the place, and what is said.
+const EVENTS: [(&str, &str, &str); 3] = [
+    ("tick\nat 75 stop 0\n", "line 2, event 2", "refusal 18: no device has address 75h"),
+    (
+        "tick 3\nat 71 stop 0\n",
+        "line 2, event 4",
+        "place 1, address 71h: refused 4: out of sequence",
+    ),
+    (
+        "tick\nraw FF 00 00 00\nat 71 stop 0\n",
+        "line 2, event 2",
+        "refused 2: unknown kind, and 1 event more",
+    ),
+];
+
 /// A shelf: what is none, a script that cannot be read, events that are refused, and a place that waits.
 #[test]
 fn a_shelf_has_its_reasons() {
-    let two = "70 PCA9641\n71 TPT29641\n";
     let asks = |m: usize, rt: &str| {
         format!("at 71 command {m} 03\nat 71 write {m} {rt}\nat 71 stop {m}\nat 71 command {m} 01\nat 71 write {m} 05\nat 71 stop {m}\n")
     };
     let both = [asks(0, "50"), asks(1, "14"), "tick 90\n".to_string()].concat();
-    let cases = [
-        (
-            "70 PCA9641\n70 PCA9641\n",
-            "tick\n",
-            Rank::FileRefused,
-            "a.shelf",
-            Some("line 2"),
-            "refusal 17: ",
-        ),
-        ("", "tick\n", Rank::FileRefused, "a.shelf", Some("line 1"), "refusal 5: "),
-        (
-            "70\n",
-            "tick\n",
-            Rank::FileRefused,
-            "a.shelf",
-            Some("line 1"),
-            "the line ends, expected the name of a part",
-        ),
-        (
-            two,
-            "tick\nsing\n",
-            Rank::FileRefused,
-            "a.script",
-            Some("line 2"),
-            "'sing', expected at, place",
-        ),
-        (
-            two,
-            "tick\nat 75 stop 0\n",
-            Rank::EventRefused,
-            "a.script",
-            Some("line 2, event 2"),
-            "refusal 18: no device has address 75h",
-        ),
-        (
-            two,
-            "tick 3\nat 71 stop 0\n",
-            Rank::EventRefused,
-            "a.script",
-            Some("line 2, event 4"),
-            "place 1, address 71h: refused 4: out of sequence",
-        ),
-        (
-            two,
-            "tick\nraw FF 00 00 00\nat 71 stop 0\n",
-            Rank::EventRefused,
-            "a.script",
-            Some("line 2, event 2"),
-            "refused 2: unknown kind, and 1 event more",
-        ),
-        (
-            two,
-            &both,
-            Rank::WaitsLonger,
-            "a.script",
-            Some("place 1, address 71h, controller 1"),
-            "Controller 1 waits 79 ms there",
-        ),
-    ];
-    for (shelf, script, rank, file, place, words) in cases {
-        let examined = judged(with_shelf(shelf, script));
-        assert_eq!(ranks(&examined), [rank], "{}", told(&examined));
-        let reason = &examined.reasons[0];
-        assert_eq!((reason.file.as_str(), reason.place.as_deref()), (file, place));
-        assert!(reason.what.contains(words), "{}", reason.what);
+    let place = "place 1, address 71h, controller 1";
+    one_reason(
+        TWO,
+        &both,
+        Rank::WaitsLonger,
+        ("a.script", place),
+        "Controller 1 waits 79 ms there",
+    );
+    for (shelf, script, file, place, words) in UNREAD {
+        one_reason(shelf, script, Rank::FileRefused, (file, place), words);
     }
+    for (script, place, words) in EVENTS {
+        one_reason(TWO, script, Rank::EventRefused, ("a.script", place), words);
+    }
+}
+
+/// This shelf with this script has one reason, of this rank, at this place of this file, with these words.
+fn one_reason(shelf: &str, script: &str, rank: Rank, at: (&str, &str), words: &str) {
+    let examined = judged(with_shelf(shelf, script));
+    assert_eq!(ranks(&examined), [rank], "{}", told(&examined));
+    let reason = &examined.reasons[0];
+    assert_eq!((reason.file.as_str(), reason.place.as_deref()), (at.0, Some(at.1)));
+    assert!(reason.what.contains(words), "{}", reason.what);
 }

@@ -54,40 +54,41 @@ fn a_bare_0_is_no_reserve() {
 const A_RESERVE: &str = "a whole number of ms in decimal, 1 to 255, or without limit, or empty";
 
 /// What else is no reserve.
+const NO_RESERVES: [&str; 29] = [
+    "256",
+    "300",
+    "1000",
+    "99999999999999999999",
+    "-1",
+    "+50",
+    "0.5",
+    "50.0",
+    "5e1",
+    "5 s",
+    "5s",
+    "2 min",
+    "fifty",
+    "no limit",
+    "without",
+    "limit",
+    "without limits",
+    "withoutlimit",
+    "unlimited",
+    "none",
+    "-",
+    "?",
+    "٥٠",
+    "h",
+    "0x100",
+    "ms",
+    "300 ms",
+    "50, please",
+    "empty: 5",
+];
+
 #[test]
 fn a_reserve_is_told_with_what_was_expected() {
-    let no_reserves = [
-        "256",
-        "300",
-        "1000",
-        "99999999999999999999",
-        "-1",
-        "+50",
-        "0.5",
-        "50.0",
-        "5e1",
-        "5 s",
-        "5s",
-        "2 min",
-        "fifty",
-        "no limit",
-        "without",
-        "limit",
-        "without limits",
-        "withoutlimit",
-        "unlimited",
-        "none",
-        "-",
-        "?",
-        "٥٠",
-        "h",
-        "0x100",
-        "ms",
-        "300 ms",
-        "50, please",
-        "empty: 5",
-    ];
-    for value in no_reserves {
+    for value in NO_RESERVES {
         assert_eq!(said_of(0, value), format!("'{value}', expected {A_RESERVE}"));
     }
     let unit = "alone: the box is in ms, and a value has no unit";

@@ -140,11 +140,8 @@ fn what_is_not_in_the_row_is_told() {
     assert_eq!(answers, ["0000000C", "12000000", "12000000", "0000200C", "0000250C"]);
 }
 
-/// An event that a device refuses, with 2, 3 or 4, is told with its line, its place and why; one that
-/// reaches all is refused at each.
-#[test]
-fn what_a_device_refuses_is_told() {
-    let cases = [
+/// Scripts with events that are refused, and what is told of each.
+const REFUSED: [(&str, &str); 6] = [
         (
             "tick\nat 71 write 0 01",
             "a.script, line 2, event 2: refused 4: out of sequence (at place 1, address 71h)",
@@ -168,15 +165,20 @@ fn what_a_device_refuses_is_told() {
             "at 7F stop 0\nat 71 stop 0",
             "a.script, line 1, event 1: refusal 18: no device has address 7Fh (and 1 event more)",
         ),
-    ];
-    for (script, expected) in cases {
+];
+
+/// An event that a device refuses, with 2, 3 or 4, is told with its line, its place and why; one that
+/// reaches all is refused at each.
+#[test]
+fn what_a_device_refuses_is_told() {
+    for (script, expected) in REFUSED {
         for list in [false, true] {
             let made = made(CHASSIS, script, list);
             assert_eq!(made.refused.as_deref(), Some(expected), "{script}");
             assert!(made.output.is_some());
         }
     }
-    let text = String::from_utf8(made(CHASSIS, cases[1].0, false).output.unwrap()).unwrap();
+    let text = String::from_utf8(made(CHASSIS, REFUSED[1].0, false).output.unwrap()).unwrap();
     let lines = "\nRefused by the device that it reaches, and changing nothing there:\n    \
                  event 1, line 1, at 72 raw 00 02 01 00: refused 3: field out of range (at place 2, address \
                  72h)\n    event 2, line 2, at 70 stop 1: refused 4: out of sequence (at place 0, address \
@@ -254,6 +256,15 @@ fn random(rng: &mut Rng) -> (String, Vec<Named>) {
     (shelf, events)
 }
 
+/// An event with this name reaches the device of this place and address.
+fn is_for(name: Name, place: usize, address: u8) -> bool {
+    match name {
+        Name::Address(named) => named == address,
+        Name::Place(named) => usize::from(named) == place,
+        Name::All => true,
+    }
+}
+
 /// Each answer, and all that is told of each place, against devices of the independent model that are
 /// given the events that reach them.
 #[test]
@@ -271,12 +282,7 @@ fn shelves_are_the_models() {
         for (number, (named, answer)) in shelved.answered.iter().enumerate() {
             let mut expected = None;
             for (place, device) in devices.iter_mut().enumerate() {
-                let here = match named.name {
-                    Name::Address(address) => slots[place].address == address,
-                    Name::Place(named) => usize::from(named) == place,
-                    Name::All => true,
-                };
-                if here {
+                if is_for(named.name, place, slots[place].address) {
                     let answer = device.step(named.event.bytes());
                     let step = told[place].next().unwrap();
                     assert_eq!((step.number, step.answer), (number + 1, answer.into()));

@@ -79,41 +79,37 @@ fn without_a_read_it_is_1() {
     assert!(told(&other).contains(none), "{}", told(&other));
 }
 
+/// What stands after the command, and what is said of it. The first two name no device or no part.
+const WRONG: [(&[&str], &str); 12] = [
+    (&[RIGHT], "watch needs the device: --address, or --pins; gunwaleish watch --help"),
+    (
+        &[RIGHT, "--address", "71"],
+        "watch needs the part: --part PCA9641 or --part TPT29641; a kind",
+    ),
+    (
+        &[RIGHT, "--samplerate", "fast"],
+        "'fast' is no rate, expected one such as 1M or 500k; gunwaleish",
+    ),
+    (&[RIGHT, "--samplerate", "32768"], "at 32768 Hz a millisecond is no whole number of samples"),
+    (&[RIGHT], "does not say how many samples a second there are, and a TICK is a millisecond"),
+    (&[RIGHT, "--samplerate", "1M", "--channels", "a,b,c,d"], "has one byte a sample and no names"),
+    (&[RIGHT, "--channels", "a"], "--channels needs the names of SCL0, SDA0, SCL1, SDA1"),
+    (&[RIGHT, "--follow", "x"], "'x' is no number of seconds; gunwaleish watch --help"),
+    (
+        &[RIGHT, "--sheets", "sheets/board.sheet"],
+        "--sheets needs the names of the board sheet and the",
+    ),
+    (&[RIGHT, "--csv", "--json"], "--csv and --json are both there; gunwaleish watch --help"),
+    (
+        &[RIGHT, "-o", "x"],
+        "watch writes no file: what it tells goes to standard output; gunwaleish",
+    ),
+    (&["traces/none", "--samplerate", "1M"], "traces/none cannot be read: "),
+];
+
 #[test]
 fn wrong_use_is_2() {
-    let cases: [(&[&str], &str); 12] = [
-        (&[RIGHT], "watch needs the device: --address, or --pins; gunwaleish watch --help"),
-        (
-            &[RIGHT, "--address", "71"],
-            "watch needs the part: --part PCA9641 or --part TPT29641; a kind",
-        ),
-        (
-            &[RIGHT, "--samplerate", "fast"],
-            "'fast' is no rate, expected one such as 1M or 500k; gunwaleish",
-        ),
-        (
-            &[RIGHT, "--samplerate", "32768"],
-            "at 32768 Hz a millisecond is no whole number of samples",
-        ),
-        (&[RIGHT], "does not say how many samples a second there are, and a TICK is a millisecond"),
-        (
-            &[RIGHT, "--samplerate", "1M", "--channels", "a,b,c,d"],
-            "has one byte a sample and no names",
-        ),
-        (&[RIGHT, "--channels", "a"], "--channels needs the names of SCL0, SDA0, SCL1, SDA1"),
-        (&[RIGHT, "--follow", "x"], "'x' is no number of seconds; gunwaleish watch --help"),
-        (
-            &[RIGHT, "--sheets", "sheets/board.sheet"],
-            "--sheets needs the names of the board sheet and the",
-        ),
-        (&[RIGHT, "--csv", "--json"], "--csv and --json are both there; gunwaleish watch --help"),
-        (
-            &[RIGHT, "-o", "x"],
-            "watch writes no file: what it tells goes to standard output; gunwaleish",
-        ),
-        (&["traces/none", "--samplerate", "1M"], "traces/none cannot be read: "),
-    ];
-    for (place, (words, expected)) in cases.into_iter().enumerate() {
+    for (place, (words, expected)) in WRONG.into_iter().enumerate() {
         let device: &[&str] = if place < 2 { &[] } else { &AS_FITTED };
         let output = run(&[&["watch"], device, words].concat());
         assert_eq!(
@@ -160,23 +156,30 @@ fn all_forms_say_the_same() {
         (code(&piped), told(&piped).replace("standard input", "NAME")),
         (1, expected.clone())
     );
+    sessions_say_the_same(&folder, &raw, of_tick, &expected);
+}
+
+/// The same of a session of these samples, and of what sigrok-cli writes of them.
+fn sessions_say_the_same(folder: &Folder, raw: &str, of_tick: u64, expected: &str) {
     let session = folder.path("a.sr");
     let format = format!("binary:numchannels=8:samplerate={}", 1000 * of_tick);
-    let made =
-        Command::new("sigrok-cli").args(["-I", &format, "-i", &raw, "-o", &session]).output();
+    let made = Command::new("sigrok-cli").args(["-I", &format, "-i", raw, "-o", &session]).output();
     if made.is_err() {
         return println!("skipped: sigrok-cli is not installed");
     }
     // The channels have numbers, and the rate is in the session.
     let channels = ["--channels", "0,1,2,3,4,5,6"];
     let output = run(&[&["watch", &session], &AS_FITTED[..4], &channels[..]].concat());
-    assert_eq!((code(&output), told(&output).replace(&session, "NAME")), (1, expected.clone()));
+    assert_eq!((code(&output), told(&output).replace(&session, "NAME")), (1, expected.to_string()));
     let line = format!(
         "sigrok-cli -I {format} -i {raw} -O binary | {BUILT} watch {}",
         AS_FITTED.join(" ")
     );
     let piped = shell(&line);
-    assert_eq!((code(&piped), told(&piped).replace("standard input", "NAME")), (1, expected));
+    assert_eq!(
+        (code(&piped), told(&piped).replace("standard input", "NAME")),
+        (1, expected.to_string())
+    );
 }
 
 #[test]
