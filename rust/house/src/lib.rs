@@ -4,17 +4,22 @@
 //! [`sentence_faults`] tells of names in `docs/SENTENCES.md` that are not there, and [`rule_faults`] of such in `docs/RULES.md`.
 //! [`definition_faults`] tells of files of definitions that `docs/DEFINITIONS.md` does not have, in reading order and with their counts of lines.
 //! [`map_faults`] tells what README's map lacks, and [`link_faults`] what pages name that is not there. [`version_faults`] tells of places with
-//! another version than the file VERSION has.
+//! another version than the file VERSION has. [`circles`] tells of Rust files that use each other in a circle, and [`long_functions`] of functions
+//! that are too long.
 
 mod arrows;
 mod calls;
+mod circles;
+mod code;
 mod definitions;
 mod edits;
 mod flows;
 mod groups;
 mod image;
+mod lengths;
 mod links;
 mod map;
+mod modules;
 mod names;
 mod picture;
 mod plan;
@@ -29,9 +34,11 @@ mod tables;
 mod tree;
 mod version;
 
+pub use circles::circles;
 pub use definitions::{counted, definition_faults, DEFINITIONS};
 pub use groups::CRATES;
 pub use image::{image_faults, LAYOUT, PAGE};
+pub use lengths::{long_functions, LONGEST};
 pub use links::link_faults;
 pub use map::{map_faults, CONTRIBUTING, INDEX, README};
 pub use picture::{house_picture, HOUSE};
