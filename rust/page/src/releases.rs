@@ -120,7 +120,7 @@ fn json(examined: &Examined) -> Value {
         ("reasons", examined.reasons.iter().map(reason).collect::<Vec<_>>().into()),
         ("allowed", allowed.into()),
         ("found", words::found(&examined.bundle).into()),
-        ("order", examined.order.as_ref().ok().map_or(Value::Null, as_json)),
+        ("order", examined.pair.as_ref().ok().map_or(Value::Null, as_json)),
         ("bench", examined.bench.iter().map(bench).collect::<Vec<_>>().into()),
     ])
 }

@@ -7,9 +7,9 @@ use gunwaleish_tool::device::device_of;
 use gunwaleish_tool::files::Input;
 use gunwaleish_tool::form::{choices, EMPTY, RESERVES};
 use gunwaleish_tool::json::{object, Value};
-use gunwaleish_tool::order::warnings::warnings;
-use gunwaleish_tool::order::{lasting, waits, words, BoxName, Order, Waiting};
 use gunwaleish_tool::release::page::waits::proved_by;
+use gunwaleish_tool::sheet::warnings::warnings;
+use gunwaleish_tool::sheet::{lasting, waits, words, BoxName, Pair, Waiting};
 
 use crate::fields::{Answer, Request};
 use crate::traces::{answer, unnamed};
@@ -26,16 +26,16 @@ fn pair(request: &Request, board: usize, house: usize) -> [Input; 2] {
 pub fn told(request: &Request) -> Answer {
     let [board, house] = pair(request, 2, 3);
     let made = sheet::sheet(&board, &house, Wanted::Words);
-    let Ok(order) = Order::read(&board.bytes, &house.bytes) else {
+    let Ok(pair) = Pair::read(&board.bytes, &house.bytes) else {
         return answer(&board.name, made);
     };
     let why = made.refused.unwrap_or_default();
-    Answer::ok(made.output.unwrap_or_default()).and(as_json(&order).to_string()).and(why)
+    Answer::ok(made.output.unwrap_or_default()).and(as_json(&pair).to_string()).and(why)
 }
 
 /// What is ordered, promised and warned of.
-pub fn as_json(order: &Order) -> Value {
-    let boxes: Vec<Value> = order
+pub fn as_json(pair: &Pair) -> Value {
+    let boxes: Vec<Value> = pair
         .entries
         .iter()
         .map(|entry| {
@@ -49,19 +49,19 @@ pub fn as_json(order: &Order) -> Value {
                 ("controller", entry.name.controller.number().into()),
                 ("value", entry.found.map(|found| found.value).into()),
                 ("from", from.into()),
-                ("words", words::meaning(order, entry).into()),
+                ("words", words::meaning(pair, entry).into()),
             ])
         })
         .collect();
-    let warned: Vec<String> = warnings(order).iter().map(ToString::to_string).collect();
-    let holds = waits::are_bounded(order).then_some(waits::HOLDS);
+    let warned: Vec<String> = warnings(pair).iter().map(ToString::to_string).collect();
+    let holds = waits::are_bounded(pair).then_some(waits::HOLDS);
     object([
-        ("complete", (order.empty().count() == 0).into()),
+        ("complete", (pair.empty().count() == 0).into()),
         ("boxes", boxes.into()),
-        ("waits", order.waits.iter().map(promise).collect::<Vec<_>>().into()),
+        ("waits", pair.waits.iter().map(promise).collect::<Vec<_>>().into()),
         ("warnings", warned.into()),
         ("holds", holds.into()),
-        ("lasting", lasting::told(order).into()),
+        ("lasting", lasting::told(pair).into()),
     ])
 }
 

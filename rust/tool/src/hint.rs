@@ -6,11 +6,11 @@ use gunwaleish::{convert_trace, run_trace, Pins, Sheet, MOST_EVENTS, SHEET_LENGT
 
 use crate::files::Input;
 use crate::form;
-use crate::order::faults::fault;
 use crate::samples::form::VCD;
 use crate::script::{each_line, Unread, Words};
 use crate::seen::Seen;
 use crate::share::kept;
+use crate::sheet::faults::fault;
 
 /// What a file can be.
 #[derive(Clone, Copy, Debug, PartialEq, Eq)]

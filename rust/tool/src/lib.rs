@@ -5,7 +5,7 @@
 //! with the model beside the chip.
 //!
 //! Every answer comes from the proved library. What is here is words and pictures: `story` follows
-//! a run and says what changed, `stuck` why one still waits at its end, `diff` where two runs part, `order`
+//! a run and says what changed, `stuck` why one still waits at its end, `diff` where two runs part, `sheet`
 //! says what is on two sheets, `form` has the text of one, `startup` how the orders of two scripts end,
 //! `shelf` what happens at each place of a shelf, `share` how the bus was shared, `release` whether a bundle
 //! is safe by all of that, `watch` what differs on a bus that is listened to, and `picture` draws. `commands` has a file for each subcommand; the help, `manual`
@@ -33,7 +33,6 @@ pub mod json;
 pub mod manual;
 pub mod many;
 pub mod options;
-pub mod order;
 pub mod picture;
 pub mod release;
 pub mod samples;
@@ -41,6 +40,7 @@ pub mod script;
 pub mod seen;
 pub mod sha256;
 pub mod share;
+pub mod sheet;
 pub mod shelf;
 pub mod startup;
 pub mod story;

@@ -9,10 +9,10 @@ use bundles::{
 };
 use gunwaleish::{write_trace, Event, Master, Part};
 use gunwaleish_tool::form::write;
-use gunwaleish_tool::order::BoxName;
 use gunwaleish_tool::release::judge::examine;
 use gunwaleish_tool::release::words::{told, verdict};
 use gunwaleish_tool::release::{Asked, Bundle, Examined, Rank};
+use gunwaleish_tool::sheet::BoxName;
 
 #[test]
 fn a_good_bundle_is_released() {
@@ -200,7 +200,7 @@ fn what_is_no_sheet_is_told_by_its_byte() {
     assert!(board.what.starts_with("It is no board sheet: refusal 5: "), "{}", board.what);
     assert_eq!((house.file.as_str(), house.place.as_deref()), ("h.sheet", Some("byte 11")));
     assert!(house.what.starts_with("It is no house sheet: refusal 3: "), "{}", house.what);
-    assert!(examined.order.is_err() && verdict(&examined) == "NOT RELEASED: 2 reasons");
+    assert!(examined.pair.is_err() && verdict(&examined) == "NOT RELEASED: 2 reasons");
 }
 
 /// All reasons at once: each is told, the worst first, and each by its number in the text.

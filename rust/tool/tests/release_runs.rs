@@ -8,11 +8,11 @@ use bundles::{
     with_trace, GOOD, OPEN,
 };
 use gunwaleish::{Event, Master, Part, Section};
-use gunwaleish_tool::order::BoxName;
 use gunwaleish_tool::release::judge::examine;
 use gunwaleish_tool::release::words::told;
 use gunwaleish_tool::release::{Asked, Bundle, Rank};
 use gunwaleish_tool::script::write_script;
+use gunwaleish_tool::sheet::BoxName;
 
 /// The packer of the incident wrote 00h, whatever the sheet says. Any other value than is ordered is
 /// caught, box by box, on either part.

@@ -7,7 +7,7 @@ use gunwaleish_tool::commands::fill::fill;
 use gunwaleish_tool::commands::sheet::one;
 use gunwaleish_tool::files::Input;
 use gunwaleish_tool::form::{boxes_of, read, sheet_of, write, Boxes};
-use gunwaleish_tool::order::BoxName;
+use gunwaleish_tool::sheet::BoxName;
 use model::rng::Rng;
 use model::sheet::judge;
 

@@ -6,7 +6,7 @@ use std::collections::BTreeSet;
 use gunwaleish_tool::commands::fill::{fill, MOST_TEXT};
 use gunwaleish_tool::files::Input;
 use gunwaleish_tool::form::{read, sheet_of};
-use gunwaleish_tool::order::BoxName;
+use gunwaleish_tool::sheet::BoxName;
 use model::rng::Rng;
 
 const TEXT: &str = "\

@@ -3,8 +3,8 @@
 use gunwaleish::{sheet_wait, Master, Part, Section, Sheet};
 use gunwaleish_tool::commands::sheet::{sheet, Wanted};
 use gunwaleish_tool::files::Input;
-use gunwaleish_tool::order::warnings::{warnings, Warning};
-use gunwaleish_tool::order::{BoxName, Order, OPEN};
+use gunwaleish_tool::sheet::warnings::{warnings, Warning};
+use gunwaleish_tool::sheet::{BoxName, Pair, OPEN};
 use model::rng::Rng;
 use model::sheet::offset_of;
 use model::sheets::good_pair;
@@ -20,8 +20,8 @@ fn told(board: &[u8], house: &[u8]) -> (Vec<Warning>, Vec<String>) {
     let made = sheet(&input("a.sheet", board), &input("b.sheet", house), Wanted::Words);
     let text = String::from_utf8(made.output.unwrap()).unwrap();
     let lines = text.lines().filter(|line| line.starts_with("Warning, "));
-    let order = Order::read(board, house).unwrap();
-    (warnings(&order), lines.map(String::from).collect())
+    let pair = Pair::read(board, house).unwrap();
+    (warnings(&pair), lines.map(String::from).collect())
 }
 
 /// Each grade in words, the worst first, with the sheet on which the box to mend stands.

@@ -12,8 +12,8 @@ use crate::failure::Failure;
 use crate::files::{self, is_standard, Input};
 use crate::form;
 use crate::hint::{hint, Kind};
-use crate::order::{faults, words, Order};
 use crate::script::write_script;
+use crate::sheet::{faults, words, Pair};
 
 pub const COMMAND: Command = Command {
     name: "sheet",
@@ -151,17 +151,17 @@ pub fn sheet(board: &Input, house: &Input, wanted: Wanted) -> Made {
 
 /// What both sheets order, also if boxes are empty. Of what is no sheet there is nothing to say.
 fn order_in_words(board: &Input, house: &Input) -> Option<Vec<u8>> {
-    let order = Order::read(&board.bytes, &house.bytes).ok()?;
+    let pair = Pair::read(&board.bytes, &house.bytes).ok()?;
     let (board, house) = (&board.name, &house.name);
-    let told = words::told(&order);
+    let told = words::told(&pair);
     Some(format!("board sheet: {board}\nhouse sheet: {house}\n\n{told}").into())
 }
 
 /// Why a pair of sheets is refused: number and words, and the empty boxes by their names, or what is
 /// wrong at which byte of which sheet.
 fn refused(board: &Input, house: &Input, refusal: Refusal) -> String {
-    if let (Refusal::EmptyBox, Ok(order)) = (refusal, Order::read(&board.bytes, &house.bytes)) {
-        let empty: Vec<String> = order.empty().map(words::empty).collect();
+    if let (Refusal::EmptyBox, Ok(pair)) = (refusal, Pair::read(&board.bytes, &house.bytes)) {
+        let empty: Vec<String> = pair.empty().map(words::empty).collect();
         return format!("{}, {}: {refusal} ({})", board.name, house.name, empty.join("; "));
     }
     let sheets = [(board, Sheet::Board), (house, Sheet::House)];

@@ -10,9 +10,9 @@ use crate::command::{Command, Run};
 use crate::device::read_device;
 use crate::failure::Failure;
 use crate::files::{self, name_of};
-use crate::order::Order;
 use crate::release::bench::promised;
 use crate::samples::{read_all, read_path, tell_crowded, Said};
+use crate::sheet::Pair;
 use crate::table::Form;
 use crate::telling::complain;
 use crate::watch::following::Following;
@@ -117,11 +117,11 @@ fn promised_by(arguments: &Arguments) -> Result<[Option<u64>; 2], Failure> {
             board.name, house.name
         ))
     };
-    let order = Order::read(&board.bytes, &house.bytes).map_err(|why| refused(why.to_string()))?;
-    if order.empty().next().is_some() {
+    let pair = Pair::read(&board.bytes, &house.bytes).map_err(|why| refused(why.to_string()))?;
+    if pair.empty().next().is_some() {
         return Err(refused("a box is empty on both, so they promise nothing".to_string()));
     }
-    let promised = Master::BOTH.map(|master| promised(&order, master));
+    let promised = Master::BOTH.map(|master| promised(&pair, master));
     for master in Master::BOTH.into_iter().filter(|master| promised[*master as usize].is_none()) {
         complain(&format!(
             "the sheets promise controller {master} no wait behind a live holder; gunwaleish sheet tells why"

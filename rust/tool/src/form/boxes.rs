@@ -2,7 +2,7 @@
 
 use gunwaleish::{Refusal, SHEET_LENGTH};
 
-use crate::order::{faults, BoxName, Order, OPEN};
+use crate::sheet::{faults, BoxName, Pair, OPEN};
 
 /// What the six boxes of one sheet have, in the order in which a sheet has them; `None` is empty.
 pub type Boxes = [Option<u8>; 6];
@@ -22,9 +22,9 @@ pub fn sheet_of(boxes: Boxes) -> [u8; SHEET_LENGTH] {
 
 /// The boxes of a sheet. The library reads it, beside one that ticks nothing.
 pub fn boxes_of(sheet: &[u8]) -> Result<Boxes, Refusal> {
-    let order = Order::read(sheet, &OPEN)?;
+    let pair = Pair::read(sheet, &OPEN)?;
     let mut boxes = Boxes::default();
-    for (value, entry) in boxes.iter_mut().zip(&order.entries) {
+    for (value, entry) in boxes.iter_mut().zip(&pair.entries) {
         *value = entry.found.map(|found| found.value);
     }
     Ok(boxes)

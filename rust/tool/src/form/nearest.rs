@@ -1,6 +1,6 @@
 //! The name that a mistyped one is nearest to.
 
-use crate::order::BoxName;
+use crate::sheet::BoxName;
 
 /// The boxes with the fewest letters to be added, taken away or changed, several if they have equally
 /// few. None if that is more than half of them.

@@ -3,8 +3,8 @@
 use super::boxes::Boxes;
 use super::nearest::nearest;
 use super::values::value_of;
-use crate::order::BoxName;
 use crate::script::shown;
+use crate::sheet::BoxName;
 
 /// A typing error.
 #[derive(Clone, Debug, PartialEq, Eq)]

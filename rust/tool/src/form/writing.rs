@@ -4,8 +4,8 @@ use gunwaleish::{Master, Section};
 
 use super::boxes::Boxes;
 use super::values::{written, WITHOUT_LIMIT};
-use crate::order::words::idle_limits;
-use crate::order::BoxName;
+use crate::sheet::words::idle_limits;
+use crate::sheet::BoxName;
 
 const HEAD: &str = "\
 # One order sheet as text; gunwaleish fill makes the same sheet of it. No pair is judged here: gunwaleish sheet BOARD HOUSE does that.

@@ -7,8 +7,8 @@ use crate::commands::compose::MOST_TEXT;
 use crate::each;
 use crate::files::Input;
 use crate::hint::Kind;
-use crate::order::Order;
 use crate::script::named::{read_named, Named};
+use crate::sheet::Pair;
 use crate::shelf::file::{self, read_shelf};
 use crate::shelf::{run_over, words, Shelved, Slot};
 use crate::story::{Step, Story};
@@ -21,8 +21,8 @@ pub struct Benches {
     pub reasons: Vec<Reason>,
 }
 
-/// Looks at all of it. The order is what the sheets promise, if they promise anything.
-pub fn all(bundle: &Bundle, order: Option<&Order>) -> Benches {
+/// Looks at all of it, beside what the pair of sheets promises, if it promises anything.
+pub fn all(bundle: &Bundle, pair: Option<&Pair>) -> Benches {
     let mut all = Benches::default();
     for read in &bundle.traces {
         all.add_trace(read);
@@ -30,7 +30,7 @@ pub fn all(bundle: &Bundle, order: Option<&Order>) -> Benches {
     if let Some(shelf) = &bundle.shelf {
         all.add_shelf(shelf);
     }
-    let promised = Master::BOTH.map(|m| order.and_then(|order| promised(order, m)));
+    let promised = Master::BOTH.map(|m| pair.and_then(|pair| promised(pair, m)));
     let Benches { bench, reasons } = &mut all;
     for bench in bench {
         bench.longer = longer(bench, promised);
@@ -43,8 +43,8 @@ pub fn all(bundle: &Bundle, order: Option<&Order>) -> Benches {
 
 /// How long a controller waits at most by what is ordered for its partner, where that is promised behind
 /// a live one.
-pub fn promised(order: &Order, controller: Master) -> Option<u64> {
-    let waiting = order.waits.iter().find(|waiting| waiting.controller == controller)?;
+pub fn promised(pair: &Pair, controller: Master) -> Option<u64> {
+    let waiting = pair.waits.iter().find(|waiting| waiting.controller == controller)?;
     match waiting.on[0].1 {
         Wait::Live { ticks } => Some(ticks.into()),
         Wait::Silent { .. } | Wait::Unbounded => None,

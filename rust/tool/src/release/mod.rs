@@ -20,7 +20,7 @@ use std::path::PathBuf;
 use gunwaleish::{Master, Part, Refusal, Totals};
 
 use crate::hint::{hint_of, Kind};
-use crate::order::Order;
+use crate::sheet::Pair;
 use crate::startup::{Ending, Group, Scripts};
 
 /// A file that was read.
@@ -199,7 +199,7 @@ pub struct Examined {
     pub bundle: Bundle,
     pub asked: Asked,
     /// What the sheets order, also if boxes are empty; the refusal if one of them is no sheet.
-    pub order: Result<Order, Refusal>,
+    pub pair: Result<Pair, Refusal>,
     /// All orders of the start-up scripts, if they are there and can be tried.
     pub orders: Option<Orders>,
     /// The traces, and then the places of the shelf, script by script.

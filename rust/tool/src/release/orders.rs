@@ -5,8 +5,8 @@ use gunwaleish::{run, Master, Refusal, Section, MOST_SCRIPT};
 use super::{Bundle, Orders, Rank, Read, Reason};
 use crate::commands::compose::MOST_TEXT;
 use crate::hint::Kind;
-use crate::order::{BoxName, Order};
 use crate::script::{line_of, read_script, Script};
+use crate::sheet::{BoxName, Pair};
 use crate::startup::{words, Ending, Group, Left, Scripts};
 use crate::words::{capital, count, outcome};
 
@@ -92,15 +92,15 @@ fn no_orders(reads: &[Read; 2], scripts: &Scripts, refusal: Refusal) -> Vec<Reas
 }
 
 /// The reasons that stand in the orders, each with the place of its order in `endings`.
-pub fn reasons(bundle: &Bundle, orders: &Orders, order: Option<&Order>) -> Vec<(Reason, usize)> {
+pub fn reasons(bundle: &Bundle, orders: &Orders, pair: Option<&Pair>) -> Vec<(Reason, usize)> {
     let Some(reads) = &bundle.scripts else {
         return vec![];
     };
     let stuck = orders.groups.iter().filter(|group| group.first.is_stuck());
     let mut all: Vec<_> = stuck.map(|group| nobody_owns(reads, orders, group)).collect();
-    if let Some(order) = order {
+    if let Some(pair) = pair {
         let boxes =
-            BoxName::all().filter_map(|name| not_as_ordered(bundle, reads, orders, order, name));
+            BoxName::all().filter_map(|name| not_as_ordered(bundle, reads, orders, pair, name));
         all.extend(boxes);
     }
     all.extend(event_refused(reads, orders));
@@ -154,10 +154,10 @@ fn not_as_ordered(
     bundle: &Bundle,
     reads: &[Read; 2],
     orders: &Orders,
-    order: &Order,
+    pair: &Pair,
     name: BoxName,
 ) -> Option<(Reason, usize)> {
-    let ordered = order.value(name.section, name.controller)?;
+    let ordered = pair.value(name.section, name.controller)?;
     let left = |ending: &Ending| left_in(&ending.left[name.controller as usize], name.section);
     let other: Vec<&Ending> = orders.endings.iter().filter(|e| left(e) != ordered).collect();
     let first = other.first()?;

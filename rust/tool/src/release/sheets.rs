@@ -4,8 +4,8 @@ use gunwaleish::{Found, Master, Section, Sheet, Wait};
 
 use super::{Allowed, Asked, Bundle, Rank, Read, Reason};
 use crate::hint::{is_plain, Kind};
-use crate::order::warnings::{warnings, Warning};
-use crate::order::{faults, waits, BoxName, Order, Waiting};
+use crate::sheet::warnings::{warnings, Warning};
+use crate::sheet::{faults, waits, BoxName, Pair, Waiting};
 use crate::words::capital;
 
 /// What a sheet that is none is told with.
@@ -47,7 +47,7 @@ fn about(bundle: &Bundle, rank: Rank, name: BoxName, found: Option<Found>) -> Re
 }
 
 /// Each box that is ticked on neither sheet.
-pub fn empty_boxes(bundle: &Bundle, order: &Order) -> Vec<Reason> {
+pub fn empty_boxes(bundle: &Bundle, pair: &Pair) -> Vec<Reason> {
     let reason = |name: BoxName| {
         Reason {
         what: match name.section {
@@ -63,26 +63,26 @@ pub fn empty_boxes(bundle: &Bundle, order: &Order) -> Vec<Reason> {
         ..about(bundle, Rank::EmptyBox, name, None)
     }
     };
-    order.empty().map(reason).collect()
+    pair.empty().map(reason).collect()
 }
 
 /// The reserve box of a controller, and what is found in it.
-fn reserve_of(order: &Order, controller: Master) -> (BoxName, Option<Found>) {
+fn reserve_of(pair: &Pair, controller: Master) -> (BoxName, Option<Found>) {
     let name = BoxName { section: Section::Reserve, controller };
-    (name, order.entries.iter().find(|entry| entry.name == name).and_then(|entry| entry.found))
+    (name, pair.entries.iter().find(|entry| entry.name == name).and_then(|entry| entry.found))
 }
 
 /// True if this controller's reserve is a ticked 0, and was said to be so on purpose.
-fn is_allowed(order: &Order, asked: &Asked, controller: Master) -> bool {
-    asked.without_limit[controller as usize] && order.value(Section::Reserve, controller) == Some(0)
+fn is_allowed(pair: &Pair, asked: &Asked, controller: Master) -> bool {
+    asked.without_limit[controller as usize] && pair.value(Section::Reserve, controller) == Some(0)
 }
 
 /// The waits that are not bounded, or only behind a silent holder, unless that is on purpose.
-pub fn not_bounded(bundle: &Bundle, order: &Order, asked: &Asked) -> Vec<Reason> {
+pub fn not_bounded(bundle: &Bundle, pair: &Pair, asked: &Asked) -> Vec<Reason> {
     let reason = |warning: Warning| {
         let holder = warning.mend.controller;
         let rank = if warning.grade == 2 { Rank::SilentAlone } else { Rank::Unbounded };
-        let (name, found) = reserve_of(order, holder);
+        let (name, found) = reserve_of(pair, holder);
         let mend = format!(
             "{}. If controller {holder} is to keep the bus until it lets go, and on purpose, \
              --without-limit {holder} says so.",
@@ -91,22 +91,22 @@ pub fn not_bounded(bundle: &Bundle, order: &Order, asked: &Asked) -> Vec<Reason>
         let what = format!("{}.", capital(&warning.what()));
         Reason { what, mend, ..about(bundle, rank, name, found) }
     };
-    let all = warnings(order).into_iter();
-    all.filter(|one| !is_allowed(order, asked, one.mend.controller)).map(reason).collect()
+    let all = warnings(pair).into_iter();
+    all.filter(|one| !is_allowed(pair, asked, one.mend.controller)).map(reason).collect()
 }
 
 /// The promised waits that are above what is allowed.
-pub fn above_most(bundle: &Bundle, order: &Order, asked: &Asked) -> Vec<Reason> {
+pub fn above_most(bundle: &Bundle, pair: &Pair, asked: &Asked) -> Vec<Reason> {
     let reason = |waiting: &Waiting| {
         // What a reserve gives does not go by the part.
         let Wait::Live { ticks } = waiting.on[0].1 else {
             return None;
         };
         let (what, mend) = above(waiting, ticks.into(), asked.most?)?;
-        let (name, found) = reserve_of(order, waiting.controller.partner());
+        let (name, found) = reserve_of(pair, waiting.controller.partner());
         Some(Reason { what, mend, ..about(bundle, Rank::AboveMost, name, found) })
     };
-    order.waits.iter().filter_map(reason).collect()
+    pair.waits.iter().filter_map(reason).collect()
 }
 
 /// That a promised wait is above the most that is allowed, if it is.
@@ -126,10 +126,10 @@ fn above(waiting: &Waiting, ticks: u64, most: u64) -> Option<(String, String)> {
 }
 
 /// The reserves without limit that are there on purpose, with what the partner is promised then.
-pub fn allowed(order: &Order, asked: &Asked) -> Vec<Allowed> {
+pub fn allowed(pair: &Pair, asked: &Asked) -> Vec<Allowed> {
     let behind =
-        |holder: Master| order.waits.iter().find(|wait| wait.controller == holder.partner());
-    let holders = Master::BOTH.into_iter().filter(|&m| is_allowed(order, asked, m));
+        |holder: Master| pair.waits.iter().find(|wait| wait.controller == holder.partner());
+    let holders = Master::BOTH.into_iter().filter(|&m| is_allowed(pair, asked, m));
     holders
         .filter_map(|m| Some(Allowed { controller: m, what: waits::in_words(behind(m)?) }))
         .collect()
@@ -137,9 +137,9 @@ pub fn allowed(order: &Order, asked: &Asked) -> Vec<Allowed> {
 
 /// The reserves that were said to be without limit, and are not. An option that stays in a command
 /// line would let the next accident pass.
-pub fn not_without_limit(bundle: &Bundle, order: &Order, asked: &Asked) -> Vec<Reason> {
+pub fn not_without_limit(bundle: &Bundle, pair: &Pair, asked: &Asked) -> Vec<Reason> {
     let reason = |controller: Master| {
-        let (name, found) = reserve_of(order, controller);
+        let (name, found) = reserve_of(pair, controller);
         let is = match found.map(|found| found.value) {
             Some(0) => return None,
             Some(value) => format!("{value} ms is ordered"),

@@ -5,7 +5,7 @@ use super::{Bundle, Rank, Read, Reason};
 use crate::commands::fill::MOST_TEXT;
 use crate::form::{self, written, Boxes, Mistake};
 use crate::hint::Kind;
-use crate::order::BoxName;
+use crate::sheet::BoxName;
 
 /// Each box in which a sheet is not what the text beside it says. Of what is no sheet `sheets` tells.
 pub fn other_texts(bundle: &Bundle) -> Vec<Reason> {

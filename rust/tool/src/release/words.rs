@@ -3,9 +3,9 @@
 use gunwaleish::{Master, Totals, Wait};
 
 use super::{bench, orders, Allowed, Bench, Bundle, Examined, Read, Reason};
-use crate::order::{waits, words, Order, Waiting};
 use crate::share::words::table;
 use crate::share::Counted;
+use crate::sheet::{waits, words, Pair, Waiting};
 use crate::words::count;
 
 /// The whole text: what was found, what is ordered and promised, what the bench shows, and the verdict.
@@ -90,18 +90,18 @@ fn some_of(names: &[&str]) -> String {
 
 /// The boxes, and how long each controller can wait.
 fn ordered(examined: &Examined) -> String {
-    let Ok(order) = &examined.order else {
+    let Ok(pair) = &examined.pair else {
         return String::new();
     };
     let mut all = vec![];
-    if !order.waits.is_empty() {
+    if !pair.waits.is_empty() {
         all.push(
             "\nHow long each can wait for the bus after the start, at every handover:".to_string(),
         );
-        all.extend(order.waits.iter().map(waits::in_words));
-        all.extend(waits::are_bounded(order).then(|| waits::HOLDS.to_string()));
+        all.extend(pair.waits.iter().map(waits::in_words));
+        all.extend(waits::are_bounded(pair).then(|| waits::HOLDS.to_string()));
     }
-    format!("{}{}", words::boxes(order), lines(&all))
+    format!("{}{}", words::boxes(pair), lines(&all))
 }
 
 /// What the bench shows: the share of the traces, and the longest waits at each place of the shelf.
@@ -160,8 +160,8 @@ fn longest(bench: &Bench) -> String {
 
 /// Whose waits on the bench cannot be held against a promise.
 fn not_judged(examined: &Examined) -> Option<String> {
-    let order = examined.order.as_ref().ok();
-    let promises = |m: Master| order.and_then(|order| bench::promised(order, m)).is_some();
+    let pair = examined.pair.as_ref().ok();
+    let promises = |m: Master| pair.and_then(|pair| bench::promised(pair, m)).is_some();
     let without: Vec<String> = Master::BOTH
         .into_iter()
         .filter(|&m| !promises(m))
@@ -193,7 +193,7 @@ pub fn on_purpose(allowed: &[Allowed]) -> String {
 
 /// What is promised to each controller, in short.
 pub fn promises(examined: &Examined) -> String {
-    let waits = examined.order.as_ref().map_or(&[][..], |order: &Order| &order.waits);
+    let waits = examined.pair.as_ref().map_or(&[][..], |pair: &Pair| &pair.waits);
     let short = |waiting: &Waiting| {
         let holder = waiting.controller.partner();
         match waiting.on[0].1 {

@@ -70,8 +70,8 @@ fn table(examined: &Examined) -> String {
 
 /// What the sheets promise a controller behind a live one.
 fn most(examined: &Examined, controller: Master) -> String {
-    let order = examined.order.as_ref().ok();
-    let most = order.and_then(|order| promised(order, controller));
+    let pair = examined.pair.as_ref().ok();
+    let most = pair.and_then(|pair| promised(pair, controller));
     most.map_or("nothing".to_string(), |most| format!("at most {most}"))
 }
 

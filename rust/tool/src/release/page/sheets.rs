@@ -5,8 +5,8 @@ use gunwaleish::{sheet_box, Found, Refusal, Section, Sheet};
 
 use super::html::{paragraph, section, Cell, Table};
 use super::statements::{self, Statement};
-use crate::order::{lasting, BoxName, OPEN};
 use crate::release::Examined;
+use crate::sheet::{lasting, BoxName, OPEN};
 use crate::svg::escaped;
 
 pub fn written(examined: &Examined) -> String {
@@ -104,10 +104,10 @@ impl Row {
 
 /// The boxes that do not last, and the bytes that keep them.
 fn lasting(examined: &Examined) -> String {
-    let Ok(order) = &examined.order else {
+    let Ok(pair) = &examined.pair else {
         return String::new();
     };
-    let told = lasting::told(order);
+    let told = lasting::told(pair);
     let mut lines = told.lines();
     let first = lines.next().map_or(String::new(), paragraph);
     first + &super::html::list(&lines.map(str::to_string).collect::<Vec<_>>())

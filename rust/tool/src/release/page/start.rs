@@ -5,8 +5,8 @@ use gunwaleish::{sheet_events, write_trace, Event, Master, Part, Pins, Refusal, 
 use super::figure::figure;
 use super::html::{paragraph, section};
 use super::statements::{self, Statement};
-use crate::order::Order;
 use crate::release::Examined;
+use crate::sheet::Pair;
 use crate::startup::PART;
 use crate::story::{follow, idle_limit, Change, Story};
 use crate::words::ticks;
@@ -17,24 +17,24 @@ const WITHOUT_END: usize = 300;
 const AFTER: usize = 5;
 
 pub fn written(examined: &Examined) -> String {
-    let body = match &examined.order {
-        Ok(order) if order.waits.is_empty() => {
+    let body = match &examined.pair {
+        Ok(pair) if pair.waits.is_empty() => {
             paragraph("The sheets are not complete and order no events: there is no start to draw.")
         }
-        Ok(order) => drawn(examined, order)
+        Ok(pair) => drawn(examined, pair)
             .unwrap_or_else(|refusal| paragraph(&format!("The start cannot be drawn: {refusal}."))),
         Err(_) => paragraph("One of the two is no order sheet: there is no start to draw."),
     };
     section("start", "The start", &body)
 }
 
-fn drawn(examined: &Examined, order: &Order) -> Result<String, Refusal> {
+fn drawn(examined: &Examined, pair: &Pair) -> Result<String, Refusal> {
     let bundle = &examined.bundle;
     let mut events = sheet_events(&bundle.board.bytes, &bundle.house.bytes)?.to_vec();
-    events.extend(vec![Event::Tick; how_many(order, part(examined))]);
+    events.extend(vec![Event::Tick; how_many(pair, part(examined))]);
     // The pins bear on no answer.
     let story = follow(&write_trace(Pins::default(), part(examined), &events)?)?;
-    Ok(figure(&story, &caption(&story)) + &statements::listed(&proofs(order)))
+    Ok(figure(&story, &caption(&story)) + &statements::listed(&proofs(pair)))
 }
 
 /// The part of the start-up scripts, or the one on which orders are listed. It bears on the start only where
@@ -44,14 +44,14 @@ fn part(examined: &Examined) -> Part {
 }
 
 /// Controller 0's reserve and idle timer, which decide how long controller 1 waits first.
-fn of_first(order: &Order) -> (u8, u8) {
-    let value = |section| order.value(section, Master::Zero).unwrap_or(0);
+fn of_first(pair: &Pair) -> (u8, u8) {
+    let value = |section| pair.value(section, Master::Zero).unwrap_or(0);
     (value(Section::Reserve), value(Section::Idle))
 }
 
 /// So many ticks show the turn of controller 1, if it comes.
-fn how_many(order: &Order, part: Part) -> usize {
-    match of_first(order) {
+fn how_many(pair: &Pair, part: Part) -> usize {
+    match of_first(pair) {
         (0, 0) => WITHOUT_END,
         (0, _) => idle_limit(part) + AFTER,
         (reserve, _) => usize::from(reserve) + AFTER,
@@ -76,8 +76,8 @@ fn caption(story: &Story) -> String {
     )
 }
 
-fn proofs(order: &Order) -> [&'static Statement; 2] {
-    let turn = match of_first(order) {
+fn proofs(pair: &Pair) -> [&'static Statement; 2] {
+    let turn = match of_first(pair) {
         (0, 0) => &statements::HELD_UNTIL_LET_GO,
         (0, _) => &statements::IDLE_TIMER_EXACT,
         _ => &statements::PAIR_IN_TIME,

@@ -4,12 +4,12 @@ use gunwaleish::{Part, Wait};
 
 use super::html::{code, paragraph, section, Cell, Table};
 use super::statements::{self, Statement};
-use crate::order::{waits, Order, Waiting};
 use crate::release::Examined;
+use crate::sheet::{waits, Pair, Waiting};
 
 pub fn written(examined: &Examined) -> String {
-    let body = match &examined.order {
-        Ok(order) if !order.waits.is_empty() => promised(order),
+    let body = match &examined.pair {
+        Ok(pair) if !pair.waits.is_empty() => promised(pair),
         Ok(_) => paragraph(
             "None: a box is empty on both sheets, so the sheets order nothing and promise nothing.",
         ) + &statements::listed(&[&statements::EMPTY_NO_EVENTS]),
@@ -18,23 +18,23 @@ pub fn written(examined: &Examined) -> String {
     section("waits", "Promised waits", &body)
 }
 
-fn promised(order: &Order) -> String {
+fn promised(pair: &Pair) -> String {
     let mut heads = vec!["Who waits".to_string(), "What is promised".to_string()];
     heads.extend(Part::BOTH.map(|part| format!("On a {part}")));
     heads.extend(["Grade".to_string(), "Proved by".to_string()]);
     let mut table = Table::new("waits", &heads.iter().map(String::as_str).collect::<Vec<_>>());
-    for waiting in &order.waits {
+    for waiting in &pair.waits {
         row(&mut table, waiting);
     }
     table
         .finish("How long each controller can wait for the bus, at every handover. A tick is 1 ms.")
-        + &holds(order)
-        + &statements::listed(&proofs(order))
+        + &holds(pair)
+        + &statements::listed(&proofs(pair))
 }
 
 /// What the figures hold for, if there are any.
-fn holds(order: &Order) -> String {
-    if waits::are_bounded(order) {
+fn holds(pair: &Pair) -> String {
+    if waits::are_bounded(pair) {
         return paragraph(waits::HOLDS);
     }
     String::new()
@@ -76,9 +76,9 @@ pub fn proved_by(wait: Wait) -> &'static [&'static Statement] {
 }
 
 /// All that is named in the table, each once, and what is said of every grade.
-fn proofs(order: &Order) -> Vec<&'static Statement> {
+fn proofs(pair: &Pair) -> Vec<&'static Statement> {
     let mut all = vec![&statements::WAIT_TELLS, &statements::BOUNDED_EXACTLY];
-    for waiting in &order.waits {
+    for waiting in &pair.waits {
         for statement in proved_by(waiting.on[0].1) {
             if !all.iter().any(|known| known.name == statement.name) {
                 all.push(statement);

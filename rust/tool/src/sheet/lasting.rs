@@ -3,7 +3,7 @@
 
 use gunwaleish::{Master, Section};
 
-use super::Order;
+use super::Pair;
 
 /// The CONTR byte that asks for the bus and connects: LOCK_REQ and BUS_CONNECT.
 const CONNECTS: u8 = 0x05;
@@ -12,9 +12,9 @@ const CONNECTS: u8 = 0x05;
 const IN_CONTR: [(Section, u8); 2] = [(Section::Priority, 0x80), (Section::Idle, 0x20)];
 
 /// A line for each controller with such a box ticked 1, and one before them; nothing if there is none.
-pub fn told(order: &Order) -> String {
+pub fn told(pair: &Pair) -> String {
     let lines: Vec<String> =
-        Master::BOTH.into_iter().filter_map(|controller| kept_by(order, controller)).collect();
+        Master::BOTH.into_iter().filter_map(|controller| kept_by(pair, controller)).collect();
     if lines.is_empty() {
         return String::new();
     }
@@ -26,8 +26,8 @@ pub fn told(order: &Order) -> String {
 }
 
 /// Which CONTR byte keeps the boxes of a controller when it connects.
-fn kept_by(order: &Order, controller: Master) -> Option<String> {
-    let on = |section| order.value(section, controller) == Some(1);
+fn kept_by(pair: &Pair, controller: Master) -> Option<String> {
+    let on = |section| pair.value(section, controller) == Some(1);
     let boxes = IN_CONTR.into_iter().filter(|&(section, _)| on(section));
     let (sections, bits): (Vec<&str>, Vec<u8>) =
         boxes.map(|(section, bit)| (section.name(), bit)).unzip();

@@ -1,4 +1,4 @@
-//! What is to be warned of in an order: a wait that nothing bounds, or that is bounded behind a silent
+//! What is to be warned of in a pair of sheets: a wait that nothing bounds, or that is bounded behind a silent
 //! controller alone.
 //!
 //! The library grades each wait, and here is how grades 2 and 3 are told wherever they are. A ticked
@@ -8,7 +8,7 @@ use std::fmt;
 
 use gunwaleish::{Master, Section, Sheet};
 
-use super::{BoxName, Order};
+use super::{BoxName, Pair};
 
 /// A wait without a bound behind a controller that lives.
 #[derive(Clone, Copy, Debug, PartialEq, Eq)]
@@ -53,18 +53,17 @@ impl fmt::Display for Warning {
 }
 
 /// All that is to be warned of, the worst first. Of a pair with an empty box there is no wait to grade.
-pub fn warnings(order: &Order) -> Vec<Warning> {
-    let mut all: Vec<Warning> =
-        order.waits.iter().filter_map(|wait| warning(order, wait)).collect();
+pub fn warnings(pair: &Pair) -> Vec<Warning> {
+    let mut all: Vec<Warning> = pair.waits.iter().filter_map(|wait| warning(pair, wait)).collect();
     all.sort_by_key(|warning| std::cmp::Reverse(warning.grade));
     all
 }
 
-fn warning(order: &Order, waiting: &super::Waiting) -> Option<Warning> {
+fn warning(pair: &Pair, waiting: &super::Waiting) -> Option<Warning> {
     // The grade does not go by the part.
     let [(_, wait), _] = waiting.on;
     let controller = waiting.controller;
     let mend = BoxName { section: Section::Reserve, controller: controller.partner() };
-    let sheet = order.entries.iter().find(|entry| entry.name == mend)?.found?.sheet;
+    let sheet = pair.entries.iter().find(|entry| entry.name == mend)?.found?.sheet;
     (wait.grade() > 1).then_some(Warning { controller, grade: wait.grade(), mend, sheet })
 }

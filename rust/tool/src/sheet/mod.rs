@@ -48,9 +48,9 @@ pub struct Entry {
     pub passed_over: Option<u8>,
 }
 
-/// What a pair of sheets orders, the six boxes in their order.
+/// A pair of sheets: what they order, the six boxes as a sheet has them.
 #[derive(Clone, Debug, PartialEq, Eq)]
-pub struct Order {
+pub struct Pair {
     pub entries: Vec<Entry>,
     /// How long each controller can wait, where no box is empty.
     pub waits: Vec<Waiting>,
@@ -63,13 +63,13 @@ pub struct Waiting {
     pub on: [(Part, Wait); 2],
 }
 
-impl Order {
+impl Pair {
     /// Looks up every box. Empty boxes are no refusal here: all of them are to be named.
-    pub fn read(board: &[u8], house: &[u8]) -> Result<Order, Refusal> {
+    pub fn read(board: &[u8], house: &[u8]) -> Result<Pair, Refusal> {
         let entries = BoxName::all().map(|name| entry(name, board, house));
         let waits =
             Master::BOTH.into_iter().filter_map(|master| waiting(master, board, house).ok());
-        Ok(Order { entries: entries.collect::<Result<_, _>>()?, waits: waits.collect() })
+        Ok(Pair { entries: entries.collect::<Result<_, _>>()?, waits: waits.collect() })
     }
 
     /// What a box orders.

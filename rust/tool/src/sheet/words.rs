@@ -1,23 +1,23 @@
-//! An order in words.
+//! What a pair of sheets orders, in words.
 
 use gunwaleish::{Master, Part, Section};
 
 use super::warnings::warnings;
-use super::{lasting, waits, BoxName, Entry, Order};
+use super::{lasting, waits, BoxName, Entry, Pair};
 use crate::story::idle_limit;
 use crate::words::{count, ticks};
 
 /// The six boxes a line each, with the sheet that each comes from before it; those that do not last;
-/// what comes of the order; and what is to be warned of.
-pub fn told(order: &Order) -> String {
-    let mut text = boxes(order);
-    let lasting = lasting::told(order);
+/// what comes of them; and what is to be warned of.
+pub fn told(pair: &Pair) -> String {
+    let mut text = boxes(pair);
+    let lasting = lasting::told(pair);
     if !lasting.is_empty() {
         text.push_str(&format!("\n{lasting}"));
     }
-    text.push_str(&format!("\n{}\n", outcome(order)));
+    text.push_str(&format!("\n{}\n", outcome(pair)));
     let warned: String =
-        warnings(order).iter().map(|warning| format!("Warning, {warning}\n")).collect();
+        warnings(pair).iter().map(|warning| format!("Warning, {warning}\n")).collect();
     if !warned.is_empty() {
         text.push_str(&format!("\n{warned}"));
     }
@@ -25,9 +25,9 @@ pub fn told(order: &Order) -> String {
 }
 
 /// The six boxes a line each.
-pub fn boxes(order: &Order) -> String {
-    let line = |entry| format!("{:<11}  {}\n", from(entry), in_words(order, entry));
-    order.entries.iter().map(line).collect()
+pub fn boxes(pair: &Pair) -> String {
+    let line = |entry| format!("{:<11}  {}\n", from(entry), in_words(pair, entry));
+    pair.entries.iter().map(line).collect()
 }
 
 fn from(entry: &Entry) -> String {
@@ -41,21 +41,21 @@ pub fn empty(name: BoxName) -> String {
     format!("{name}: {EMPTY}")
 }
 
-fn in_words(order: &Order, entry: &Entry) -> String {
-    format!("{}: {}", entry.name, meaning(order, entry))
+fn in_words(pair: &Pair, entry: &Entry) -> String {
+    format!("{}: {}", entry.name, meaning(pair, entry))
 }
 
 /// What a box orders, in words.
-pub fn meaning(order: &Order, entry: &Entry) -> String {
+pub fn meaning(pair: &Pair, entry: &Entry) -> String {
     let name = entry.name;
     let Some(found) = entry.found else {
         return EMPTY.to_string();
     };
     let meaning = match name.section {
-        Section::Reserve => reserve(found.value, order.value(Section::Idle, name.controller)),
+        Section::Reserve => reserve(found.value, pair.value(Section::Idle, name.controller)),
         Section::Priority if found.value == 0 => "0, it asks without priority".to_string(),
         Section::Priority => format!("{}, it asks with priority", found.value),
-        Section::Idle => idle(found.value, order.value(Section::Reserve, name.controller)),
+        Section::Idle => idle(found.value, pair.value(Section::Reserve, name.controller)),
     };
     let over = match entry.passed_over {
         Some(value) => format!(" (over {value} on the house sheet)"),
@@ -96,10 +96,10 @@ pub fn idle_limits() -> String {
     format!("at {at_first} idle ticks on a {first}, at {at_second} on a {second}")
 }
 
-/// What comes of the order: the start, when the one that waits then has its turn, and how long each can
+/// What comes of the boxes: the start, when the one that waits then has its turn, and how long each can
 /// wait from then on; or no events.
-fn outcome(order: &Order) -> String {
-    let empty = order.empty().count();
+fn outcome(pair: &Pair) -> String {
+    let empty = pair.empty().count();
     if empty > 0 {
         let are = if empty == 1 { "box is" } else { "boxes are" };
         return format!(
@@ -111,14 +111,14 @@ fn outcome(order: &Order) -> String {
         "Complete: {} start the shelf, on a device fresh from power-up.\n\
          After them controller 0, which asks first, owns the bus, and controller 1 waits.\n{}\n\n{}",
         count(gunwaleish::SHEET_EVENTS, "event"),
-        turn(order),
-        waits::told(order)
+        turn(pair),
+        waits::told(pair)
     )
 }
 
 /// When controller 1 has its turn after the start.
-fn turn(order: &Order) -> String {
-    let of_first = |section| order.value(section, Master::Zero).unwrap_or(0);
+fn turn(pair: &Pair) -> String {
+    let of_first = |section| pair.value(section, Master::Zero).unwrap_or(0);
     let unless = "If controller 0 does not let go before, controller 1 is granted the bus";
     match (of_first(Section::Reserve), of_first(Section::Idle)) {
         (0, 0) => {

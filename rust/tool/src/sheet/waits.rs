@@ -1,8 +1,8 @@
-//! How long each controller can wait by an order, in words.
+//! How long each controller can wait by a pair of sheets, in words.
 
 use gunwaleish::{Part, Wait};
 
-use super::{Order, Waiting};
+use super::{Pair, Waiting};
 
 /// What the figures hold for.
 pub const HOLDS: &str =
@@ -10,17 +10,17 @@ pub const HOLDS: &str =
      once they are; with no reset, and with RT left as ordered.";
 
 /// A line for each controller, and what they hold for.
-pub fn told(order: &Order) -> String {
-    let mut lines: Vec<String> = order.waits.iter().map(in_words).collect();
-    if are_bounded(order) {
+pub fn told(pair: &Pair) -> String {
+    let mut lines: Vec<String> = pair.waits.iter().map(in_words).collect();
+    if are_bounded(pair) {
         lines.push(HOLDS.to_string());
     }
     format!("How long each can wait from then on, at every handover:\n{}", lines.join("\n"))
 }
 
 /// True if there is a figure.
-pub fn are_bounded(order: &Order) -> bool {
-    order.waits.iter().any(|waiting| waiting.on[0].1.ticks().is_some())
+pub fn are_bounded(pair: &Pair) -> bool {
+    pair.waits.iter().any(|waiting| waiting.on[0].1.ticks().is_some())
 }
 
 /// How long a controller can wait, a sentence.
