@@ -9,7 +9,7 @@ use model::rng::Rng;
 use model::{image_advance, image_of, Advanced};
 
 use crate::check::pattern;
-use crate::figures::{Difference, Figures};
+use crate::figures::{differ, Difference, Figures};
 use crate::imaging::{good_images, images_differ};
 
 /// "This is never above six from any state reached from power-up", and what is proved is three.
@@ -21,7 +21,7 @@ pub fn check_advance(ticks: u32, image: &[u8]) -> Result<Advanced, Difference> {
     let advanced = image_advance(ticks, &mut expected);
     let packed = boundary::image_advance(ticks, &mut buffer);
     if packed != u32::from(advanced.number) + 256 * advanced.changing {
-        return Err(format!(
+        return differ(format!(
             "advance by {ticks} ticks: model number {}, {} changing, library number {}, {} changing",
             advanced.number,
             advanced.changing,
@@ -32,8 +32,8 @@ pub fn check_advance(ticks: u32, image: &[u8]) -> Result<Advanced, Difference> {
     match buffer == expected {
         true => Ok(advanced),
         false => {
-            let differ = images_differ(&expected, &buffer);
-            Err(format!("advance by {ticks} ticks leaves another image: {differ}"))
+            let how = images_differ(&expected, &buffer);
+            differ(format!("advance by {ticks} ticks leaves another image: {how}"))
         }
     }
 }

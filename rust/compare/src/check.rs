@@ -3,7 +3,7 @@
 use gunwaleish::{boundary, Refusal};
 use model::TraceResult;
 
-use crate::figures::{Difference, Figures};
+use crate::figures::{differ, Difference, Figures};
 use crate::words::{answer_in_words, event_in_words};
 
 /// A buffer with a pattern. Neighbouring bytes differ, so a stray write of any one value shows.
@@ -37,7 +37,7 @@ fn same_packed(result: &TraceResult, packed: u64) -> Result<(), Difference> {
         let (events, kind) = ((packed >> 16) & 0xFFFF, packed >> 32);
         format!("number {number}, address {address:02X}h, {events} events, kind {kind}")
     };
-    Err(format!(
+    differ(format!(
         "reports differ\n  model:   {}\n  library: {}",
         take_apart(expected),
         take_apart(packed)
@@ -55,11 +55,11 @@ fn same_answers(
         return Ok(());
     };
     if place >= 4 * result.events {
-        return Err(format!("answer byte {place} had to stay, and was written"));
+        return differ(format!("answer byte {place} had to stay, and was written"));
     }
     let first = place / 4;
     let four = |bytes: &[u8], at: usize| [bytes[at], bytes[at + 1], bytes[at + 2], bytes[at + 3]];
-    Err(format!(
+    differ(format!(
         "event {} of {} is answered differently\n  event:   {}\n  model:   {}\n  library: {}",
         first + 1,
         result.events,
@@ -78,17 +78,20 @@ fn same_in_rust(trace: &[u8], result: &TraceResult, expected: &[u8]) -> Result<(
         Err(refusal) => (known(refusal)?, 0, 0),
     };
     if said != (result.number, result.address, result.events) {
-        return Err(format!("the Rust crate says {report:?}, the model number {}", result.number));
+        return differ(format!(
+            "the Rust crate says {report:?}, the model number {}",
+            result.number
+        ));
     }
     if answers != expected {
-        return Err("the Rust crate leaves other answer bytes than the library".to_string());
+        return differ("the Rust crate leaves other answer bytes than the library");
     }
     Ok(())
 }
 
 fn known(refusal: Refusal) -> Result<u8, Difference> {
     match refusal {
-        Refusal::Unknown(number) => Err(format!("the library gave the number {number}")),
+        Refusal::Unknown(number) => differ(format!("the library gave the number {number}")),
         _ => Ok(refusal.number()),
     }
 }
@@ -105,10 +108,10 @@ pub fn check_listing(trace: &[u8]) -> Result<(), Difference> {
         let mut listed = pattern(room);
         let said = boundary::listing(trace, &mut listed);
         if said != length {
-            return Err(format!("the listing has {length} bytes, the library says {said}"));
+            return differ(format!("the listing has {length} bytes, the library says {said}"));
         }
         if let Some(place) = (0..room).find(|&at| expected[at] != listed[at]) {
-            return Err(format!(
+            return differ(format!(
                 "listing of {length} bytes in a room of {room}: byte {place} (line {}) is \
                  {:02X}h, the model has {:02X}h",
                 text.as_bytes()[..place.min(length)].iter().filter(|&&b| b == b'\n').count() + 1,
@@ -119,7 +122,7 @@ pub fn check_listing(trace: &[u8]) -> Result<(), Difference> {
     }
     match gunwaleish::listing(trace) == text {
         true => Ok(()),
-        false => Err("the Rust crate lists other text than the library".to_string()),
+        false => differ("the Rust crate lists other text than the library"),
     }
 }
 
@@ -135,7 +138,7 @@ pub fn check_address_of(pins: [u8; 4]) -> Result<(), Difference> {
         Err(refusal) => u32::from(refusal.number()),
     };
     if (packed, in_rust) != (expected, expected) {
-        return Err(format!(
+        return differ(format!(
             "address of {pins:?}: model {expected:X}h, library {packed:X}h, Rust crate {in_rust:X}h"
         ));
     }
@@ -153,7 +156,7 @@ pub fn check_pins_of(address: u8) -> Result<(), Difference> {
     let in_rust =
         gunwaleish::pins_of(address).map_or_else(|refusal| u64::from(refusal.number()), pack);
     if (packed, in_rust) != (expected, expected) {
-        return Err(format!(
+        return differ(format!(
             "pins of {address:02X}h: model {expected:X}h, library {packed:X}h, Rust crate \
              {in_rust:X}h"
         ));

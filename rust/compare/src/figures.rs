@@ -2,6 +2,7 @@
 //! counts it; here is only the counting.
 
 use std::collections::BTreeMap;
+use std::error::Error;
 use std::fmt;
 
 use model::happenings::{kinds_of, Happenings};
@@ -11,8 +12,28 @@ use model::{read_trace, TraceResult};
 
 use crate::wanted::{sights, CALLS};
 
-/// What differs, in words. The caller knows the trace.
-pub type Difference = String;
+/// What differs between the two sides, in words. The caller knows the trace.
+#[derive(Clone, Debug, PartialEq, Eq)]
+pub struct Difference(String);
+
+impl From<String> for Difference {
+    fn from(words: String) -> Difference {
+        Difference(words)
+    }
+}
+
+impl fmt::Display for Difference {
+    fn fmt(&self, f: &mut fmt::Formatter) -> fmt::Result {
+        f.write_str(&self.0)
+    }
+}
+
+impl Error for Difference {}
+
+/// The two sides differ, in these words.
+pub fn differ<T>(words: impl Into<String>) -> Result<T, Difference> {
+    Err(Difference(words.into()))
+}
 
 /// So many mismatches are told in full. The rest are only counted.
 const TOLD: usize = 3;
@@ -47,7 +68,7 @@ impl Figures {
     /// Counts a comparison that has no trace.
     pub fn note(&mut self, result: Result<(), Difference>) {
         if let Err(difference) = result {
-            self.tell_only(&difference);
+            self.tell_only(difference);
         }
     }
 
@@ -87,17 +108,17 @@ impl Figures {
     }
 
     /// Tells what differs, and the input by its name.
-    pub(crate) fn tell(&mut self, name: &str, input: &[u8], difference: &str) {
+    pub(crate) fn tell(&mut self, name: &str, input: &[u8], difference: impl fmt::Display) {
         // Once enough is told, no more files are kept.
         if self.told.len() < TOLD {
             let bytes =
                 if input.len() <= SHORT { hex(input) } else { kept(name, input, self.seed) };
-            return self.tell_only(&format!("{difference}\n  {name}: {bytes}"));
+            return self.tell_only(format!("{difference}\n  {name}: {bytes}"));
         }
         self.tell_only(difference);
     }
 
-    fn tell_only(&mut self, difference: &str) {
+    fn tell_only(&mut self, difference: impl fmt::Display) {
         self.mismatches += 1;
         if self.told.len() < TOLD {
             self.told.push(format!("seed {}: {difference}", self.seed));

@@ -12,7 +12,7 @@ use model::traces::{event_list_of, trace_of_kind};
 use model::{image_fresh, image_of, image_read, image_step, Kind};
 
 use crate::check::pattern;
-use crate::figures::{Difference, Figures};
+use crate::figures::{differ, Difference, Figures};
 use crate::words::{answer_in_words, event_in_words};
 
 type Image = [u8; IMAGE_LENGTH];
@@ -33,17 +33,17 @@ pub fn check_image_run(kind: Kind, events: &[[u8; 4]]) -> Result<Vec<(u8, Image)
         let said = boundary::image_step(event, &mut image).to_le_bytes();
         let at = || format!("event {} of {}, {}", place + 1, events.len(), event_in_words(event));
         if said != answer {
-            return Err(format!(
+            return differ(format!(
                 "{}: the image answers {said:02X?}, the trace {answer:02X?}",
                 at()
             ));
         }
         device.step(event);
         if image != image_of(&device) {
-            return Err(format!("{}: {}", at(), images_differ(&image_of(&device), &image)));
+            return differ(format!("{}: {}", at(), images_differ(&image_of(&device), &image)));
         }
         if in_rust.step(event) != Answer::from(said) || in_rust.image() != &image {
-            return Err(format!("{}: the Rust crate's device goes another way", at()));
+            return differ(format!("{}: the Rust crate's device goes another way", at()));
         }
         after.push((said[0], image));
     }
@@ -58,7 +58,7 @@ fn part_of(kind: Kind) -> Part {
 }
 
 /// The first field that differs, by its name.
-pub(crate) fn images_differ(model: &[u8], library: &[u8]) -> Difference {
+pub(crate) fn images_differ(model: &[u8], library: &[u8]) -> String {
     if model.len() != IMAGE_LENGTH {
         return format!("{} is written, which has to stay", hex(model));
     }
@@ -81,7 +81,7 @@ pub fn check_image_step(event: [u8; 4], image: &[u8]) -> Result<u8, Difference> 
     let mut buffer = image.to_vec();
     let said = boundary::image_step(event, &mut buffer).to_le_bytes();
     if said != answer {
-        return Err(format!(
+        return differ(format!(
             "{} on an image is answered differently\n  model:   {}\n  library: {}",
             event_in_words(event),
             answer_in_words(answer),
@@ -89,8 +89,8 @@ pub fn check_image_step(event: [u8; 4], image: &[u8]) -> Result<u8, Difference> 
         ));
     }
     if buffer != expected {
-        let differ = images_differ(&expected, &buffer);
-        return Err(format!("{} leaves another image: {differ}", event_in_words(event)));
+        let how = images_differ(&expected, &buffer);
+        return differ(format!("{} leaves another image: {how}", event_in_words(event)));
     }
     let same = match Device::from_image(image) {
         Err(refusal) => [refusal.number(), 0, 0, 0] == answer,
@@ -100,7 +100,7 @@ pub fn check_image_step(event: [u8; 4], image: &[u8]) -> Result<u8, Difference> 
     };
     match same {
         true => Ok(answer[0]),
-        false => Err("the Rust crate's device goes another way".to_string()),
+        false => differ("the Rust crate's device goes another way"),
     }
 }
 
@@ -110,7 +110,7 @@ pub fn check_image_fresh(kind: u8, image: &[u8]) -> Result<u8, Difference> {
     let number = image_fresh(kind, &mut expected);
     let said = boundary::image_fresh(kind, &mut buffer);
     if (said, &buffer) != (u32::from(number), &expected) {
-        return Err(format!(
+        return differ(format!(
             "fresh of kind {kind}: model {number} and {}, library {said} and {}",
             hex(&expected),
             hex(&buffer)
@@ -127,7 +127,7 @@ pub fn check_image_read(master: u8, register: u8, image: &[u8]) -> Result<u8, Di
     };
     let said = boundary::image_read(master, register, image);
     if said != u32::from(number) + 256 * u32::from(byte) {
-        return Err(format!(
+        return differ(format!(
             "register {register} of master {master}: model number {number}, byte {byte:02X}h, \
              library {said:X}h"
         ));
@@ -135,7 +135,7 @@ pub fn check_image_read(master: u8, register: u8, image: &[u8]) -> Result<u8, Di
     let names = Master::of(master).zip(Register::of(register));
     if let (Some((master, register)), Ok(device)) = (names, Device::from_image(image)) {
         if device.read(master, register) != byte {
-            return Err(format!("the Rust crate reads {register} differently"));
+            return differ(format!("the Rust crate reads {register} differently"));
         }
     }
     Ok(number)

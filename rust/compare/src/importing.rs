@@ -11,7 +11,7 @@ use model::trace::four;
 use model::traces::trace_of;
 
 use crate::check::pattern;
-use crate::figures::{Difference, Figures};
+use crate::figures::{differ, Difference, Figures};
 use crate::words::event_in_words;
 
 /// Imports a capture into a buffer of this room. Gives the number of the answer.
@@ -22,7 +22,7 @@ pub fn check_import(samples: &[u8], address: u8, room: usize) -> Result<u8, Diff
     let packed = boundary::import_capture(samples, address, &mut events);
     same_events(imported.events, &expected, &events)?;
     if packed != u64::from(imported.number) + 256 * imported.events as u64 {
-        return Err(format!(
+        return differ(format!(
             "reports of the importer differ\n  model:   number {}, {} events\n  library: number {}, \
              {} events",
             imported.number,
@@ -40,10 +40,10 @@ pub fn same_events(count: usize, expected: &[u8], events: &[u8]) -> Result<(), D
         return Ok(());
     };
     if place >= 4 * count {
-        return Err(format!("event byte {place} had to stay, and was written"));
+        return differ(format!("event byte {place} had to stay, and was written"));
     }
     let first = place - place % 4;
-    Err(format!(
+    differ(format!(
         "event {} of {count} is another\n  model:   {}\n  library: {}",
         place / 4 + 1,
         event_in_words(four(&expected[first..])),

@@ -8,7 +8,7 @@ use model::shares::{any_numbers, any_trace};
 use model::stored::stored_traces;
 use model::{share_add, share_join};
 
-use crate::figures::{Difference, Figures};
+use crate::figures::{differ, Difference, Figures};
 
 /// What each number of the row is.
 const NAMES: [&str; NUMBERS] = [
@@ -48,7 +48,7 @@ pub fn check_join(other: &[u64], totals: &mut [u64]) -> Result<u8, Difference> {
     let number = share_join(other, totals);
     let packed = boundary::share_join(other, &mut said);
     compared(&before, number, totals, packed, &said)
-        .map_err(|difference| format!("{difference}; joined {other:?}"))
+        .map_err(|difference| format!("{difference}; joined {other:?}").into())
 }
 
 /// What the model gave and left, and what the library did.
@@ -60,13 +60,13 @@ fn compared(
     said: &[u64],
 ) -> Result<u8, Difference> {
     if packed != u32::from(number) {
-        return Err(format!("totals {before:?}: model number {number}, library {packed}"));
+        return differ(format!("totals {before:?}: model number {number}, library {packed}"));
     }
     let Some(at) = (0..totals.len()).find(|&at| totals[at] != said[at]) else {
         return Ok(number);
     };
     let name = NAMES.get(at).copied().unwrap_or("a number that had to stay");
-    Err(format!(
+    differ(format!(
         "{name}: {} before, model {}, library {}; totals {before:?}",
         before[at], totals[at], said[at]
     ))

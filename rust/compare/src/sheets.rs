@@ -8,7 +8,7 @@ use model::trace::hex;
 use model::{look_up, sheet_events};
 
 use crate::check::pattern;
-use crate::figures::{Difference, Figures};
+use crate::figures::{differ, Difference, Figures};
 use crate::importing::same_events;
 
 /// Looks up a box. Gives the number of the answer.
@@ -28,7 +28,7 @@ pub fn check_box(
         let (number, sheet, offset) = (packed % 256, packed / 256 % 256, packed / 65536);
         format!("number {number}, sheet {sheet}, offset {offset}")
     };
-    Err(format!(
+    differ(format!(
         "section {section}, controller {controller}, house {}: another box\n  model:   {}\n  \
          library: {}",
         hex(house),
@@ -73,7 +73,7 @@ fn same_in_rust(
     };
     match same {
         true => Ok(()),
-        false => Err(format!("the Rust crate says {said:?}, the model {found:?}")),
+        false => differ(format!("the Rust crate says {said:?}, the model {found:?}")),
     }
 }
 
@@ -85,7 +85,7 @@ pub fn check_sheet_events(board: &[u8], house: &[u8], room: usize) -> Result<u8,
     let packed = boundary::sheet_events(board, house, &mut events);
     same_events(ordered.events, &expected, &events)?;
     if packed != u64::from(ordered.number) + 256 * ordered.events as u64 {
-        return Err(format!(
+        return differ(format!(
             "house {}, room {room}: reports differ\n  model:   number {}, {} events\n  library: \
              number {}, {} events",
             hex(house),
@@ -98,7 +98,7 @@ pub fn check_sheet_events(board: &[u8], house: &[u8], room: usize) -> Result<u8,
     // The crate's own buffer has room, so that it never meets 9.
     let said = gunwaleish::sheet_events(board, house).map(|events| events.map(Into::into).to_vec());
     if said.map_err(|refusal| refusal.number()) != events_of_sheets(board, house) {
-        return Err("the Rust crate gives other events or another number".to_string());
+        return differ("the Rust crate gives other events or another number");
     }
     Ok(ordered.number)
 }

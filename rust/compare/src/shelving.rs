@@ -12,7 +12,7 @@ use model::trace::hex;
 use model::{image_of, row_of, Device, Record, Shelf};
 
 use crate::check::pattern;
-use crate::figures::{Difference, Figures};
+use crate::figures::{differ, Difference, Figures};
 use crate::imaging::images_differ;
 use crate::words::{answer_in_words, event_in_words};
 
@@ -28,7 +28,8 @@ pub fn check_shelf_run(shelf: &Shelf, events: &[Named]) -> Result<Vec<(u8, Vec<u
     for (count, &(name, event)) in events.iter().enumerate() {
         let at = || format!("event {} of {}, {}", count + 1, events.len(), named(name, event));
         let answer = shelf.step(name, event);
-        same_answer(answer, boundary::shelf_step(name, event, &mut row)).map_err(|e| at() + &e)?;
+        same_answer(answer, boundary::shelf_step(name, event, &mut row))
+            .map_err(|e| format!("{}{e}", at()))?;
         same_row(&row_of(&shelf), &row).map_err(|e| format!("{}: {e}", at()))?;
         let reached = match naming_of(event[0]) {
             Naming::All => 0..alone.len(),
@@ -39,7 +40,7 @@ pub fn check_shelf_run(shelf: &Shelf, events: &[Named]) -> Result<Vec<(u8, Vec<u
         });
         let records = row.chunks(RECORD_LENGTH).map(|record| &record[1..]);
         if !records.eq(alone.iter().map(|image| &image[..])) {
-            return Err(format!("{}: a record is not where its own events take it", at()));
+            return differ(format!("{}: a record is not where its own events take it", at()));
         }
         after.push((answer[0], row.clone()));
     }
@@ -55,7 +56,7 @@ fn same_answer(model: [u8; 4], packed: u32) -> Result<(), Difference> {
     if library == model {
         return Ok(());
     }
-    Err(format!(
+    differ(format!(
         " is answered differently\n  model:   {}\n  library: {}",
         answer_in_words(model),
         answer_in_words(library)
@@ -74,7 +75,7 @@ fn same_row(model: &[u8], library: &[u8]) -> Result<(), Difference> {
         0 => format!("address {:02X}h, library {:02X}h", model[0], library[0]),
         _ => images_differ(&model[1..], &library[1..]),
     };
-    Err(format!("place {place}: {what}"))
+    differ(format!("place {place}: {what}"))
 }
 
 /// Steps any buffer by any named event. Gives the first answer byte, the outcome or the number.
@@ -83,7 +84,7 @@ pub fn check_shelf_step(name: u8, event: [u8; 4], row: &[u8]) -> Result<u8, Diff
     let answer = model::shelf_step(name, event, &mut expected);
     let mut buffer = row.to_vec();
     let packed = boundary::shelf_step(name, event, &mut buffer);
-    same_answer(answer, packed).map_err(|e| named(name, event) + &e)?;
+    same_answer(answer, packed).map_err(|e| format!("{}{e}", named(name, event)))?;
     same_row(&expected, &buffer).map_err(|e| format!("{}: {e}", named(name, event)))?;
     Ok(answer[0])
 }
@@ -102,7 +103,7 @@ pub fn check_shelf_fresh(slots: &[u8], row: &[u8]) -> Result<u8, Difference> {
     let number = model::shelf_fresh(slots, &mut expected);
     let said = boundary::shelf_fresh(slots, &mut buffer);
     if said != u32::from(number) {
-        return Err(format!("fresh row in {}: model {number}, library {said}", row.len()));
+        return differ(format!("fresh row in {}: model {number}, library {said}", row.len()));
     }
     same_row(&expected, &buffer).map_err(|e| format!("fresh row: {e}"))?;
     Ok(number)

@@ -8,7 +8,7 @@ use model::trace::{four, hex};
 use model::{list_orders, Listed};
 
 use crate::check::pattern;
-use crate::figures::{Difference, Figures};
+use crate::figures::{differ, Difference, Figures};
 
 /// Lists the orders of two scripts, up to the limit, into a buffer of this room. Gives what the model
 /// said.
@@ -19,7 +19,7 @@ pub fn check_orders(scripts: &Scripts, limit: usize, room: usize) -> Result<List
     let mut listed = pattern(room);
     let packed = boundary::list_orders(script0, script1, limit, &mut listed);
     if packed != u64::from(said.number) + 256 * said.count as u64 {
-        return Err(format!(
+        return differ(format!(
             "reports differ\n  model:   number {}, {} orders\n  library: number {}, {} orders",
             said.number,
             said.count,
@@ -33,7 +33,7 @@ pub fn check_orders(scripts: &Scripts, limit: usize, room: usize) -> Result<List
             false => format!("byte {place}, which had to stay"),
         };
         let (model, library) = (expected[place], listed[place]);
-        return Err(format!("{order}: model {model:02X}h, library {library:02X}h"));
+        return differ(format!("{order}: model {model:02X}h, library {library:02X}h"));
     }
     same_in_rust(scripts, limit)?;
     Ok(said)
@@ -58,7 +58,7 @@ fn same_in_rust(scripts: &Scripts, limit: usize) -> Result<(), Difference> {
         .map(|bytes| bytes.into_iter().take(limit).map(Bus::from).collect::<Vec<_>>());
     match said.map_err(|refusal| refusal.number()) == expected {
         true => Ok(()),
-        false => Err("the Rust crate lists other orders or another number".to_string()),
+        false => differ("the Rust crate lists other orders or another number"),
     }
 }
 

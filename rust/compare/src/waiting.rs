@@ -7,7 +7,7 @@ use model::sheets::{complete_pair, damage_sheet, good_pair, pair_without_a_box, 
 use model::trace::hex;
 use model::{wait_of, Wait};
 
-use crate::figures::{Difference, Figures};
+use crate::figures::{differ, Difference, Figures};
 
 /// Asks how long a controller can wait. Gives what the model said.
 pub fn check_wait(
@@ -27,7 +27,7 @@ pub fn check_wait(
         let (number, grade, ticks) = (packed % 256, packed / 256 % 256, packed / 65536);
         format!("number {number}, grade {grade}, {ticks} ticks")
     };
-    Err(format!(
+    differ(format!(
         "wait of controller {controller}, kind {kind}, house {}: another answer\n  model:   {}\n  \
          library: {}",
         hex(house),
@@ -54,7 +54,7 @@ fn same_in_rust(
     };
     match found == (said.number, said.grade, said.ticks) {
         true => Ok(()),
-        false => Err(format!("wait of controller {controller}, kind {kind}: typed {typed:?}")),
+        false => differ(format!("wait of controller {controller}, kind {kind}: typed {typed:?}")),
     }
 }
 

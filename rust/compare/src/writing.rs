@@ -8,7 +8,7 @@ use model::traces::event_list;
 use model::{address_of, read_trace, write_trace, Written};
 
 use crate::check::{check_run, pattern};
-use crate::figures::{Difference, Figures};
+use crate::figures::{differ, Difference, Figures};
 
 /// Writes a trace into a buffer of this room. Gives the number of the answer.
 pub fn check_write(pins: [u8; 4], kind: u8, events: &[u8], room: usize) -> Result<u8, Difference> {
@@ -31,7 +31,7 @@ pub fn same_written(
     trace: &[u8],
 ) -> Result<(), Difference> {
     if packed != u64::from(written.number) + 256 * written.length as u64 {
-        return Err(format!(
+        return differ(format!(
             "reports differ\n  model:   number {}, length {}\n  library: number {}, length {}",
             written.number,
             written.length,
@@ -43,7 +43,7 @@ pub fn same_written(
         None => Ok(()),
         Some(place) => {
             let (model, library) = (expected[place], trace[place]);
-            Err(format!("byte {place}: model {model:02X}h, library {library:02X}h"))
+            differ(format!("byte {place}: model {model:02X}h, library {library:02X}h"))
         }
     }
 }
@@ -53,7 +53,7 @@ fn check_read_back(pins: [u8; 4], kind: u8, events: &[u8], trace: &[u8]) -> Resu
     let read = check_run(trace, events.len())?;
     let found = (read.number, Some(read.address), read.kind.number(), 4 * read.events);
     if found != (0, address_of(pins), kind, events.len()) {
-        return Err(format!("what was written reads as number {}, {found:?}", read.number));
+        return differ(format!("what was written reads as number {}, {found:?}", read.number));
     }
     Ok(())
 }
@@ -66,7 +66,7 @@ pub fn check_write_again(trace: &[u8]) -> Result<(), Difference> {
     let mut again = pattern(trace.len());
     let packed = boundary::write_trace(read.pins, kind, &events, &mut again);
     if packed != 256 * trace.len() as u64 || again != trace {
-        return Err(format!("written again, a trace differs (packed {packed:X}h)"));
+        return differ(format!("written again, a trace differs (packed {packed:X}h)"));
     }
     Ok(())
 }
