@@ -5,7 +5,7 @@ use gunwaleish_tool::commands::compose::MOST_TEXT;
 use gunwaleish_tool::commands::orders::{tried, How, Wanted};
 use gunwaleish_tool::commands::picture::{named, NO_TICK};
 use gunwaleish_tool::commands::shelf::{refused, run_both};
-use gunwaleish_tool::device::read_part;
+use gunwaleish_tool::device::{read_part, Unnamed};
 use gunwaleish_tool::files::Input;
 use gunwaleish_tool::picture::{self, Source};
 use gunwaleish_tool::script::warnings;
@@ -39,7 +39,7 @@ pub fn shelf(request: &Request) -> Answer {
 }
 
 /// How the orders are tried: on the part at this place, if one is named.
-fn how(request: &Request, place: usize) -> Result<How, String> {
+fn how(request: &Request, place: usize) -> Result<How, Unnamed> {
     let part: Option<Part> = match request.text(place) {
         word if word.is_empty() => None,
         word => Some(read_part(&word)?),
@@ -52,7 +52,7 @@ pub fn orders(request: &Request) -> Answer {
     let [first, second] = two(request, ["script 0", "script 1"]);
     let how = match how(request, 4) {
         Ok(how) => how,
-        Err(why) => return Answer::refused(why),
+        Err(why) => return Answer::refused(why.to_string()),
     };
     let (made, said) = tried(&first, &second, &Wanted::Groups, how);
     let warned = [&first, &second].map(warnings::of_input).concat().join("\n");
@@ -70,7 +70,7 @@ pub fn order(request: &Request) -> Answer {
     let [first, second] = two(request, ["script 0", "script 1"]);
     let how = match how(request, 4) {
         Ok(how) => how,
-        Err(why) => return Answer::refused(why),
+        Err(why) => return Answer::refused(why.to_string()),
     };
     let mut all = Answer::default();
     for wanted in [Wanted::Trace, Wanted::Script] {

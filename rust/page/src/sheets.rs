@@ -96,7 +96,7 @@ pub fn start(request: &Request) -> Answer {
     let [board, house] = pair(request, 4, 5);
     let device = match device_of(sheet::COMMAND.name, &[request.text(2)], &[], &[request.text(3)]) {
         Ok(device) => device,
-        Err(why) => return Answer::refused(why),
+        Err(why) => return Answer::refused(why.to_string()),
     };
     let [first, second] = gunwaleish::Master::BOTH;
     let wanted = [

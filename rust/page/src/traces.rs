@@ -211,7 +211,7 @@ pub fn imported(request: &Request) -> Answer {
     };
     let device = match device::device_of(import::COMMAND.name, &named(1), &[], &named(2)) {
         Ok(device) => device,
-        Err(why) => return Answer::refused(why),
+        Err(why) => return Answer::refused(why.to_string()),
     };
     let input = request.input(0, request.text(3), MOST_SAMPLES);
     let wanted = import::Wanted { device, script: false, empty: false };

@@ -1,6 +1,8 @@
 //! One output for each input: what most commands do.
 
 use std::collections::{HashMap, HashSet};
+use std::error::Error;
+use std::fmt;
 use std::io::{self, IsTerminal, Write};
 use std::path::{Path, PathBuf};
 
@@ -45,6 +47,14 @@ pub struct Mistake {
     pub why: String,
     pub line: Option<usize>,
 }
+
+impl fmt::Display for Mistake {
+    fn fmt(&self, f: &mut fmt::Formatter) -> fmt::Result {
+        f.write_str(&self.why)
+    }
+}
+
+impl Error for Mistake {}
 
 /// How a command goes over its inputs.
 pub struct Each<F: Fn(&Input) -> Made> {

@@ -31,7 +31,7 @@ pub fn read(path: &Path, most: usize) -> Result<Input, Failure> {
     };
     match read {
         Ok(bytes) => Ok(Input { name, bytes }),
-        Err(error) => Err(Failure::Wrong(format!("{name} cannot be read: {error}"))),
+        Err(error) => Err(Failure::unread(name, error)),
     }
 }
 
@@ -69,7 +69,7 @@ pub fn write_whole(path: &Path, bytes: &[u8]) -> Result<(), Failure> {
             written => written,
         },
     };
-    written.map_err(|error| Failure::Wrong(format!("{} cannot be written: {error}", name_of(path))))
+    written.map_err(|error| Failure::unwritten(name_of(path), error))
 }
 
 fn is_shut(error: &io::Error) -> bool {
@@ -128,7 +128,7 @@ pub fn print_bytes(bytes: &[u8]) -> Result<(), Failure> {
     match out.write_all(bytes).and_then(|()| out.flush()) {
         Ok(()) => Ok(()),
         Err(error) if error.kind() == ErrorKind::BrokenPipe => Err(Failure::Closed),
-        Err(error) => Err(Failure::Wrong(format!("standard output cannot be written: {error}"))),
+        Err(error) => Err(Failure::unwritten("standard output", error)),
     }
 }
 

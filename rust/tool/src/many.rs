@@ -21,7 +21,7 @@ use crate::failure::Failure;
 use crate::files::{is_standard, name_of, Input};
 
 /// What came of some traces.
-#[derive(Clone, Debug, Default, PartialEq, Eq)]
+#[derive(Debug, Default, PartialEq, Eq)]
 pub struct Tally {
     /// The traces that were read, refused ones among them.
     pub traces: usize,
@@ -127,7 +127,7 @@ fn run_one(
     tally: &mut Tally,
 ) -> Came {
     if let Err(error) = read_into(path, trace) {
-        let failure = Failure::Wrong(format!("{} cannot be read: {error}", name_of(path)));
+        let failure = Failure::unread(name_of(path), error);
         tally.failures.push((place, failure));
         return Came::Unread;
     }

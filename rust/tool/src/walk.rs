@@ -98,8 +98,7 @@ impl Search {
                 Ok(())
             });
             if let Err(error) = looked {
-                let why = format!("{} cannot be read: {error}", name_of(&folder));
-                unread.push(Failure::Wrong(why));
+                unread.push(Failure::unread(name_of(&folder), error));
             }
         }
         unread

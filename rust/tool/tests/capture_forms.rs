@@ -180,9 +180,6 @@ fn names_of_lines() {
                   $scope module b $end $var wire 1 \" scl0 $end $upscope $end $enddefinitions $end #0 0! 1\" #1";
     let (all, _) = read(scoped.as_bytes(), &said("b.scl0,-,-,-"), 9).unwrap();
     assert_eq!(all.samples, [0x7F]);
-    for names in ["a,b,c", "a,b,,d", "a,b,c,d,e,f,g,h"] {
-        assert!(read_names(names).unwrap_err().starts_with("--channels needs the names of SCL0, "));
-    }
     let cases = [
         (scoped, None, "a: line 1: several lines are called SCL0: a.scl0, b.scl0; --channels"),
         (
@@ -206,6 +203,15 @@ fn names_of_lines() {
         let said = names.map_or(Said::default(), said);
         let why = read(text.as_bytes(), &said, 9).err().unwrap();
         assert!(why.starts_with(expected), "{why}");
+    }
+}
+
+/// Too few, too many, and one that is empty.
+#[test]
+fn words_that_are_no_names_of_lines() {
+    for names in ["a,b,c", "a,b,,d", "a,b,c,d,e,f,g,h"] {
+        let why = read_names(names).unwrap_err().to_string();
+        assert!(why.starts_with("--channels needs the names of SCL0, "), "{why}");
     }
 }
 
@@ -274,6 +280,7 @@ fn rates_and_times() {
     assert_eq!((samples_of_tick(1_000_000), samples_of_tick(1000)), (Ok(1000), Ok(1)));
     assert!(samples_of_tick(32_768)
         .unwrap_err()
+        .to_string()
         .starts_with("at 32768 Hz a millisecond is no whole"));
     assert!(samples_of_tick(500).is_err() && samples_of_tick(u64::MAX - 615).is_err());
     assert_eq!(time_of(1_234_567, 1_000_000), "1.234567 s");

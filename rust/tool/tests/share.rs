@@ -1,6 +1,7 @@
 //! The bus share report against the independent model: folders, streams, damaged traces, and more
 //! traces than are counted; with one thread, two and five.
 
+use std::error::Error;
 use std::fs;
 use std::io::{self, Read};
 use std::path::PathBuf;
@@ -111,8 +112,8 @@ fn what_is_found_and_what_is_skipped() {
     // A folder without a trace is a failure, and says so itself.
     let none = found(from_ref(&folder.0));
     assert_eq!((none.files.len(), none.said.len(), none.unread.len()), (0, 0, 0));
-    let failures: Vec<(&str, u8)> = none.failures().map(|f| (f.text(), f.code())).collect();
-    assert_eq!(failures, [(format!("{shown}: no trace").as_str(), 1)]);
+    let failures: Vec<(String, u8)> = none.failures().map(|f| (f.text(), f.code())).collect();
+    assert_eq!(failures, [(format!("{shown}: no trace"), 1)]);
     let names = ["b.trace", "a.trace", "deep/c.TRACE", "notes.txt", ".trace", "trace"];
     let paths = names.map(|name| folder.write(name, &[]));
     let all = found(&[paths[3].clone(), folder.0.clone(), paths[0].clone()]);
@@ -206,7 +207,7 @@ fn what_is_no_totals_is_refused() {
                 |line| if line.starts_with(from) { format!("{to}\n") } else { format!("{line}\n") },
             )
             .collect();
-        kept::read(changed.as_bytes()).unwrap_err()
+        kept::read(changed.as_bytes()).unwrap_err().to_string()
     };
     let cases = [
         ("gunwaleish", "gunwaleish totals 2", "line 1: it is of another version"),
@@ -304,7 +305,8 @@ fn a_stream_that_fails_is_told() {
     let input = input_of(&[any_trace(&mut Rng::new(1))]);
     let failure = of_stream(input.chain(Broken), "input", 2, &quiet()).unwrap_err();
     assert_eq!(failure.code(), 2);
-    assert!(format!("{failure:?}").contains("input cannot be read: the wire is cut"));
+    assert_eq!(failure.to_string(), "input cannot be read: the wire is cut");
+    assert_eq!(failure.source().map(ToString::to_string).as_deref(), Some("the wire is cut"));
 }
 
 /// The first 65,535 files that can be read are counted, and those after them are not.

@@ -72,7 +72,8 @@ fn run(arguments: &Arguments) -> Result<(), Failure> {
     let wanted = Wanted { device, script: has("--script"), empty: has("--empty") };
     let ending = if wanted.script { "script" } else { "trace" };
     let said = Said::read(COMMAND.name, arguments)?;
-    let every = said.rate.map(samples_of_tick).transpose().map_err(Failure::Wrong)?;
+    let every = said.rate.map(samples_of_tick).transpose();
+    let every = every.map_err(|uneven| Failure::Wrong(uneven.to_string()))?;
     if every.is_none() && has("--below") {
         return Err(Failure::Wrong(
             "--below puts LINES between TICKs, and needs --samplerate; gunwaleish import --help tells more"

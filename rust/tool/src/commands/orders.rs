@@ -98,7 +98,8 @@ fn run(arguments: &Arguments) -> Result<(), Failure> {
     }
     let wanted = wanted(arguments)?;
     let part = arguments.options.get("--part").and_then(|words| words.first());
-    let part = part.map(|word| read_part(word).map_err(|what| wrong(&what))).transpose()?;
+    let part =
+        part.map(|word| read_part(word).map_err(|what| wrong(&what.to_string()))).transpose()?;
     let how = How { part, strict: arguments.options.contains_key("--strict") };
     let output = output_of(&arguments.files, wanted.ending(), arguments.output.as_deref())?;
     let read = |path| files::read(path, MOST_TEXT);

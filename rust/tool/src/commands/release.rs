@@ -71,7 +71,7 @@ fn run(arguments: &Arguments) -> Result<(), Failure> {
     let printed = files::print(&told);
     filed?;
     match (printed, examined.is_released()) {
-        (Err(failure @ Failure::Wrong(_)), _) => Err(failure),
+        (Err(failure @ (Failure::Wrong(_) | Failure::File(_))), _) => Err(failure),
         // The exit code tells the verdict also if nobody reads the text to its end.
         (_, false) => Err(Failure::NotReleased),
         (printed, true) => printed,

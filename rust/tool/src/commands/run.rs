@@ -115,7 +115,7 @@ pub fn rows(paths: &[PathBuf], tally: &Tally, form: Form) -> String {
     rows.map(|row| form.row(COLUMNS, &row)).collect()
 }
 
-fn row(name: String, came: Came, why: Option<&str>) -> Vec<Value> {
+fn row(name: String, came: Came, why: Option<String>) -> Vec<Value> {
     let (result, refusal) = match came {
         Came::Ran { .. } => ("ran", None),
         Came::Refused(number) => ("refused", Some(number)),

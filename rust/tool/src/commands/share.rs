@@ -227,7 +227,7 @@ fn join_file(counted: &mut Counted, path: &Path) -> Result<(), Failure> {
     let input = files::read(path, kept::MOST_KEPT)?;
     let refused = |why: String| Failure::Refused(format!("{}: {why}", input.name));
     let totals = kept::read(&input.bytes);
-    let totals = totals.map_err(|why| refused(why + &hint(&input, Kind::Totals)))?;
+    let totals = totals.map_err(|why| refused(format!("{why}{}", hint(&input, Kind::Totals))))?;
     counted.totals.join(&totals).map_err(|refusal| refused(refusal.to_string()))
 }
 

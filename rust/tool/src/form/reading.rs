@@ -1,5 +1,8 @@
 //! The text form, read line by line.
 
+use std::error::Error;
+use std::fmt;
+
 use super::boxes::Boxes;
 use super::nearest::nearest;
 use super::values::value_of;
@@ -24,6 +27,17 @@ impl Mistake {
         }
     }
 }
+
+impl fmt::Display for Mistake {
+    fn fmt(&self, f: &mut fmt::Formatter) -> fmt::Result {
+        match self.line {
+            Some(line) => write!(f, "line {line}: {}", self.what),
+            None => f.write_str(&self.what),
+        }
+    }
+}
+
+impl Error for Mistake {}
 
 /// The boxes that a text fills in, or all its typing errors.
 pub fn read(text: &[u8]) -> Result<Boxes, Vec<Mistake>> {

@@ -110,7 +110,7 @@ fn read_shelf(named: &Named, read: Reading) -> Result<Option<ShelfRead>, Failure
 /// The traces among these names and in these folders. A folder that is named for its traces has some.
 fn traces_of(names: &[PathBuf]) -> Result<Vec<PathBuf>, Failure> {
     let Found { files, unread, empty, .. } = find(names);
-    let none = empty.first().map(|none| wrong(none.text()));
+    let none = empty.first().map(|none| wrong(&none.text()));
     unread.into_iter().next().or(none).map_or(Ok(files), Err)
 }
 
@@ -127,9 +127,7 @@ impl Here {
         if is_standard(folder) {
             return Err(wrong("standard input is no folder"));
         }
-        let metadata = folder
-            .metadata()
-            .map_err(|error| Failure::Wrong(format!("{name} cannot be read: {error}")))?;
+        let metadata = folder.metadata().map_err(|error| Failure::unread(&name, error))?;
         if !metadata.is_dir() {
             return Err(wrong(&format!(
                 "{name} is no folder; single files are named by option, the sheets with --board and --house"
@@ -248,19 +246,14 @@ const PIECE: usize = 1 << 16;
 /// byte shows that there is more.
 pub fn read(path: &Path, most: usize) -> Result<Read, Failure> {
     let name = name_of(path);
-    let cannot = |why: String| Failure::Wrong(format!("{name} cannot be read: {why}"));
-    let open = || -> io::Result<Option<Read>> {
+    let open = || -> io::Result<Read> {
         // A pipe or a device may have no end, and nobody can look at it again.
         match path.metadata()?.is_file() {
-            true => read_open(File::open(path)?, path, most).map(Some),
-            false => Ok(None),
+            true => read_open(File::open(path)?, path, most),
+            false => Err(io::Error::other("it is no file")),
         }
     };
-    match open() {
-        Ok(Some(read)) => Ok(read),
-        Ok(None) => Err(cannot("it is no file".to_string())),
-        Err(error) => Err(cannot(error.to_string())),
-    }
+    open().map_err(|error| Failure::unread(name, error))
 }
 
 fn read_open(file: File, path: &Path, most: usize) -> io::Result<Read> {

@@ -4,7 +4,7 @@ use super::channels::{find, Channels, LINES};
 use super::form::Form;
 use super::piece::{Head, Piece, Said, Taker, HIGH};
 use super::rate::{attoseconds, read_rate};
-use super::timeline::{Timeline, Wrong};
+use super::timeline::Timeline;
 use super::vcd::Stop;
 use crate::each::Mistake;
 
@@ -154,8 +154,8 @@ impl Csv {
                 .zip(&self.own_names)
                 .for_each(|(place, name)| names[*place] = name.clone());
         }
-        let channels =
-            find(&names, self.said.channels.as_deref()).map_err(|what| self.wrong(&what))?;
+        let channels = find(&names, self.said.channels.as_deref())
+            .map_err(|what| self.wrong(&what.to_string()))?;
         let rate = self.said.rate.or(self.own_rate);
         to.begin(&Head { form: Form::Csv, rate, below: channels.below() })?;
         let timeline = Timeline::new(rate, HIGH);
@@ -215,10 +215,7 @@ impl Csv {
                 body.timeline.set(sample);
                 Ok(())
             }
-            Err(Wrong::Earlier) => Err(mistake("this time is before the last one".to_string())),
-            Err(Wrong::TooLate) => {
-                Err(mistake("this time is too late to be a sample's".to_string()))
-            }
+            Err(wrong) => Err(mistake(wrong.to_string())),
         }
     }
 

@@ -34,7 +34,7 @@ impl Said {
         let channels = word("--channels").map(|word| channels::read_names(word));
         Ok(Said {
             rate: rate.transpose().map_err(wrong)?,
-            channels: channels.transpose().map_err(wrong)?,
+            channels: channels.transpose().map_err(|what| wrong(what.to_string()))?,
         })
     }
 }

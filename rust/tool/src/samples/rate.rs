@@ -1,6 +1,7 @@
 //! Samples a second, and the time of a sample.
 
-use std::fmt::Write;
+use std::error::Error;
+use std::fmt::{self, Write};
 
 /// A rate, as people write it: 1M, 24MHz, 12.5 MHz, 500k, 1000000.
 pub fn read_rate(text: &str) -> Option<u64> {
@@ -27,16 +28,30 @@ fn scaled(text: &str, zeros: usize) -> Option<u128> {
     digits.bytes().all(|digit| digit.is_ascii_digit()).then(|| digits.parse().ok()).flatten()
 }
 
-/// The samples of a millisecond, which is a TICK; or what is wrong with the rate.
-pub fn samples_of_tick(rate: u64) -> Result<u32, String> {
-    let every = u32::try_from(rate / 1000).ok().filter(|_| rate.is_multiple_of(1000));
-    every.filter(|every| *every > 0).ok_or_else(|| {
-        format!(
+/// A rate at which a millisecond is no whole number of samples.
+#[derive(Clone, Copy, Debug, PartialEq, Eq)]
+pub struct Uneven {
+    /// Samples a second.
+    pub rate: u64,
+}
+
+impl fmt::Display for Uneven {
+    fn fmt(&self, f: &mut fmt::Formatter) -> fmt::Result {
+        write!(
+            f,
             "at {} a millisecond is no whole number of samples, and a TICK is one: the rate is to be a \
              multiple of 1 kHz, up to 4 THz",
-            in_words(rate)
+            in_words(self.rate)
         )
-    })
+    }
+}
+
+impl Error for Uneven {}
+
+/// The samples of a millisecond, which is a TICK.
+pub fn samples_of_tick(rate: u64) -> Result<u32, Uneven> {
+    let every = u32::try_from(rate / 1000).ok().filter(|_| rate.is_multiple_of(1000));
+    every.filter(|every| *every > 0).ok_or(Uneven { rate })
 }
 
 /// A rate in the largest unit in which it is whole.

@@ -154,9 +154,7 @@ pub fn read_all(
             Ok(0) => break,
             Ok(length) => reader.feed(&room[..length], to)?,
             Err(error) if error.kind() == ErrorKind::Interrupted => {}
-            Err(error) => {
-                return Err(Failure::Wrong(format!("{name} cannot be read: {error}")));
-            }
+            Err(error) => return Err(Failure::unread(name, error)),
         }
     }
     reader.end(to)?;
@@ -179,6 +177,6 @@ pub fn read_path(path: &Path, said: &Said, to: &mut dyn Taker) -> Result<u64, Fa
             Err(failure) => Err(failure),
         };
     }
-    let unread = |error| Failure::Wrong(format!("{name} cannot be read: {error}"));
+    let unread = |error| Failure::unread(&name, error);
     read_all(File::open(path).map_err(unread)?, &name, said, to)
 }

@@ -1,5 +1,8 @@
 //! Levels by their times, turned into samples: a level lasts until the next one comes.
 
+use std::error::Error;
+use std::fmt;
+
 use super::piece::{Piece, Taker};
 use super::rate::sample_at;
 use crate::failure::Failure;
@@ -29,9 +32,22 @@ pub struct Timeline {
 /// Why a time is none.
 #[derive(Clone, Copy, Debug, PartialEq, Eq)]
 pub enum Wrong {
+    /// It is before the last one.
     Earlier,
+    /// No number of a sample is so high.
     TooLate,
 }
+
+impl fmt::Display for Wrong {
+    fn fmt(&self, f: &mut fmt::Formatter) -> fmt::Result {
+        f.write_str(match self {
+            Wrong::Earlier => "this time is before the last one",
+            Wrong::TooLate => "this time is too late to be a sample's",
+        })
+    }
+}
+
+impl Error for Wrong {}
 
 impl Timeline {
     pub fn new(rate: Option<u64>, level: u8) -> Timeline {

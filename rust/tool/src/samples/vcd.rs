@@ -1,10 +1,13 @@
 //! Waveforms (VCD), read word by word as they come.
 
+use std::error::Error;
+use std::fmt;
+
 use super::channels::{find, LINES};
 use super::form::Form;
 use super::piece::{Head, Said, Taker, HIGH};
 use super::rate::read_rate;
-use super::timeline::{Timeline, Wrong};
+use super::timeline::Timeline;
 use crate::each::Mistake;
 use crate::failure::Failure;
 
@@ -56,10 +59,31 @@ struct Body {
     timeline: Timeline,
 }
 
-/// Why reading stops: what is wrong in the file, or with who takes its samples.
+/// Why reading stops.
+#[derive(Debug)]
 pub enum Stop {
+    /// Something is wrong in the file.
     Mistake(Mistake),
+    /// Who takes its samples takes no more.
     Failure(Failure),
+}
+
+impl fmt::Display for Stop {
+    fn fmt(&self, f: &mut fmt::Formatter) -> fmt::Result {
+        match self {
+            Stop::Mistake(mistake) => mistake.fmt(f),
+            Stop::Failure(failure) => failure.fmt(f),
+        }
+    }
+}
+
+impl Error for Stop {
+    fn source(&self) -> Option<&(dyn Error + 'static)> {
+        match self {
+            Stop::Mistake(mistake) => Some(mistake),
+            Stop::Failure(failure) => Some(failure),
+        }
+    }
 }
 
 impl From<Failure> for Stop {
@@ -207,8 +231,8 @@ impl Vcd {
     fn begin(&mut self, to: &mut dyn Taker) -> Result<(), Stop> {
         let single: Vec<&Var> = self.vars.iter().filter(|var| var.single).collect();
         let names: Vec<String> = single.iter().map(|var| var.name.clone()).collect();
-        let channels =
-            find(&names, self.said.channels.as_deref()).map_err(|what| self.wrong(&what))?;
+        let channels = find(&names, self.said.channels.as_deref())
+            .map_err(|what| self.wrong(&what.to_string()))?;
         let rate = self.said.rate.or(self.own_rate).or(self.unit.and_then(whole_rate));
         let marked = |(bit, place): (usize, &Option<usize>)| {
             place.map(|place| (single[place].mark.clone(), 1u8 << bit, LINES[bit]))
@@ -230,8 +254,7 @@ impl Vcd {
         };
         match body.timeline.time(time, to)? {
             Ok(()) => Ok(()),
-            Err(Wrong::Earlier) => Err(self.wrong("this time is before the last one")),
-            Err(Wrong::TooLate) => Err(self.wrong("this time is too late to be a sample's")),
+            Err(wrong) => Err(self.wrong(&wrong.to_string())),
         }
     }
 

@@ -1,5 +1,8 @@
 //! The words of a line, read one by one as what they are expected to be.
 
+use std::error::Error;
+use std::fmt;
+
 use gunwaleish::{Event, Master, Part, MOST_EVENTS};
 
 use super::bytes::{self, Byte};
@@ -24,11 +27,13 @@ impl Unread {
     }
 }
 
-impl std::fmt::Display for Unread {
-    fn fmt(&self, f: &mut std::fmt::Formatter) -> std::fmt::Result {
+impl fmt::Display for Unread {
+    fn fmt(&self, f: &mut fmt::Formatter) -> fmt::Result {
         write!(f, "line {}: {}", self.line, self.why())
     }
 }
+
+impl Error for Unread {}
 
 const A_BYTE: &str = "a byte in hex, 00 to FF, or as 32h, 0x32, 50d or 50ms";
 const A_CONTROLLER: &str = "a controller, 0 or 1";

@@ -4,6 +4,9 @@
 //! which a file that was cut on its way is known. What the library proves of totals is held to what is
 //! read: a number that was changed by hand or by a disk is refused where that shows it.
 
+use std::error::Error;
+use std::fmt;
+
 use gunwaleish::{Master, Totals, MOST_TRACES, TOTAL_COUNT};
 
 /// The first line, with the number of this form.
@@ -44,41 +47,72 @@ pub fn write(totals: &Totals) -> String {
     format!("{HEAD}\n{lines}{END}\n")
 }
 
+/// Why a text has no totals. It is told with the line, where it is about one.
+#[derive(Clone, Copy, Debug, PartialEq, Eq)]
+pub enum Unkept {
+    /// The text ends before this line.
+    EndsBefore(&'static str),
+    /// The first line names another version of this form.
+    OtherVersion,
+    /// The first line is another.
+    NoHead,
+    /// A number of this name was expected on this line.
+    NoNumber { line: usize, name: &'static str },
+    /// The last line was expected here.
+    NoEnd { line: usize },
+    /// There are lines after the last one.
+    AfterEnd { line: usize },
+    /// No traces have such totals.
+    NoTotals(&'static str),
+}
+
+impl fmt::Display for Unkept {
+    fn fmt(&self, f: &mut fmt::Formatter) -> fmt::Result {
+        match self {
+            Unkept::EndsBefore(expected) => write!(f, "it ends before the line {expected}"),
+            Unkept::OtherVersion => {
+                write!(f, "line 1: it is of another version; expected {HEAD}")
+            }
+            Unkept::NoHead => write!(f, "it does not begin with the line {HEAD}"),
+            Unkept::NoNumber { line, name } => {
+                write!(f, "line {line}: expected {name} and a number")
+            }
+            Unkept::NoEnd { line } => write!(f, "line {line}: expected {END}"),
+            Unkept::AfterEnd { line } => write!(f, "line {line}: there are lines after {END}"),
+            Unkept::NoTotals(why) => write!(f, "these are no totals: {why}"),
+        }
+    }
+}
+
+impl Error for Unkept {}
+
 /// The totals of a text, or what is wrong with it and on which line.
-pub fn read(text: &[u8]) -> Result<Totals, String> {
+pub fn read(text: &[u8]) -> Result<Totals, Unkept> {
     let text = String::from_utf8_lossy(text);
     let mut lines = text.lines().map(str::trim_end).zip(1..);
-    let mut next = |expected: &str| match lines.next() {
-        Some((line, number)) => Ok((line, number)),
-        None => Err(format!("it ends before the line {expected}")),
-    };
+    let mut next = |expected| lines.next().ok_or(Unkept::EndsBefore(expected));
     match next(HEAD)? {
         (HEAD, _) => {}
-        (line, _) if line.starts_with("gunwaleish totals ") => {
-            return Err(format!("line 1: it is of another version; expected {HEAD}"));
-        }
-        _ => return Err(format!("it does not begin with the line {HEAD}")),
+        (line, _) if line.starts_with("gunwaleish totals ") => return Err(Unkept::OtherVersion),
+        _ => return Err(Unkept::NoHead),
     }
     let mut numbers = [0; TOTAL_COUNT];
-    for (name, number) in NAMES.iter().zip(&mut numbers) {
-        let (line, place) = next(name)?;
-        let digits = line.strip_prefix(name).and_then(|rest| rest.strip_prefix(' '));
+    for (name, number) in NAMES.into_iter().zip(&mut numbers) {
+        let (text, line) = next(name)?;
+        let digits = text.strip_prefix(name).and_then(|rest| rest.strip_prefix(' '));
         let plain = digits.filter(|digits| digits.bytes().all(|byte| byte.is_ascii_digit()));
         let read = plain.and_then(|digits| digits.parse().ok());
-        *number = read.ok_or(format!("line {place}: expected {name} and a number"))?;
+        *number = read.ok_or(Unkept::NoNumber { line, name })?;
     }
-    let (line, place) = next(END)?;
-    if line != END {
-        return Err(format!("line {place}: expected {END}"));
-    }
-    match lines.next() {
-        Some((_, place)) => Err(format!("line {place}: there are lines after {END}")),
-        None => hold(Totals::from_numbers(numbers)),
+    match (next(END)?, lines.next()) {
+        ((END, _), None) => hold(Totals::from_numbers(numbers)),
+        ((END, _), Some((_, line))) => Err(Unkept::AfterEnd { line }),
+        ((_, line), _) => Err(Unkept::NoEnd { line }),
     }
 }
 
 /// Totals as they can be counted, or what tells that they were not.
-fn hold(totals: Totals) -> Result<Totals, String> {
+fn hold(totals: Totals) -> Result<Totals, Unkept> {
     // Made-up numbers may be large, so they are added where nothing overflows.
     let wide = |numbers: &[u64]| numbers.iter().copied().map(u128::from).sum::<u128>();
     let [owned0, owned1] = Master::BOTH.map(|m| totals.owned(m));
@@ -100,6 +134,6 @@ fn hold(totals: Totals) -> Result<Totals, String> {
     ];
     match laws.into_iter().find(|(holds, _)| !holds) {
         None => Ok(totals),
-        Some((_, why)) => Err(format!("these are no totals: {why}")),
+        Some((_, why)) => Err(Unkept::NoTotals(why)),
     }
 }

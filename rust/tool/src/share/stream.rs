@@ -53,7 +53,7 @@ pub fn of_stream(
         let read = hand_out(from, to);
         (read, running.into_iter().map(ended).collect::<Vec<Counted>>())
     });
-    let unread = |error| Failure::Wrong(format!("{name} cannot be read: {error}"));
+    let unread = |error| Failure::unread(name, error);
     let mut whole = Counted { past: read.map_err(unread)?, ..Counted::default() };
     for part in parts {
         whole.join(part)?;

@@ -120,7 +120,7 @@ impl Taker for Watching<'_> {
                 head.form
             )));
         };
-        let every = samples_of_tick(rate).map_err(wrong)?;
+        let every = samples_of_tick(rate).map_err(|uneven| wrong(uneven.to_string()))?;
         let Device { address, part, .. } = self.wanted.device;
         let below = self.wanted.below || head.below;
         let settings = WatchSettings { part, address, every, below };
