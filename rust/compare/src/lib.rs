@@ -2,22 +2,34 @@
 //! boundary: packed numbers, every answer byte, every byte that has to stay, every letter of a
 //! listing.
 //!
-//! - `check`: one call of each kind on both sides, and what differs.
-//! - `writing`: the writer of traces on both sides.
-//! - `converting`: the converter of old traces on both sides.
-//! - `importing`: the importer of captures on both sides.
-//! - `sheets`: the order sheet on both sides.
-//! - `waiting`: how long a controller can wait by its sheets, on both sides.
-//! - `imaging`: the flat image of a device on both sides.
-//! - `starting`: all orders of two start-up scripts on both sides.
-//! - `shelving`: a shelf of several arbiters on both sides.
-//! - `sharing`: the totals of the bus share report on both sides.
-//! - `advancing`: advances over quiet time on both sides.
-//! - `words`: events and answers in words, for what differs.
-//! - `cases`: random calls, good and damaged, in rounds.
-//! - `fixed`: calls that are few enough to try them all.
-//! - `wanted`: the numbers and sights that have to occur.
-//! - `figures`: how many there were, what happened in them, and what never did.
+//! ```
+//! use compare::Figures;
+//!
+//! let mut figures = Figures::new(14);
+//! // A trace of one TICK with room for its answer, with too little room, and cut.
+//! let trace = [4, 0, 0, 0, 0, 1, 0, 6, 0, 0, 0, 1, 0];
+//! figures.run(&trace, 4);
+//! figures.run(&trace, 3);
+//! figures.run(&trace[..9], 4);
+//! assert!(figures.agree(), "{figures}");
+//! ```
+//!
+//! - [`check`]: one call of each kind on both sides, and what differs.
+//! - [`writing`]: the writer of traces on both sides.
+//! - [`converting`]: the converter of old traces on both sides.
+//! - [`importing`]: the importer of captures on both sides.
+//! - [`sheets`]: the order sheet on both sides.
+//! - [`waiting`]: how long a controller can wait by its sheets, on both sides.
+//! - [`imaging`]: the flat image of a device on both sides.
+//! - [`starting`]: all orders of two start-up scripts on both sides.
+//! - [`shelving`]: a shelf of several arbiters on both sides.
+//! - [`sharing`]: the totals of the bus share report on both sides.
+//! - [`advancing`]: advances over quiet time on both sides.
+//! - [`words`]: events and answers in words, for what differs.
+//! - [`cases`]: random calls, good and damaged, in rounds.
+//! - [`fixed`]: calls that are few enough to try them all.
+//! - [`wanted`]: the numbers and sights that have to occur.
+//! - [`figures`]: how many there were, what happened in them, and what never did.
 
 pub mod advancing;
 pub mod cases;

@@ -5,6 +5,15 @@ use core::fmt;
 use crate::Master;
 
 /// What became of one event.
+///
+/// ```
+/// use gunwaleish::Outcome;
+///
+/// assert_eq!(Outcome::of(4), Outcome::OutOfSequence);
+/// assert!(Outcome::OutOfSequence.is_refused());
+/// // A byte that is not acknowledged is no refusal.
+/// assert!(!Outcome::NotAcknowledged.is_refused());
+/// ```
 #[derive(Clone, Copy, Debug, PartialEq, Eq, Hash)]
 #[non_exhaustive]
 pub enum Outcome {
@@ -109,6 +118,17 @@ impl fmt::Display for Ground {
 
 /// What the device answers to one event. All but the outcome and the byte read show the device
 /// after the step.
+///
+/// ```
+/// use gunwaleish::{Answer, Ground, Master, Outcome};
+///
+/// // Master 0 reads CONTR after its grant: 07h.
+/// let answer = Answer::from([0x00, 0x07, 0x25, 0x0C]);
+/// assert_eq!((answer.outcome, answer.byte_read), (Outcome::Done, 0x07));
+/// assert_eq!((answer.owner, answer.connected), (Some(Master::Zero), Some(Master::Zero)));
+/// assert_eq!(answer.ground, Some(Ground::Sole));
+/// assert!(answer.scl && answer.sda && !answer.int0 && !answer.int1);
+/// ```
 #[derive(Clone, Copy, Debug, PartialEq, Eq, Hash)]
 #[non_exhaustive]
 pub struct Answer {

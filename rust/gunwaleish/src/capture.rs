@@ -32,6 +32,26 @@ pub fn import_capture_into(
 }
 
 /// The events that a capture has for the device of this address.
+///
+/// ```
+/// use gunwaleish::{import_capture, Event, Master};
+///
+/// // Master 0's bus: START, the address 71h with a write bit, the byte 01h, STOP.
+/// let mut samples = vec![0x0F, 0x0D];
+/// for byte in [0xE2, 0x01] {
+///     // Eight bits, and one for the acknowledgement, each while SCL is low, high and low again.
+///     for bit in (0..8).rev().map(|place| byte >> place & 1).chain([0]) {
+///         samples.extend([0x0C, 0x0C | bit << 1, 0x0D | bit << 1, 0x0C | bit << 1]);
+///     }
+/// }
+/// samples.extend([0x0C, 0x0D, 0x0F]);
+/// let master = Master::Zero;
+/// let events = [Event::Command { master, code: 1 }, Event::Stop { master }];
+/// assert_eq!(import_capture(&samples, 0x71)?, events);
+/// // No transfer is for 70h.
+/// assert_eq!(import_capture(&samples, 0x70)?, []);
+/// # Ok::<(), gunwaleish::Refusal>(())
+/// ```
 #[cfg(feature = "alloc")]
 pub fn import_capture(samples: &[u8], address: u8) -> Result<Vec<Event>, Refusal> {
     let mut events = vec![0; 4 * (samples.len() / 9).min(MOST_CAPTURED)];

@@ -49,6 +49,16 @@ impl fmt::Display for Master {
 /// Four bytes become an `Event` and an `Event` becomes four bytes, and nothing is lost on the way:
 /// bytes that no kind has are kept in `Raw`. The library refuses those when it runs them, and it
 /// writes them as they are.
+///
+/// ```
+/// use gunwaleish::{Event, Master};
+///
+/// let write = Event::Write { master: Master::One, value: 0x05 };
+/// assert_eq!(write.bytes(), [1, 1, 5, 0]);
+/// assert_eq!(Event::from([1, 1, 5, 0]), write);
+/// // No kind has a third field here.
+/// assert_eq!(Event::from([1, 1, 5, 9]), Event::Raw([1, 1, 5, 9]));
+/// ```
 #[derive(Clone, Copy, Debug, PartialEq, Eq, Hash)]
 pub enum Event {
     /// 0, COMMAND: opens the master's port for writing and sets its pointer.

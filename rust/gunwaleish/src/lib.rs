@@ -29,26 +29,22 @@
 //! # Ok::<(), gunwaleish::Refusal>(())
 //! ```
 //!
-//! Where the events of a start-up come from is an order sheet: `sheet_box` looks up a box on a board
-//! sheet and a house sheet, `sheet_events` gives the events that they order, and `sheet_wait` tells how
-//! long a controller can wait by them. An empty box is refused, and never becomes a value.
+//! # What there is
 //!
-//! A `Device` stands between its events and is stepped one by one. It is the image of 38 bytes that a
-//! microcontroller keeps, so it can be kept as bytes too. Over quiet time it advances by many ticks at
-//! once.
-//!
-//! A `Shelf` is a row of up to 16 such devices with their addresses, on the same two upstream buses.
-//!
-//! `Totals` is the bus share over many traces: for how many ticks each controller owned the bus, was
-//! connected, and waited.
-//!
-//! A `Watch` listens to both upstream buses of a real board, with the model beside the chip: each byte
-//! that the chip gives is held against the model's answer.
-//!
-//! Before both controllers' start-up scripts are packaged, `list_orders` tries them in all the orders
-//! that keep each script's own order, and says for each how the bus stands at its end.
-//!
-//! `library_identity` tells which library is linked, for a paper that has to name it.
+//! | for | there is |
+//! |---|---|
+//! | a trace | [`run()`] and [`run_trace`], [`listing()`], [`write_trace`], [`convert_trace`] for one that names no part |
+//! | a capture of a logic analyser | [`import_capture`], which makes events of it |
+//! | two order sheets | [`sheet_box`] looks up a box, [`sheet_events`] gives the events that they order, [`sheet_wait`] how long a controller can wait by them. An empty box is refused, and never becomes a value |
+//! | two start-up scripts | [`list_orders`] tries them in all the orders that keep each script's own order, and says for each how the bus stands at its end |
+//! | one device | [`Device`] stands between its events and is stepped one by one. It is the image of 38 bytes that a microcontroller keeps, and over quiet time it advances by many ticks at once |
+//! | several devices | [`Shelf`], a row of up to 16 of them with their addresses, on the same two upstream buses |
+//! | many traces | [`Totals`], the bus share: for how many ticks each controller owned the bus, was connected, and waited |
+//! | a real board | [`Watch`] listens to both upstream buses, and holds each byte that the chip gives against the model's answer |
+//! | straps | [`Pins`], [`address_of`], [`pins_of`] |
+//! | names for the bytes | [`Event`], [`Answer`], [`Bus`], [`Outcome`], [`Ground`], [`Register`], [`Part`], [`Master`] |
+//! | what is refused | [`Refusal`], by the numbers of documents 01 and 02 |
+//! | a paper that names the library | [`library_identity`], [`library_version`] |
 //!
 //! # Without the standard library
 //!

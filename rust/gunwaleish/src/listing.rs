@@ -17,6 +17,14 @@ pub fn listing_into(trace: &[u8], text: &mut [u8]) -> usize {
 
 /// A trace's listing: address and count, then one answer a line, in capital hex; or `R` and the
 /// number of a refused trace.
+///
+/// ```
+/// use gunwaleish::listing;
+///
+/// let trace = [4, 0, 0, 0, 0, 2, 0, 0, 0, 1, 0, 1, 0, 5, 0, 1, 0];
+/// assert_eq!(listing(&trace), "70 0002\n0000000C\n0000200C\n");
+/// assert_eq!(listing(&trace[1..]), "R10\n");
+/// ```
 #[cfg(feature = "alloc")]
 pub fn listing(trace: &[u8]) -> String {
     // 8 bytes for the first line and 9 for each event are enough, and a refusal is shorter.

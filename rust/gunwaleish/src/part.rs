@@ -5,6 +5,14 @@ use core::fmt;
 /// The kind of part that is fitted.
 ///
 /// Nothing here has a default: a trace names its part, and whoever writes one says which it is.
+///
+/// ```
+/// use gunwaleish::Part;
+///
+/// assert_eq!(Part::named("tpt29641"), Some(Part::Tpt29641));
+/// assert_eq!((Part::of(0), Part::of(2)), (Some(Part::Pca9641), None));
+/// assert_eq!(Part::Pca9641.to_string(), "PCA9641");
+/// ```
 #[derive(Clone, Copy, Debug, PartialEq, Eq, Hash)]
 pub enum Part {
     /// 0: the PCA9641. Its idle timer ends a grant at 101 idle ticks, and its write pointer stays at

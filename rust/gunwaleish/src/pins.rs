@@ -7,6 +7,17 @@ use crate::{boundary, Refusal};
 /// A strapping: the codes of the four pins. 0 is VSS, 1 VDD, 2 pull-down, 3 pull-up.
 ///
 /// Any codes can stand here. Whether a strapping has an address, the library says.
+///
+/// ```
+/// use gunwaleish::{Pins, Refusal};
+///
+/// let pins = Pins::of_address(0x71)?;
+/// assert_eq!(pins, Pins { ad3: 0, ad2: 0, ad1: 0, ad0: 1 });
+/// assert_eq!(pins.address(), Ok(0x71));
+/// // AD3 at VDD and three ties have no address.
+/// assert_eq!(Pins::from([1, 0, 0, 0]).address(), Err(Refusal::NoSuchStrapping));
+/// # Ok::<(), Refusal>(())
+/// ```
 #[derive(Clone, Copy, Debug, Default, PartialEq, Eq, Hash)]
 pub struct Pins {
     /// The code of AD3, which has to be a tie, 0 or 1. With the class of the other three, tie or

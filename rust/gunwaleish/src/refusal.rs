@@ -6,6 +6,15 @@ use core::fmt;
 /// Where a number says one thing of a trace and another of an order sheet, an image, a start-up
 /// script, a shelf, totals or a listener, it has a name for each.
 /// Later calls bring numbers of their own.
+///
+/// ```
+/// use gunwaleish::{run_trace, Refusal};
+///
+/// // Two pins are missing, and all that comes after them.
+/// let refusal = run_trace(&[4, 0, 0], &mut []).unwrap_err();
+/// assert_eq!((refusal, refusal.number()), (Refusal::TraceCut, 5));
+/// assert_eq!(refusal.to_string(), "refusal 5: cut: bytes are missing at the end");
+/// ```
 #[derive(Clone, Copy, Debug, PartialEq, Eq, Hash)]
 #[non_exhaustive]
 pub enum Refusal {

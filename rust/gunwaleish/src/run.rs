@@ -53,6 +53,17 @@ pub struct Run {
 }
 
 /// Runs a trace from power-up and gives its events and answers by their names.
+///
+/// ```
+/// use gunwaleish::{run, Event, Master, Outcome, Part};
+///
+/// // 70h, two events, a PCA9641: master 1 opens CONTR, and a STOP of master 0, whose port is at rest.
+/// let run = run(&[4, 0, 0, 0, 0, 2, 0, 0, 1, 1, 0, 3, 0, 0, 0, 1, 0])?;
+/// assert_eq!((run.address, run.part), (0x70, Part::Pca9641));
+/// assert_eq!(run.events[0], Event::Command { master: Master::One, code: 1 });
+/// assert_eq!(run.answers[1].outcome, Outcome::OutOfSequence);
+/// # Ok::<(), gunwaleish::Refusal>(())
+/// ```
 #[cfg(feature = "alloc")]
 pub fn run(trace: &[u8]) -> Result<Run, Refusal> {
     let mut answers = vec![0; 4 * (trace.len() / 4).min(MOST_EVENTS)];

@@ -4,6 +4,15 @@
 //! The same code is an ordinary Rust library, `ask`, which the tests call, and a module (wasm) whose exports are in
 //! `wasm`: `memory`; `input(n) -> address`, a room for a request of n bytes, or 0 if there is no such room; `ask(n) ->
 //! length`, which answers the request of n bytes in the room; `output() -> address` of the answer. It has no imports.
+//!
+//! ```
+//! use gunwaleish_page::ask;
+//! use gunwaleish_page::fields::join;
+//!
+//! let listed = ask(&join(&[b"listing", &[4, 0, 0, 0, 0, 0, 0, 1, 0]]));
+//! assert!(String::from_utf8_lossy(&listed).contains("70 0000\n"));
+//! ```
+//!
 #![doc = include_str!("../REQUESTS.md")]
 
 pub mod fields;

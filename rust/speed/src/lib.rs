@@ -2,11 +2,11 @@
 //!
 //! The steppers it is timed against are in docs/stepper.
 //!
-//! - `mixes`: the traces that are timed; `alike`: events of all kinds, each as often as the others.
-//! - `decoder`: a plain decoder of captures.
-//! - `captures`: the captures that are timed.
-//! - `timing`: the best and the median of many, by turns.
-//! - `saying`: lines on standard output, until nobody reads them.
+//! - [`mixes`]: the traces that are timed; [`alike`]: events of all kinds, each as often as the others.
+//! - [`decoder`]: a plain decoder of captures.
+//! - [`captures`]: the captures that are timed.
+//! - [`timing`]: the best and the median of many, by turns.
+//! - [`saying`]: lines on standard output, until nobody reads them.
 
 pub mod alike;
 pub mod captures;

@@ -1,18 +1,38 @@
-//! The tool that people run: a subcommand gives one verdict over a release folder, or reads traces (or
-//! scripts, or captures) and writes one thing of each, or reads two order sheets and says what they order,
-//! or tries two start-up scripts in all their orders, or runs a script over a shelf of several devices, or
-//! runs folders of traces on all cores, or counts over many traces how the bus was shared, or watches a bus
-//! with the model beside the chip.
+//! The tool that people run, `gunwaleish`, as a library. Every answer comes from the proved library; what is here is words and pictures.
 //!
-//! Every answer comes from the proved library. What is here is words and pictures: `story` follows
-//! a run and says what changed, `stuck` why one still waits at its end, `diff` where two runs part, `sheet`
-//! says what is on two sheets, `form` has the text of one, `startup` how the orders of two scripts end,
-//! `shelf` what happens at each place of a shelf, `share` how the bus was shared, `release` whether a bundle
-//! is safe by all of that, `watch` what differs on a bus that is listened to, and `picture` draws. `commands` has a file for each subcommand; the help, `manual`
-//! and `completion` are made from its table. `arguments`, `options`, `files`, `walk` and `each` are the way
-//! from the command line to the files and back; `columns` and `wrap` keep lines short, `table` and `json`
-//! write rows for other programs, `samples` reads captures in all their forms, and `hint` says what a wrong
-//! file is.
+//! | what | where |
+//! |---|---|
+//! | the subcommands, a file each, and what one is | [`commands`], [`command`] |
+//! | the help, the manual page and the completions, made from the table of commands | [`about`], [`manual`], [`completion`], [`version`] |
+//! | the way from the command line to the files and back | [`command_line`], [`arguments`], [`options`], [`device`], [`files`], [`walk`], [`each`] |
+//! | why a command stops, and what a person is told | [`failure`], [`telling`] |
+//! | a run, event by event: what changed, its totals, and why one still waits at its end | [`story`], [`words`], [`summary`], [`stuck`] |
+//! | two runs, and where they part | [`diff`] |
+//! | order sheets: what two of them order, and the text of one | [`sheet`], [`form`] |
+//! | two start-up scripts in all their orders | [`startup`] |
+//! | a shelf of several devices, and what happens at each place | [`shelf`] |
+//! | many traces: run on all cores, and how the bus was shared in them | [`many`], [`share`] |
+//! | one verdict over a release folder | [`release`], [`sha256`] |
+//! | captures in all their forms, and what is seen in them | [`samples`], [`seen`], [`cut`] |
+//! | a bus that is listened to, with the model beside the chip | [`watch`] |
+//! | scripts, read and written | [`script`] |
+//! | pictures | [`picture`], [`svg`] |
+//! | lines that stay short, and rows for other programs | [`columns`], [`wrap`], [`table`], [`json`] |
+//! | what a file is that was given in the place of another | [`hint`] |
+//!
+//! What a command makes of bytes can be had without its command line:
+//!
+//! ```
+//! use gunwaleish_tool::commands::compose::compose;
+//! use gunwaleish_tool::files::Input;
+//!
+//! let script = b"pins 0 0 0 1\npart PCA9641\ncommand 0 01\n".to_vec();
+//! let made = compose(&Input { name: "a.script".to_string(), bytes: script });
+//! assert_eq!(made.output.unwrap(), [4, 0, 0, 0, 1, 1, 0, 0, 0, 1, 0, 1, 0]);
+//!
+//! let made = compose(&Input { name: "a.script".to_string(), bytes: b"pins 0 0 0".to_vec() });
+//! assert!(made.refused.unwrap().starts_with("a.script, line 1: the line ends, expected "));
+//! ```
 
 pub mod about;
 pub mod arguments;
