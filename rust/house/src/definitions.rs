@@ -1,7 +1,7 @@
 //! Holds `docs/DEFINITIONS.md` to the files of `crates/*/specs/`. Each file has one row, `| file | of | what it has | lines |`, no file stands
 //! before one that it uses, what it is of is what the file says of itself, and its count of lines is made here.
 
-use crate::list::quoted;
+use crate::tables::quoted;
 use crate::tree::Tree;
 
 /// Where the files of definitions are listed in reading order.

@@ -1,6 +1,5 @@
 //! The edits that show wrong answers refused: `crates/CRATE/must-fail/NAME.edit`, which the gate tries, and `crates/CRATE/tried/NAME.edit`.
 
-use crate::list::LIST;
 use crate::tree::Tree;
 use std::collections::BTreeMap;
 

@@ -3,7 +3,7 @@
 //! A path is looked for at the root, under `crates/`, beside the page, in the folders of the paths that its line names before it, and at last as
 //! the end of any path, since a page that speaks of a crate says `specs/Answers.antt`. Commands are left out: tools/try-pages runs those.
 
-use crate::list::quoted;
+use crate::tables::quoted;
 use crate::tree::Tree;
 
 /// How files end that a page may name. Others, such as the totals of a share, are made by whoever uses it.

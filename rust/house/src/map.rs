@@ -2,8 +2,8 @@
 //! picture is the one that is drawn, and CONTRIBUTING has a row for each crate.
 
 use crate::groups::{groups_of, Group, CRATES};
-use crate::list::quoted;
 use crate::picture::{house_picture, HOUSE};
+use crate::tables::quoted;
 use crate::tree::Tree;
 
 /// Where the map stands, where each crate has its row, and where each page has its reader.

@@ -12,9 +12,9 @@
 //!
 //! A name between backquotes outside of the last three has any form of `names.rs`.
 
-use crate::list::quoted;
 use crate::names::Names;
 use crate::sentences::definition_faults;
+use crate::tables::quoted;
 use crate::tree::Tree;
 
 /// Where the rules stand.
