@@ -40,13 +40,13 @@ closed-for-requires : tie.Need-closed-for-requires
 closed-for-requires c κs = search needs
 
 returns : tie.Need-returns
-returns c = simp (← (c .is-apart .ensures ∙ apart-same _), c .before .enum-told .given .1)
+returns c = simp (← (c .is-apart .ensures ∙ apart-same (c .before .before .before .args .w)), c .before .enum-told .given .1)
 
 returns-2 : tie.Need-returns-2
 returns-2 c = simp (← c .is-initialising .ensures, c .before .before .v .given .1)
 
 returns-3 : tie.Need-returns-3
-returns-3 c = simp (← (c .closed-for .ensures ∙ closed-same _ _), c .before .before .v2 .given .1)
+returns-3 c = simp (← (c .closed-for .ensures ∙ closed-same _ (c .before .before .before .before .args .w)), c .before .before .v2 .given .1)
 
 pub same-switch-spec : {M : Type 1} → statement M
 same-switch-spec =
