@@ -9,7 +9,7 @@ ghost use mathlib.Core.Bool.{true};
 ghost use lib.ListN.{length, drop};
 ghost use Rattle.arbiter.specs.Steps.{answer};
 ghost use Rattle.layout.specs.Layout.{deviceIn};
-ghost use Rattle.layout.specs.Images.{imageAnswer, imageAfter, refusedBy};
+ghost use Rattle.layout.specs.Images.{imageAnswer, imageAfter};
 ghost use Rattle.shelf.specs.Shelf.{shelfRow, shelfAnswer, shelfShow};
 ghost use Rattle.routing.specs.Deciding.{seenOf};
 ghost use Rattle.rows.specs.Sweeps.{carriedOut};
