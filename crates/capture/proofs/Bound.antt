@@ -9,8 +9,11 @@ use native.Mathlib.Omega.{arith}
 use lib.ListN.{length-append, length-map}
 use borrow.Author.Tests.{ltb-false}
 use Rattle.arbiter.proofs.Choice.{either, split}
-use Rattle.capture.specs.Names.{ℕ, _+_, _*_, Bool, true, false, not, _&&_, _||_, List, [], _∷_, map, ltb, length, if_then_else_, Master, Zero, One, Stop, Levels, Sign, Steady, Starts, Stops, Clocks, Awaited, NoByte, AddressByte, CommandByte, WriteByte, ReadByte, CallByte, SkippedByte, Listener, Given, Nothing, Written, Gives}
-use Rattle.capture.specs.OneBus.{levels, isStart, isStop, rises, sign, signsAfter, signs, addressed, awaitedAfter, byteGives, owes, isOutside, silent, started, stopped, shifted, ended, atClock, heard, gives, givenFrom, given}
+use Rattle.capture.specs.Names.{ℕ, _+_, _*_, Bool, true, false, not, _&&_, _||_, List, [], _∷_, map, ltb, length, if_then_else_, Master, Zero, One, Stop}
+use Rattle.capture.specs.Names.{Levels, Sign, Steady, Starts, Stops, Clocks, Awaited, NoByte, AddressByte, CommandByte, WriteByte, ReadByte, CallByte}
+use Rattle.capture.specs.Names.{SkippedByte, Listener, Given, Nothing, Written, Gives}
+use Rattle.capture.specs.OneBus.{levels, isStart, isStop, rises, sign, signsAfter, signs, addressed, awaitedAfter, byteGives, owes, isOutside, silent}
+use Rattle.capture.specs.OneBus.{started, stopped, shifted, ended, atClock, heard, gives, givenFrom, given}
 use Rattle.capture.specs.Events.{fromOne, besideWrite, together, merged, captured}
 use Rattle.capture.specs.Answers.{NineSamples, MostCaptured, CapturedInRange}
 

@@ -7,7 +7,8 @@ use mathlib.Core.List.{List, [], _∷_}
 use native.Mathlib.Omega.{arith}
 use lib.ListN.{length}
 use Rattle.capture.specs.Names.{Zero, One, Read, Stop, ReadByte, Listener, Both}
-use Rattle.capture.specs.OneBus.{sign, addressed, awaitedAfter, byteGives, owes, isOutside, started, stopped, shifted, ended, atClock, heard, gives, isCut}
+use Rattle.capture.specs.OneBus.{sign, addressed, awaitedAfter, byteGives, owes, isOutside, started, stopped, shifted, ended, atClock, heard, gives}
+use Rattle.capture.specs.OneBus.{isCut}
 use Rattle.capture.specs.Events.{together, captured}
 use Rattle.capture.specs.Import.{cutOnEither, importNumber}
 use Rattle.capture.specs.Samples.{sampled, bothFrom, eventsFrom, bothAfter, eventsAfter}
@@ -46,12 +47,14 @@ abbrev both : Both
 both = record { bus0 = reading; bus1 = reading }
 
 -- one byte more on both buses gives two events,
-one-byte : (rest : List ℕ) → (eventsFrom 0x70 0x05 both (byte rest) ≡ Read Zero ∷ Read One ∷ eventsFrom 0x70 0x05 both rest) × (bothFrom 0x70 0x05 both (byte rest) ≡ bothFrom 0x70 0x05 both rest)
+one-byte : (rest : List ℕ) → (eventsFrom 0x70 0x05 both (byte rest) ≡ Read Zero ∷ Read One ∷ eventsFrom 0x70 0x05 both rest)
+    × (bothFrom 0x70 0x05 both (byte rest) ≡ bothFrom 0x70 0x05 both rest)
 unfolding eventsFrom bothFrom sampled sign heard gives atClock shifted ended awaitedAfter byteGives owes isOutside together
 one-byte rest = (refl, refl)
 
 -- and so do all of them
-all-bytes : (n : ℕ) (rest : List ℕ) → (length (eventsFrom 0x70 0x05 both (bytes n rest)) ≡ 2 * n + length (eventsFrom 0x70 0x05 both rest)) × (bothFrom 0x70 0x05 both (bytes n rest) ≡ bothFrom 0x70 0x05 both rest)
+all-bytes : (n : ℕ) (rest : List ℕ) → (length (eventsFrom 0x70 0x05 both (bytes n rest)) ≡ 2 * n + length (eventsFrom 0x70 0x05 both rest))
+    × (bothFrom 0x70 0x05 both (bytes n rest) ≡ bothFrom 0x70 0x05 both rest)
 unfolding bytes
 all-bytes zero rest = (omega arith, refl)
 all-bytes (suc n) rest =
@@ -65,11 +68,14 @@ bytes-long zero rest = omega arith
 bytes-long (suc n) rest = omega (arith, bytes-long n rest)
 
 -- up to its first READ, and from the last to its end
-opening : (rest : List ℕ) → (eventsAfter 0x70 (0x0F ∷ 0x05 ∷ address (byte rest)) ≡ Read Zero ∷ Read One ∷ eventsFrom 0x70 0x05 both rest) × (bothAfter 0x70 (0x0F ∷ 0x05 ∷ address (byte rest)) ≡ bothFrom 0x70 0x05 both rest)
-unfolding eventsAfter bothAfter eventsFrom bothFrom sampled sign heard gives started atClock shifted ended addressed awaitedAfter byteGives owes isOutside together
+opening : (rest : List ℕ) → (eventsAfter 0x70 (0x0F ∷ 0x05 ∷ address (byte rest)) ≡ Read Zero ∷ Read One ∷ eventsFrom 0x70 0x05 both rest)
+    × (bothAfter 0x70 (0x0F ∷ 0x05 ∷ address (byte rest)) ≡ bothFrom 0x70 0x05 both rest)
+unfolding eventsAfter bothAfter eventsFrom bothFrom sampled sign heard gives started atClock shifted ended addressed awaitedAfter byteGives owes isOutside
+    together
 opening rest = (refl, refl)
 
-closing : (eventsFrom 0x70 0x05 both (0x0F ∷ []) ≡ Stop Zero ∷ Stop One ∷ []) × ((isCut (bothFrom 0x70 0x05 both (0x0F ∷ []) .bus0) || isCut (bothFrom 0x70 0x05 both (0x0F ∷ []) .bus1)) ≡ false)
+closing : (eventsFrom 0x70 0x05 both (0x0F ∷ []) ≡ Stop Zero ∷ Stop One ∷ [])
+    × ((isCut (bothFrom 0x70 0x05 both (0x0F ∷ []) .bus0) || isCut (bothFrom 0x70 0x05 both (0x0F ∷ []) .bus1)) ≡ false)
 unfolding eventsFrom bothFrom sampled sign heard gives stopped together
 closing = (refl, refl)
 

@@ -70,7 +70,8 @@ unfolding sampled heard gives
 again address x s = rw (same-steady (levels Zero x), same-steady (levels One x)) refl
 
 from-again : (address before x : ℕ) (s : Both) (p q : List ℕ)
-    → (eventsFrom address before s (p ++ x ∷ x ∷ q) ≡ eventsFrom address before s (p ++ x ∷ q)) × (bothFrom address before s (p ++ x ∷ x ∷ q) ≡ bothFrom address before s (p ++ x ∷ q))
+    → (eventsFrom address before s (p ++ x ∷ x ∷ q) ≡ eventsFrom address before s (p ++ x ∷ q))
+    × (bothFrom address before s (p ++ x ∷ x ∷ q) ≡ bothFrom address before s (p ++ x ∷ q))
 unfolding eventsFrom bothFrom together
 from-again address before x s [] q =
     let n : Both = sampled address before x s .both in

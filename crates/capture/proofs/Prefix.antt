@@ -32,7 +32,8 @@ unfolding bothFrom eventsFrom
 events-from address before s [] k h = absurd (no-less k h)
 events-from address before s (now ∷ l) zero h = append-nil (eventsIn (sampled address before now s))
 events-from address before s (now ∷ l) (suc k) h =
-    ap (λ (es : List Event). eventsIn (sampled address before now s) ++ es) (events-from address now (sampled address before now s .both) l k (less k (length l) h))
+    ap (λ (es : List Event). eventsIn (sampled address before now s) ++ es)
+    (events-from address now (sampled address before now s .both) l k (less k (length l) h))
     ∙ sym (append-assoc (eventsIn (sampled address before now s)) _ _)
 
 few-from : (address before : ℕ) (s : Both) (l : List ℕ) (k : ℕ) → length (eventsFrom address before s (take k l)) ≤ length (eventsFrom address before s l)

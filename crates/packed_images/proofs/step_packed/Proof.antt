@@ -6,19 +6,10 @@ use borrow.Author.Needs.{needs}
 use Rattle.packed_images.proofs.step_packed.Statement.{statement}
 use Rattle.packed_images.proofs.step_packed.Tie as tie
 
-step-image-requires : tie.Need-step-image-requires
-step-image-requires c κs = search needs
-
-packed-answer-requires : tie.Need-packed-answer-requires
-packed-answer-requires c κs = search needs
-
-same-length : tie.Need-same-length
-same-length c = search needs
-
 returns : tie.Need-returns
 returns c =
     let done = c .before .before .before .step-image .ensures in
     (c .packed-answer .ensures ∙ ap packedAnswer (done .0), done .1)
 
 pub step-packed-spec : {M : Type 1} → statement M
-step-packed-spec = tie.close (tie.spec step-image-requires packed-answer-requires same-length returns)
+step-packed-spec = tie.close (tie.spec (λ c κs. search needs) (λ c κs. search needs) (λ c. search needs) returns)

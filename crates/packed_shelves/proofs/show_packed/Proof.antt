@@ -6,14 +6,8 @@ use borrow.Author.Needs.{needs}
 use Rattle.packed_shelves.proofs.show_packed.Statement.{statement}
 use Rattle.packed_shelves.proofs.show_packed.Tie as tie
 
-show-row-requires : tie.Need-show-row-requires
-show-row-requires c κs = search needs
-
-packed-answer-requires : tie.Need-packed-answer-requires
-packed-answer-requires c κs = search needs
-
 returns : tie.Need-returns
 returns c = c .packed-answer .ensures ∙ ap packedAnswer (c .before .show-row .ensures)
 
 pub show-packed-spec : {M : Type 1} → statement M
-show-packed-spec = tie.close (tie.spec show-row-requires packed-answer-requires returns)
+show-packed-spec = tie.close (tie.spec (λ c κs. search needs) (λ c κs. search needs) returns)
