@@ -6,22 +6,22 @@ mod cited;
 mod groups;
 mod noted;
 mod page;
+mod template;
 
 pub use page::promises_page;
+pub use template::TEMPLATE;
 
 use crate::calls::{calls_of, Call};
 use crate::edits::{fault_of, path_in, GATE, TRIED};
-use crate::tables::{cells_of, quoted};
 use crate::tree::Tree;
 use cited::{cited, is_defined};
 use groups::{groups, CRATES};
 use noted::{noted, Noted};
-use page::{EDITS, PLACES};
 use std::collections::BTreeSet;
+use template::{is_exception, template_faults};
 
-/// Where the page stands, and its prose with the grounds of the exceptions.
+/// Where the page stands.
 pub const LIST: &str = "docs/PROMISES.md";
-pub const TEMPLATE: &str = "rust/house/src/promises/page.md";
 
 /// The wrong answers that each call wants.
 const WANTED: usize = 2;
@@ -76,55 +76,6 @@ fn crate_faults(tree: &Tree, calls: &[Call], edits: &[Noted]) -> Vec<String> {
     }
     let tell = |krate| format!("{CRATES} lacks `{krate}`, which has public calls or edits.");
     lacking.into_iter().map(tell).collect()
-}
-
-// ---- exceptions
-
-/// The rows of the template's exceptions, each with its call first, then its grounds and the cell for its edits.
-fn exceptions(tree: &Tree) -> Vec<(String, Vec<&str>)> {
-    let text = tree.text(TEMPLATE).unwrap_or_default();
-    let section = text.split("\n## ").find(|section| section.starts_with("Exceptions"));
-    let rows = section.unwrap_or_default().lines().filter_map(cells_of);
-    rows.filter_map(|cells| Some((quoted(cells[0]).into_iter().next()?, cells))).collect()
-}
-
-fn is_exception(tree: &Tree, call: &str) -> bool {
-    exceptions(tree).iter().any(|(name, _)| name == call)
-}
-
-fn template_faults(tree: &Tree, calls: &[Call]) -> Vec<String> {
-    let Some(text) = tree.text(TEMPLATE) else {
-        return vec![format!("There is no {TEMPLATE}.")];
-    };
-    let mut found = Vec::new();
-    for place in PLACES {
-        if !text.lines().any(|line| line == place) {
-            found.push(format!("{TEMPLATE} has no line {place}."));
-        }
-    }
-    let listed = exceptions(tree);
-    for (at, (name, cells)) in listed.iter().enumerate() {
-        let Some(call) = calls.iter().find(|call| call.name == *name) else {
-            found.push(format!("{TEMPLATE} lists `{name}`, and no crate has such a public call."));
-            continue;
-        };
-        if listed[..at].iter().any(|(other, _)| other == name) {
-            found.push(format!("`{name}` stands in {TEMPLATE} twice."));
-        }
-        if !cells.get(1).is_some_and(|grounds| !grounds.is_empty() && *grounds != EDITS) {
-            found.push(format!("The exception `{name}` has no grounds in {TEMPLATE}."));
-        }
-        if cells.last() != Some(&EDITS) {
-            found.push(format!("The exception `{name}` has no cell {EDITS} in {TEMPLATE}."));
-        }
-        if call.has("ensures") && !call.has("requires") {
-            found.push(format!(
-                "`{name}` has a promise in {}, and {TEMPLATE} lists it as an exception.",
-                call.file
-            ));
-        }
-    }
-    found
 }
 
 // ---- calls
@@ -184,6 +135,27 @@ fn is_unique(tree: &Tree, call: &Call) -> bool {
 
 fn edit_faults(tree: &Tree, edit: &Noted, calls: &[Call]) -> Vec<String> {
     let path = path_in(if edit.is_for_the_gate { GATE } else { TRIED }, &edit.name);
+    let mut told = note_faults(edit);
+    for (at, name) in edit.calls.iter().enumerate() {
+        if !calls.iter().any(|call| call.name == *name) {
+            told.push(format!("it names the call `{name}`, and no crate has such a public call."));
+        }
+        if edit.calls[..at].contains(name) {
+            told.push(format!("it names the call `{name}` twice."));
+        }
+    }
+    for place in edit.refused.iter().filter(|place| !is_place(tree, edit.crate_name(), place)) {
+        told.push(format!(
+            "it is said to be refused at `{place}`, and its crate has no such place."
+        ));
+    }
+    let mut found: Vec<String> = told.iter().map(|why| format!("{path}: {why}")).collect();
+    found.extend(fault_of(tree, &edit.name));
+    found
+}
+
+/// What is wrong with the notes of an edit by themselves, whatever they name.
+fn note_faults(edit: &Noted) -> Vec<String> {
     let mut told: Vec<String> = Vec::new();
     if let Some(note) = edit.doubled {
         told.push(format!("it has the note `# {note}:` twice."));
@@ -206,22 +178,7 @@ fn edit_faults(tree: &Tree, edit: &Noted, calls: &[Call]) -> Vec<String> {
                 .to_string(),
         );
     }
-    for (at, name) in edit.calls.iter().enumerate() {
-        if !calls.iter().any(|call| call.name == *name) {
-            told.push(format!("it names the call `{name}`, and no crate has such a public call."));
-        }
-        if edit.calls[..at].contains(name) {
-            told.push(format!("it names the call `{name}` twice."));
-        }
-    }
-    for place in edit.refused.iter().filter(|place| !is_place(tree, edit.crate_name(), place)) {
-        told.push(format!(
-            "it is said to be refused at `{place}`, and its crate has no such place."
-        ));
-    }
-    let mut found: Vec<String> = told.iter().map(|why| format!("{path}: {why}")).collect();
-    found.extend(fault_of(tree, &edit.name));
-    found
+    told
 }
 
 /// True of `is_lit` and `is_lit returns`, if the crate has this function, and of `Light all-lit`, if a file of its proofs of this name has this fact.

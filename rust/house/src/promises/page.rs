@@ -3,15 +3,11 @@
 use super::cited::{cited, promise_of};
 use super::groups::groups;
 use super::noted::{noted, Noted};
-use super::{is_exception, TEMPLATE};
+use super::template::{is_exception, EDITS, TEMPLATE};
 use crate::calls::{calls_of, Call};
 use crate::tables::{cells_of, quoted};
 use crate::tree::Tree;
 use std::collections::BTreeMap;
-
-/// The places of the template, each a line of its own, and in the row of an exception the cell for its edits.
-pub const PLACES: [&str; 3] = ["{devices}", "{rules}", "{calls}"];
-pub const EDITS: &str = "{edits}";
 
 /// The page as it has to stand now.
 pub fn promises_page(tree: &Tree) -> String {
