@@ -95,7 +95,7 @@ impl Figures {
         self.sights.see_changing(changing);
         self.most_changing = self.most_changing.max(changing);
         if changing > MOST_CHANGING {
-            self.tell("image", image, &format!("advance by {ticks}: {changing} changing ticks"));
+            self.tell("image", image, format!("advance by {ticks}: {changing} changing ticks"));
         }
     }
 }

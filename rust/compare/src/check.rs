@@ -169,7 +169,7 @@ impl Figures {
     pub fn run(&mut self, trace: &[u8], room: usize) {
         match check_run(trace, room) {
             Ok(result) => self.count(trace, &result),
-            Err(difference) => self.tell("trace", trace, &format!("room {room}; {difference}")),
+            Err(difference) => self.tell("trace", trace, format!("room {room}; {difference}")),
         }
     }
 

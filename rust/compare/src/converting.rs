@@ -55,7 +55,7 @@ impl Figures {
         match check_convert(old, room) {
             Ok(number) => self.answered("convert", number),
             Err(difference) => {
-                self.tell("trace", old, &format!("converted in room {room}; {difference}"))
+                self.tell("trace", old, format!("converted in room {room}; {difference}"))
             }
         }
     }

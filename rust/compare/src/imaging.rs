@@ -258,7 +258,7 @@ impl Figures {
                 after
             }
             Err(difference) => {
-                self.tell("events", &events.concat(), &format!("{kind:?}; {difference}"));
+                self.tell("events", &events.concat(), format!("{kind:?}; {difference}"));
                 vec![]
             }
         }

@@ -133,7 +133,7 @@ impl Figures {
             }
             Err(difference) => {
                 let call = format!("address {address:02X}h, room {room}");
-                self.tell("capture", samples, &format!("{call}; {difference}"))
+                self.tell("capture", samples, format!("{call}; {difference}"))
             }
         }
     }

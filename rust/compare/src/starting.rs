@@ -133,7 +133,7 @@ impl Figures {
             }
             Err(difference) => {
                 let call = format!("script 1 {}, limit {limit}, room {room}", hex(&scripts[1]));
-                self.tell("script0", &scripts[0], &format!("{call}; {difference}"))
+                self.tell("script0", &scripts[0], format!("{call}; {difference}"))
             }
         }
     }

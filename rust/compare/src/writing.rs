@@ -135,7 +135,7 @@ impl Figures {
             Ok(number) => self.answered("write", number),
             Err(difference) => {
                 let call = format!("written with pins {pins:?}, kind {kind}, room {room}");
-                self.tell("events", events, &format!("{call}; {difference}"))
+                self.tell("events", events, format!("{call}; {difference}"))
             }
         }
     }
