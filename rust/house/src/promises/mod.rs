@@ -3,7 +3,6 @@
 //! whether the page that is kept is the one that they give.
 
 mod cited;
-mod groups;
 mod noted;
 mod page;
 mod template;
@@ -13,9 +12,9 @@ pub use template::TEMPLATE;
 
 use crate::calls::{calls_of, Call};
 use crate::edits::{fault_of, path_in, GATE, TRIED};
+use crate::groups::{groups_of, CRATES};
 use crate::tree::Tree;
 use cited::{cited, is_defined};
-use groups::{groups, CRATES};
 use noted::{noted, Noted};
 use std::collections::BTreeSet;
 use template::{is_exception, template_faults};
@@ -70,9 +69,9 @@ fn page_fault(tree: &Tree) -> Option<String> {
 fn crate_faults(tree: &Tree, calls: &[Call], edits: &[Noted]) -> Vec<String> {
     let named = calls.iter().map(Call::crate_name).chain(edits.iter().map(Noted::crate_name));
     let mut lacking: BTreeSet<&str> = named.collect();
-    let groups = groups(tree);
+    let groups = groups_of(tree.text(CRATES).unwrap_or_default());
     for krate in groups.iter().flat_map(|group| &group.crates) {
-        lacking.remove(krate.as_str());
+        lacking.remove(krate.name.as_str());
     }
     let tell = |krate| format!("{CRATES} lacks `{krate}`, which has public calls or edits.");
     lacking.into_iter().map(tell).collect()

@@ -1,10 +1,10 @@
 //! Writes the page: the prose of the template, and in its places what contracts and edits give.
 
 use super::cited::{cited, promise_of};
-use super::groups::groups;
 use super::noted::{noted, Noted};
 use super::template::{is_exception, EDITS, TEMPLATE};
 use crate::calls::{calls_of, Call};
+use crate::groups::{groups_of, Group, CRATES};
 use crate::tables::{cells_of, quoted};
 use crate::tree::Tree;
 use std::collections::BTreeMap;
@@ -53,10 +53,14 @@ fn shown(place: &str) -> String {
     format!("`{}`", place.replace(' ', "."))
 }
 
+fn groups(tree: &Tree) -> Vec<Group> {
+    groups_of(tree.text(CRATES).unwrap_or_default())
+}
+
 /// The edits of definitions alone, a row a crate, by the law that refuses them.
 fn rules(tree: &Tree, edits: &[Noted]) -> String {
     let mut text = "| crate | refused at: wrong rules and statements |\n|---|---|\n".to_string();
-    for krate in groups(tree).iter().flat_map(|group| &group.crates) {
+    for krate in groups(tree).iter().flat_map(|group| &group.crates).map(|known| &known.name) {
         let mut laws: BTreeMap<String, Vec<String>> = BTreeMap::new();
         for edit in edits.iter().filter(|e| e.calls.is_empty() && e.crate_name() == krate) {
             let law = edit.refused.first().map_or(String::new(), |place| shown(place) + ": ");
@@ -78,7 +82,7 @@ fn calls(tree: &Tree, edits: &[Noted]) -> String {
     for group in groups(tree) {
         let mut rows = String::new();
         for krate in &group.crates {
-            for call in all.iter().filter(|call| call.crate_name() == krate) {
+            for call in all.iter().filter(|call| call.crate_name() == krate.name) {
                 if !is_exception(tree, &call.name) {
                     rows += &row(tree, call, edits);
                 }
