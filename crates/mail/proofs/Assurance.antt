@@ -2,7 +2,8 @@
 -- Assumes nothing.
 use Rattle.mail.specs.Assurance.{Assurance}
 use Rattle.mail.proofs.Box.{box-changes}
-use Rattle.mail.proofs.Lists.{mail-in-order, pending-held, one-pending, low-kept, word-filled, drop-is-nothing, resets-end, lists-grow, pair-fills-both, emptying-leaves}
+use Rattle.mail.proofs.Lists.{mail-in-order, pending-held, one-pending, low-kept, word-filled, drop-is-nothing, resets-end, lists-grow, pair-fills-both}
+use Rattle.mail.proofs.Lists.{emptying-leaves}
 use Rattle.mail.proofs.Status.{status-shows}
 use Rattle.mail.proofs.Using.{cleared-seen, emptied-seen, words-taken, clear-until-filled}
 use Rattle.mail.proofs.Sender.{sent-cleared-seen, cleared-sent-seen}

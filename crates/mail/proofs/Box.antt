@@ -2,8 +2,11 @@
 -- Assumes nothing.
 use mathlib.Core.Path.{_≡_, refl, sym, ap, ap₂, _∙_}
 use mathlib.Core.Bool.{true≢false, false≢true}
-use Rattle.mail.specs.Names.{ℕ, Bool, true, false, not, _&&_, Master, Zero, One, Register, Id, Contr, Status, Rt, IntStatus, IntMask, MailLow, MailHigh, Mailbox, Side, Device, Raw, Event, Command, Write, Read, Stop, Pair, Lines, Tick, Pulse, Reset, GeneralCall, Decoded, Reads, if_then_else_, partner, side, decode, isMailHigh, isReset}
-use Rattle.mail.specs.Words.{box, byteOf, isMailLow, mailsLow, mailsHigh, lowers, fills, takes, empties, fillOf, emptyingOf, decodedByte, byteBy, boxAfter}
+use Rattle.mail.specs.Names.{ℕ, Bool, true, false, not, _&&_, Master, Zero, One, Register, Id, Contr, Status, Rt, IntStatus, IntMask, MailLow, MailHigh}
+use Rattle.mail.specs.Names.{Mailbox, Side, Device, Raw, Event, Command, Write, Read, Stop, Pair, Lines, Tick, Pulse, Reset, GeneralCall, Decoded, Reads}
+use Rattle.mail.specs.Names.{if_then_else_, partner, side, decode, isMailHigh, isReset}
+use Rattle.mail.specs.Words.{box, byteOf, isMailLow, mailsLow, mailsHigh, lowers, fills, takes, empties, fillOf, emptyingOf, decodedByte, byteBy}
+use Rattle.mail.specs.Words.{boxAfter}
 use Rattle.mail.specs.Mail.{BoxChanges}
 use Rattle.arbiter.specs.declared.Port.the-variants.{Open}
 use Rattle.arbiter.specs.declared.Stepped.{Stepped}

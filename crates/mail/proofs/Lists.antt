@@ -4,15 +4,18 @@ use native.Mathlib.Omega.{arith}
 use mathlib.Core.Path.{_≡_, refl, sym, ap, ap₂, subst, _∙_}
 use mathlib.Core.Bool.{true≢false, false≢true, and-eq-true-iff}
 use mathlib.Core.List.{append-assoc, append-nil}
-use Rattle.mail.specs.Names.{ℕ, _≤_, Bool, true, false, not, _&&_, List, [], _∷_, _++_, length, drop, Master, Zero, One, MailHigh, Mailbox, Kind, Device, Raw, Pair, Decoded, Reads, if_then_else_, partner, isMailHigh, powerUp, runFrom, run, next, reset, Word}
+use Rattle.mail.specs.Names.{ℕ, _≤_, Bool, true, false, not, _&&_, List, [], _∷_, _++_, length, drop, Master, Zero, One, MailHigh, Mailbox, Kind, Device}
+use Rattle.mail.specs.Names.{Raw, Pair, Decoded, Reads, if_then_else_, partner, isMailHigh, powerUp, runFrom, run, next, reset, Word}
 use Rattle.mail.specs.Words.{box, full, word, held, at, fills, lowWriteOf, fillOf, emptyingOf, decodedByte, byteBy}
-use Rattle.mail.specs.Mail.{listedFrom, filled, emptied, lowFrom, lastLow, MailInOrder, PendingHeld, OnePending, LowKept, WordFilled, DropIsNothing, ResetsEnd, ListsGrow, PairFillsBoth, EmptyingLeaves}
+use Rattle.mail.specs.Mail.{listedFrom, filled, emptied, lowFrom, lastLow, MailInOrder, PendingHeld, OnePending, LowKept, WordFilled, DropIsNothing}
+use Rattle.mail.specs.Mail.{ResetsEnd, ListsGrow, PairFillsBoth, EmptyingLeaves}
 use Rattle.arbiter.specs.Events.{inSequence}
 use Rattle.arbiter.specs.Effects.{freshSide}
 use Rattle.arbiter.specs.AuditWords.{acceptedAs}
 use Rattle.arbiter.proofs.Choice.{either, split, if-true, if-false}
 use Rattle.mail.proofs.Box.{boxBy, box-changes}
-use Rattle.mail.proofs.Said.{fill-meets, low-meets, emptying-meets, drop-meets, drop-no-reset, drop-no-emptying, fill-no-reset, fill-no-low, emptying-no-reset, emptying-no-low, emptying-no-fill, emptying-one, full-no-fill, full-no-low}
+use Rattle.mail.proofs.Said.{fill-meets, low-meets, emptying-meets, drop-meets, drop-no-reset, drop-no-emptying, fill-no-reset, fill-no-low}
+use Rattle.mail.proofs.Said.{emptying-no-reset, emptying-no-low, emptying-no-fill, emptying-one, full-no-fill, full-no-low}
 
 -- ---- one event
 

@@ -2,7 +2,9 @@
 -- Assumes nothing.
 use mathlib.Core.Path.{_≡_, refl, sym, ap, ap₂, _∙_}
 use mathlib.Core.Bool.{true≢false, false≢true, and-eq-true-iff, and-false}
-use Rattle.mail.specs.Names.{ℕ, Bool, true, false, not, _&&_, List, [], _∷_, Master, Zero, One, Register, Id, Contr, Status, Rt, IntStatus, IntMask, MailLow, MailHigh, Mailbox, Side, Device, Raw, Event, Command, Write, Read, Stop, Pair, Lines, Tick, Pulse, Reset, GeneralCall, side, readsAt, isMailHigh, isReset, step, runFrom, run, next, reset, never}
+use Rattle.mail.specs.Names.{ℕ, Bool, true, false, not, _&&_, List, [], _∷_, Master, Zero, One, Register, Id, Contr, Status, Rt, IntStatus, IntMask}
+use Rattle.mail.specs.Names.{MailLow, MailHigh, Mailbox, Side, Device, Raw, Event, Command, Write, Read, Stop, Pair, Lines, Tick, Pulse, Reset}
+use Rattle.mail.specs.Names.{GeneralCall, side, readsAt, isMailHigh, isReset, step, runFrom, run, next, reset, never}
 use Rattle.mail.specs.Words.{box, full, word, at, reads, isMailLow, takes, empties, emptyingOf}
 use Rattle.mail.specs.Using.{lowReadOf, isOwn, ownOf, readOf, LowThenHigh, BurstTakes}
 use Rattle.arbiter.specs.declared.Port.the-variants.{Open}

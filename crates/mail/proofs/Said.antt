@@ -3,8 +3,11 @@
 use mathlib.Core.Path.{_≡_, refl, sym, ap, _∙_}
 use mathlib.Core.Bool.{true≢false, false≢true, and-eq-true-iff, and-false}
 use borrow.Author.Tests.{not-true}
-use Rattle.mail.specs.Names.{Bool, true, false, not, _&&_, _||_, Master, Zero, One, Register, Id, Contr, Status, Rt, IntStatus, IntMask, MailLow, MailHigh, Device, Raw, Event, Command, Write, Read, Stop, Pair, Lines, Tick, Pulse, Reset, GeneralCall, Decoded, Reads, UnknownKind, BadField, partner, sameMaster, decode, isMailHigh, isReset, accepted, reset}
-use Rattle.mail.specs.Words.{full, at, writes, reads, isMailLow, mailsLow, mailsHigh, drops, lowers, fills, takes, empties, dropOf, lowWriteOf, fillOf, emptyingOf}
+use Rattle.mail.specs.Names.{Bool, true, false, not, _&&_, _||_, Master, Zero, One, Register, Id, Contr, Status, Rt, IntStatus, IntMask, MailLow}
+use Rattle.mail.specs.Names.{MailHigh, Device, Raw, Event, Command, Write, Read, Stop, Pair, Lines, Tick, Pulse, Reset, GeneralCall, Decoded, Reads}
+use Rattle.mail.specs.Names.{UnknownKind, BadField, partner, sameMaster, decode, isMailHigh, isReset, accepted, reset}
+use Rattle.mail.specs.Words.{full, at, writes, reads, isMailLow, mailsLow, mailsHigh, drops, lowers, fills, takes, empties, dropOf, lowWriteOf, fillOf}
+use Rattle.mail.specs.Words.{emptyingOf}
 use Rattle.arbiter.specs.Events.{inSequence}
 use Rattle.arbiter.specs.AuditWords.{acceptedAs}
 use Rattle.arbiter.proofs.Choice.{split}

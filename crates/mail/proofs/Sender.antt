@@ -3,7 +3,8 @@
 use mathlib.Core.Path.{_≡_, refl, ap, ap₂, _∙_}
 use mathlib.Core.Bool.{false≢true, and-eq-true-iff, and-false}
 use mathlib.Core.List.{append-assoc}
-use Rattle.mail.specs.Names.{Bool, true, false, not, _&&_, List, [], _∷_, _++_, Master, Zero, One, Register, Id, Contr, Status, Rt, IntStatus, IntMask, MailLow, MailHigh, Device, Raw, Event, bit, partner, powerUp, isReset, isMailHigh, runFrom, run, next, reset, never, Word}
+use Rattle.mail.specs.Names.{Bool, true, false, not, _&&_, List, [], _∷_, _++_, Master, Zero, One, Register, Id, Contr, Status, Rt, IntStatus, IntMask}
+use Rattle.mail.specs.Names.{MailLow, MailHigh, Device, Raw, Event, bit, partner, powerUp, isReset, isMailHigh, runFrom, run, next, reset, never, Word}
 use Rattle.mail.specs.Words.{full, held, at, writes, byteOf, fills, fillOf, emptyingOf}
 use Rattle.mail.specs.Mail.{listedFrom, filled, emptied}
 use Rattle.mail.specs.Using.{seesEmptied, isIntStatus, clears, clearingOf, SentClearedSeen, ClearedSentSeen}

@@ -3,7 +3,9 @@
 -- Assumes nothing.
 use mathlib.Core.Path.{_≡_, refl, sym, ap, ap₂, _∙_}
 use mathlib.Core.Bool.{true≢false, false≢true}
-use Rattle.mail.specs.Names.{ℕ, Bool, true, false, not, _&&_, _||_, Master, Zero, One, Register, Id, Contr, Status, Rt, IntStatus, IntMask, MailLow, MailHigh, Side, Device, Raw, Event, Command, Write, Read, Stop, Pair, Lines, Tick, Pulse, Reset, GeneralCall, Reads, if_then_else_, bit, partner, side, decode, isMailHigh, isReset, next, reset}
+use Rattle.mail.specs.Names.{ℕ, Bool, true, false, not, _&&_, _||_, Master, Zero, One, Register, Id, Contr, Status, Rt, IntStatus, IntMask, MailLow}
+use Rattle.mail.specs.Names.{MailHigh, Side, Device, Raw, Event, Command, Write, Read, Stop, Pair, Lines, Tick, Pulse, Reset, GeneralCall, Reads}
+use Rattle.mail.specs.Names.{if_then_else_, bit, partner, side, decode, isMailHigh, isReset, next, reset}
 use Rattle.mail.specs.Words.{full, at, empties, emptyingOf}
 use Rattle.mail.specs.Using.{seesEmptied, isIntStatus, clears, clearingOf}
 use Rattle.arbiter.specs.declared.Port.the-variants.{Open}

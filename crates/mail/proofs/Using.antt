@@ -3,7 +3,8 @@
 use mathlib.Core.Path.{_≡_, refl, sym, ap, ap₂, subst, _∙_}
 use mathlib.Core.Bool.{true≢false, and-eq-true-iff}
 use mathlib.Core.List.{append-assoc, append-nil}
-use Rattle.mail.specs.Names.{Bool, true, false, not, _&&_, List, [], _∷_, _++_, Master, Mailbox, Device, Raw, Event, if_then_else_, bit, partner, powerUp, runFrom, run, next, isReset, isMailHigh, reset, never, Word}
+use Rattle.mail.specs.Names.{Bool, true, false, not, _&&_, List, [], _∷_, _++_, Master, Mailbox, Device, Raw, Event, if_then_else_, bit, partner, powerUp}
+use Rattle.mail.specs.Names.{runFrom, run, next, isReset, isMailHigh, reset, never, Word}
 use Rattle.mail.specs.Words.{full, held, at, writes, byteOf, empties, fillOf, emptyingOf}
 use Rattle.mail.specs.Mail.{listedFrom, filled, emptied}
 use Rattle.mail.specs.Using.{seesEmptied, isIntStatus, clears, clearingOf, ClearedSeen, EmptiedSeen, WordsTaken, ClearUntilFilled}

@@ -4,7 +4,8 @@ use Rattle.shelf.specs.Answers.{Answers}
 use Rattle.shelf.proofs.Rows.{keeps-addresses, others-same, reached-steps, answer-alone, refused-same}
 use Rattle.shelf.proofs.Found.{reached-in-row, unknown-changes-none}
 use Rattle.shelf.proofs.Shown.{shown-at-place}
-use Rattle.shelf.proofs.Places.{at-place, answer-at-place, every-run-at-place, one-connected-at-place, later-at-place, reserve-lasts-at-place, partner-in-time-at-place}
+use Rattle.shelf.proofs.Places.{at-place, answer-at-place, every-run-at-place, one-connected-at-place, later-at-place, reserve-lasts-at-place}
+use Rattle.shelf.proofs.Places.{partner-in-time-at-place}
 use Rattle.shelf.proofs.Turns.{partner-in-time-throughout-at-place, partner-next-at-place}
 use Rattle.shelf.proofs.Examples.{examples-hold}
 use Rattle.shelf.proofs.ShelfWitnesses.{one-event-met, shelf-witnesses-meet}

@@ -15,8 +15,10 @@ use Rattle.arbiter.specs.declared.Decoded.{Decoded}
 use Rattle.arbiter.specs.declared.Decoded.the-variants.{UnknownKind}
 use Rattle.arbiter.specs.declared.Stepped.{Stepped}
 use Rattle.arbiter.proofs.Choice.{split, if-true, if-false}
-use Rattle.shelf.specs.Names.{if_then_else_, Device, Raw, Record, Naming, AnAddress, APlace, Nothing, Fault, EmptyRow, TooMany, EqualAddresses, NotInRow, Reach, At, Everyone, Refused}
-use Rattle.shelf.specs.Shelf.{mostRecords, addressesOf, deviceAt, naming, twoEqual, further, placeOf, reachBy, reaches, stepRecord, rowAfter, answerAfter, shelfRow, shelfAnswer}
+use Rattle.shelf.specs.Names.{if_then_else_, Device, Raw, Record, Naming, AnAddress, APlace, Nothing, Fault, EmptyRow, TooMany, EqualAddresses, NotInRow}
+use Rattle.shelf.specs.Names.{Reach, At, Everyone, Refused}
+use Rattle.shelf.specs.Shelf.{mostRecords, addressesOf, deviceAt, naming, twoEqual, further, placeOf, reachBy, reaches, stepRecord, rowAfter, answerAfter}
+use Rattle.shelf.specs.Shelf.{shelfRow, shelfAnswer}
 use Rattle.shelf.specs.Runs.{ReachedInRow, UnknownChangesNone}
 
 -- ---- a place that is reached

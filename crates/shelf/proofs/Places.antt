@@ -21,7 +21,8 @@ use Rattle.arbiter.proofs.Reserve.{reserve-lasts}
 use Rattle.arbiter.proofs.InTime.{partner-in-time}
 use Rattle.shelf.specs.Names.{if_then_else_, Kind, Device, Raw, Answer, Record, Reach, At, Everyone, Refused}
 use Rattle.shelf.specs.Shelf.{addressesOf, recordAt, deviceAt, reaches, reachesPlace, stepRecord, answerAfter, shelfRow, shelfAnswer}
-use Rattle.shelf.specs.Runs.{Named, shelfRun, Slot, freshRecord, freshRow, kindAt, shelfAfter, reached, reachedAt, reachesAt, answersFor, answersAt, AtPlace, AnswerAtPlace, EveryRunAtPlace, OneConnectedAtPlace, LaterAtPlace, ReserveLastsAtPlace, PartnerInTimeAtPlace}
+use Rattle.shelf.specs.Runs.{Named, shelfRun, Slot, freshRecord, freshRow, kindAt, shelfAfter, reached, reachedAt, reachesAt, answersFor, answersAt}
+use Rattle.shelf.specs.Runs.{AtPlace, AnswerAtPlace, EveryRunAtPlace, OneConnectedAtPlace, LaterAtPlace, ReserveLastsAtPlace, PartnerInTimeAtPlace}
 use Rattle.shelf.proofs.Rows.{keeps-addresses, addresses-length, others-same, reached-steps}
 
 -- ---- a run keeps the addresses

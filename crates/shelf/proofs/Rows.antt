@@ -9,8 +9,10 @@ use lib.Dec.{eqb, ltb}
 use lib.ListN.{length, getD, set}
 use borrow.Author.Tests.{eqb-true, eqb-false, ltb-true, ltb-false, eq-eqb}
 use Rattle.arbiter.specs.Steps.{step}
-use Rattle.shelf.specs.Names.{if_then_else_, Device, Raw, Record, Naming, AnAddress, APlace, Nothing, Fault, EmptyRow, TooMany, EqualAddresses, NotInRow, Reach, At, Everyone, Refused}
-use Rattle.shelf.specs.Shelf.{addressesOf, noRecord, recordAt, deviceAt, naming, isIn, twoEqual, further, placeOf, reachBy, reaches, reachesPlace, stepRecord, rowAfter, answerAfter, shelfRow, shelfAnswer}
+use Rattle.shelf.specs.Names.{if_then_else_, Device, Raw, Record, Naming, AnAddress, APlace, Nothing, Fault, EmptyRow, TooMany, EqualAddresses, NotInRow}
+use Rattle.shelf.specs.Names.{Reach, At, Everyone, Refused}
+use Rattle.shelf.specs.Shelf.{addressesOf, noRecord, recordAt, deviceAt, naming, isIn, twoEqual, further, placeOf, reachBy, reaches, reachesPlace}
+use Rattle.shelf.specs.Shelf.{stepRecord, rowAfter, answerAfter, shelfRow, shelfAnswer}
 use Rattle.shelf.specs.Runs.{KeepsAddresses, OthersSame, ReachedSteps, AnswerAlone, RefusedSame}
 
 -- ---- who makes a step

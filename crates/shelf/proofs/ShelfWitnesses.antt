@@ -9,7 +9,8 @@ use Rattle.arbiter.specs.State.{owns, connected}
 use Rattle.arbiter.specs.Registers.{contrByte, statusByte, registerByte, isAsserted, ownWritten, mailWritten, drivesWritten, turnWritten}
 use Rattle.arbiter.specs.Events.{decode, inSequence, acknowledged, outcome}
 use Rattle.arbiter.specs.Effects.{commanded, written, paired, wasRead, lined, ticked, freshSide, wasReset, powerUp, effect}
-use Rattle.arbiter.specs.Order.{levels, lost, lossesFrom, losses, cutFrom, cut, winner, claim, granted, grantFrom, grant, joined, clocked, keptJoined, connectFrom, connect}
+use Rattle.arbiter.specs.Order.{levels, lost, lossesFrom, losses, cutFrom, cut, winner, claim, granted, grantFrom, grant, joined, clocked, keptJoined}
+use Rattle.arbiter.specs.Order.{connectFrom, connect}
 use Rattle.arbiter.specs.Steps.{parts, ownerByte, linesByte, byteRead, refused, taken, stepEvent, stepDecoded, step, runFrom, run}
 use Rattle.arbiter.specs.AuditWords.{next, reserveOf, reset, ticksIn, never, throughout}
 use Rattle.arbiter.specs.Witnesses.{setsContr}
@@ -18,8 +19,10 @@ use Rattle.arbiter.specs.declared.Master.the-variants.{Zero}
 use Rattle.arbiter.proofs.Witnesses.{Holds}
 use Rattle.shelf.specs.Names.{ℕ, true, false, List, [], _∷_, _++_, Device}
 use Rattle.shelf.specs.Shelf.{noRecord, deviceAt, naming, reaches, stepRecord, shelfRow, shelfAnswer}
-use Rattle.shelf.specs.Runs.{Named, kindAt, shelfAfter, shelfRun, reached, reachedAt, AnswerAtPlace, OneConnectedAtPlace, LaterAtPlace, ReserveLastsAtPlace, PartnerInTimeAtPlace, PartnerInTimeThroughoutAtPlace, IsNextAtPlace, PartnerNextAtPlace}
-use Rattle.shelf.specs.ShelfWitnesses.{two, turned, used, OneEventMet, answerAtPlace, oneConnectedAtPlace, laterAtPlace, reserveLastsAtPlace, partnerInTimeAtPlace, partnerNextAtPlace, shelfRows, ShelfWitnessesMeet}
+use Rattle.shelf.specs.Runs.{Named, kindAt, shelfAfter, shelfRun, reached, reachedAt, AnswerAtPlace, OneConnectedAtPlace, LaterAtPlace}
+use Rattle.shelf.specs.Runs.{ReserveLastsAtPlace, PartnerInTimeAtPlace, PartnerInTimeThroughoutAtPlace, IsNextAtPlace, PartnerNextAtPlace}
+use Rattle.shelf.specs.ShelfWitnesses.{two, turned, used, OneEventMet, answerAtPlace, oneConnectedAtPlace, laterAtPlace, reserveLastsAtPlace}
+use Rattle.shelf.specs.ShelfWitnesses.{partnerInTimeAtPlace, partnerNextAtPlace, shelfRows, ShelfWitnessesMeet}
 use Rattle.shelf.specs.Examples.{at}
 use Rattle.shelf.proofs.Places.{at-place}
 

@@ -9,8 +9,10 @@ use lib.ListN.{length}
 use borrow.Author.Tests.{lt-ltb}
 use Rattle.arbiter.specs.Steps.{answer, step}
 use Rattle.arbiter.proofs.Choice.{if-true, if-false}
-use Rattle.shelf.specs.Names.{if_then_else_, Device, Raw, Record, APlace, Fault, EmptyRow, TooMany, EqualAddresses, NotInRow, Reach, At, Everyone, Refused}
-use Rattle.shelf.specs.Shelf.{mostRecords, addressesOf, deviceAt, recordAt, twoEqual, reachOf, reaches, reachesPlace, stepRecord, showBy, shelfRow, shelfShow}
+use Rattle.shelf.specs.Names.{if_then_else_, Device, Raw, Record, APlace, Fault, EmptyRow, TooMany, EqualAddresses, NotInRow, Reach, At, Everyone}
+use Rattle.shelf.specs.Names.{Refused}
+use Rattle.shelf.specs.Shelf.{mostRecords, addressesOf, deviceAt, recordAt, twoEqual, reachOf, reaches, reachesPlace, stepRecord, showBy, shelfRow}
+use Rattle.shelf.specs.Shelf.{shelfShow}
 use Rattle.shelf.specs.Runs.{ShownAtPlace}
 use Rattle.shelf.proofs.Rows.{keeps-addresses, reached-steps, addresses-length}
 

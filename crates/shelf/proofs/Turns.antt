@@ -19,7 +19,8 @@ use Rattle.arbiter.proofs.Waiting.{partner-next}
 use Rattle.arbiter.proofs.InTime.{partner-in-time-throughout}
 use Rattle.shelf.specs.Names.{Device, Raw}
 use Rattle.shelf.specs.Shelf.{addressesOf, deviceAt}
-use Rattle.shelf.specs.Runs.{Named, Slot, freshRow, kindAt, shelfAfter, reached, reachedAt, reachesAt, IsNextAtPlace, PartnerInTimeThroughoutAtPlace, PartnerNextAtPlace}
+use Rattle.shelf.specs.Runs.{Named, Slot, freshRow, kindAt, shelfAfter, reached, reachedAt, reachesAt, IsNextAtPlace, PartnerInTimeThroughoutAtPlace}
+use Rattle.shelf.specs.Runs.{PartnerNextAtPlace}
 use Rattle.shelf.proofs.Places.{reached-first, reached-append, at-place, after-at-place, later-at-place, end-at-place}
 
 pub partner-in-time-throughout-at-place : PartnerInTimeThroughoutAtPlace
@@ -59,7 +60,8 @@ next-there slots i p es l (at-rest, in-turn) = (
     stop-is later s reaches =
         let roll = addressesOf (freshRow slots) in
         after-at-place slots es (later ++ s ∷ []) i l
-        ∙ ap (runFrom (deviceAt (shelfAfter slots es) i)) (reached-append later (s ∷ []) i roll ∙ ap (λ (rs : List Raw). reached i roll later ++ rs) (reached-first i roll s [] reaches))
+        ∙ ap (runFrom (deviceAt (shelfAfter slots es) i))
+        (reached-append later (s ∷ []) i roll ∙ ap (λ (rs : List Raw). reached i roll later ++ rs) (reached-first i roll s [] reaches))
         ∙ from-append (reachedAt i slots later) (s .event ∷ []) (deviceAt (shelfAfter slots es) i)
 
 pub partner-next-at-place : PartnerNextAtPlace

@@ -12,7 +12,8 @@ use Rattle.capture.specs.declared.Awaited.{Awaited}
 use Rattle.capture.specs.declared.Awaited.the-variants.{NoByte, AddressByte, CommandByte, WriteByte, ReadByte, CallByte, SkippedByte}
 use Rattle.capture.specs.declared.Given.{Given}
 use Rattle.capture.specs.declared.Given.the-variants.{Nothing, Written, Gives}
-use Rattle.watch.specs.Names.{ℕ, Bool, true, false, not, _&&_, List, [], _∷_, _++_, eqb, ltb, if_then_else_, bit, Master, Zero, One, Event, Write, Lines, Tick, Listener, Both, Settings, Ear}
+use Rattle.watch.specs.Names.{ℕ, Bool, true, false, not, _&&_, List, [], _∷_, _++_, eqb, ltb, if_then_else_, bit, Master, Zero, One, Event, Write, Lines}
+use Rattle.watch.specs.Names.{Tick, Listener, Both, Settings, Ear}
 use Rattle.watch.specs.Sample.{belowBefore, levelsBelow, linesGiven, heardNow, isTimed, isDue, ticksGiven, eventsAt}
 use Rattle.watch.specs.Answers.{isAbove, above}
 

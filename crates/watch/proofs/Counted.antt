@@ -5,8 +5,10 @@ use mathlib.Core.Path.{_≡_, refl, sym, ap, _∙_}
 use native.Mathlib.Omega.{arith}
 use lib.ListN.{length-append}
 use Rattle.arbiter.proofs.Choice.{split, if-true, if-false}
-use Rattle.watch.specs.Names.{ℕ, _+_, Bool, List, [], _∷_, _++_, length, worth, Event, Command, Write, Read, Stop, Pair, Lines, Tick, Pulse, Reset, GeneralCall, Check, Tally, Watcher}
-use Rattle.watch.specs.Stream.{top, plus, checkOf, differs, withEvent, withRead, tallyWith, followed, followedAll, withSample, heardBy, eventsNow, faultsNow, watchedAt, watched, eventsIn}
+use Rattle.watch.specs.Names.{ℕ, _+_, Bool, List, [], _∷_, _++_, length, worth, Event, Command, Write, Read, Stop, Pair, Lines, Tick, Pulse, Reset}
+use Rattle.watch.specs.Names.{GeneralCall, Check, Tally, Watcher}
+use Rattle.watch.specs.Stream.{top, plus, checkOf, differs, withEvent, withRead, tallyWith, followed, followedAll, withSample, heardBy, eventsNow}
+use Rattle.watch.specs.Stream.{faultsNow, watchedAt, watched, eventsIn}
 use Rattle.watch.specs.Found.{checksOf, checksAmong, checks, differing, faults}
 use Rattle.watch.proofs.Sums.{plus-twice, plus-below, plus-none}
 
@@ -24,7 +26,9 @@ differing-append (k ∷ p) q =
 
 -- ---- a count to which each event adds so many
 
-module _ (count : Tally → ℕ) (adds : Event → Watcher → ℕ) (law : (e : Event) (w : Watcher) → count (w .tally) ≤ top → count (tallyWith e (w .ear .both) (w .device) (w .tally)) ≡ plus (count (w .tally)) (adds e w)) (kept : (n : ℕ) (t : Tally) → count (withSample n t) ≡ count t) where
+module _ (count : Tally → ℕ) (adds : Event → Watcher → ℕ)
+    (law : (e : Event) (w : Watcher) → count (w .tally) ≤ top → count (tallyWith e (w .ear .both) (w .device) (w .tally)) ≡ plus (count (w .tally)) (adds e w))
+    (kept : (n : ℕ) (t : Tally) → count (withSample n t) ≡ count t) where
   pub among : List Event → Watcher → ℕ
   among [] w = 0
   among (e ∷ es) w = adds e w + among es (followed e w)
@@ -48,7 +52,8 @@ module _ (count : Tally → ℕ) (adds : Event → Watcher → ℕ) (law : (e : 
   of-stream [] w h = plus-none (count (w .tally)) h
   of-stream (x ∷ rest) w h =
       let now : ℕ = among (eventsNow x w) w in
-      let here : count (watchedAt x w .tally) ≡ plus (count (w .tally)) now = kept (faultsNow x w) (followedAll (eventsNow x w) w .tally) ∙ of-all (eventsNow x w) w h in
+      let here : count (watchedAt x w .tally) ≡ plus (count (w .tally)) now = kept (faultsNow x w) (followedAll (eventsNow x w) w .tally)
+      ∙ of-all (eventsNow x w) w h in
       of-stream rest (watchedAt x w) (omega (arith, here, plus-below (count (w .tally)) now))
       ∙ ap (λ (n : ℕ). plus n (through rest (watchedAt x w))) here
       ∙ plus-twice (count (w .tally)) now (through rest (watchedAt x w))
@@ -90,7 +95,8 @@ all-events (x ∷ rest) w =
 
 -- ---- READs: each adds its check
 
-pub some-reads : (e : Event) (w : Watcher) → w .tally .reads ≤ top → tallyWith e (w .ear .both) (w .device) (w .tally) .reads ≡ plus (w .tally .reads) (length (checksOf e w))
+pub some-reads : (e : Event) (w : Watcher) → w .tally .reads ≤ top → tallyWith e (w .ear .both) (w .device) (w .tally) .reads
+    ≡ plus (w .tally .reads) (length (checksOf e w))
 unfolding tallyWith withEvent withRead checksOf
 some-reads (Command m c) w h = plus-none (w .tally .reads) h
 some-reads (Write m v) w h = plus-none (w .tally .reads) h
@@ -160,7 +166,8 @@ differ-among (e ∷ es) w =
     omega (arith, later, differing-length (checksOf e w) (checksAmong es (followed e w)))
 
 all-differ : (samples : List ℕ) (w : Watcher)
-    → through (λ (t : Tally). t .differences) (λ e w. length (differing (checksOf e w))) some-differ kept-differences samples w ≡ length (differing (checks samples w))
+    → through (λ (t : Tally). t .differences) (λ e w. length (differing (checksOf e w))) some-differ kept-differences samples w
+    ≡ length (differing (checks samples w))
 unfolding through checks differing
 all-differ [] w = refl
 all-differ (x ∷ rest) w =
@@ -176,7 +183,8 @@ differences-from samples w h =
 
 -- ---- samples and faults: no event touches them, and each sample adds its own
 
-untouched : (e : Event) (w : Watcher) → (tallyWith e (w .ear .both) (w .device) (w .tally) .samples ≡ w .tally .samples) × (tallyWith e (w .ear .both) (w .device) (w .tally) .faults ≡ w .tally .faults)
+untouched : (e : Event) (w : Watcher) → (tallyWith e (w .ear .both) (w .device) (w .tally) .samples ≡ w .tally .samples)
+    × (tallyWith e (w .ear .both) (w .device) (w .tally) .faults ≡ w .tally .faults)
 unfolding tallyWith withEvent withRead
 untouched (Command m c) w = (refl, refl)
 untouched (Write m v) w = (refl, refl)

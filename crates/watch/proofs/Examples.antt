@@ -9,7 +9,8 @@ use Rattle.capture.specs.OneBus.{sign, addressed, awaitedAfter, byteGives, owes
 use Rattle.capture.specs.Events.{together, rawOf, eventBytes}
 use Rattle.capture.specs.Samples.{sampled}
 use Rattle.watch.specs.Sample.{linesGiven, heardNow, ticksGiven, sinceAfter, eventsAt, earAfter, silentEar}
-use Rattle.watch.specs.Stream.{top, plus, checkOf, withEvent, withRead, tallyWith, followed, followedAll, withSample, heardBy, watchedAt, watched, eventsIn, noCheck, noTally, beginning}
+use Rattle.watch.specs.Stream.{top, plus, checkOf, withEvent, withRead, tallyWith, followed, followedAll, withSample, heardBy, watchedAt, watched}
+use Rattle.watch.specs.Stream.{eventsIn, noCheck, noTally, beginning}
 use Rattle.watch.specs.Examples.{examples, ExamplesHold}
 
 pub examples-hold : ExamplesHold

@@ -5,12 +5,15 @@ use mathlib.Core.Path.{_≡_, refl, sym, ap, _∙_}
 use native.Mathlib.Omega.{arith}
 use borrow.Author.Tests.{ne-eqb}
 use Rattle.arbiter.proofs.Choice.{split, if-true, if-false}
-use Rattle.watch.specs.Names.{ℕ, _+_, Bool, true, false, _&&_, List, [], _∷_, _++_, eqb, ltb, length, if_then_else_, Master, Kind, Event, Command, Write, Read, Stop, Pair, Lines, Tick, Pulse, Reset, GeneralCall, Settings, Check, Tally, Watcher}
-use Rattle.watch.specs.Stream.{top, upTo, plus, checkOf, differs, withEvent, firstWith, withRead, tallyWith, followed, followedAll, withSample, heardBy, eventsNow, watchedAt, watched, eventsIn, noTally, beginning}
+use Rattle.watch.specs.Names.{ℕ, _+_, Bool, true, false, _&&_, List, [], _∷_, _++_, eqb, ltb, length, if_then_else_, Master, Kind, Event, Command, Write}
+use Rattle.watch.specs.Names.{Read, Stop, Pair, Lines, Tick, Pulse, Reset, GeneralCall, Settings, Check, Tally, Watcher}
+use Rattle.watch.specs.Stream.{top, upTo, plus, checkOf, differs, withEvent, firstWith, withRead, tallyWith, followed, followedAll, withSample, heardBy}
+use Rattle.watch.specs.Stream.{eventsNow, watchedAt, watched, eventsIn, noTally, beginning}
 use Rattle.watch.specs.Found.{checksOf, checksAmong, checks, differing, firstOr, faults}
 use Rattle.watch.specs.Answers.{AllCounted}
 use Rattle.watch.proofs.Sums.{plus-below, plus-none, none-counted, none-below}
-use Rattle.watch.proofs.Counted.{differing-append, of-all, of-stream, one-event, kept-events, all-events, some-reads, kept-reads, all-reads, some-differ, kept-differences, differ-among, differences-from, samples-from, faults-from}
+use Rattle.watch.proofs.Counted.{differing-append, of-all, of-stream, one-event, kept-events, all-events, some-reads, kept-reads, all-reads, some-differ}
+use Rattle.watch.proofs.Counted.{kept-differences, differ-among, differences-from, samples-from, faults-from}
 
 -- ---- the first difference
 
@@ -36,7 +39,8 @@ pick-append n k [] q h =
 pick-append n k (f ∷ p) q h = if-false (firstOr (pick n k (f ∷ p)) q) (pick n k (f ∷ p)) (not-none n (length (f ∷ p)) (omega arith))
 
 first-read : (m : Master) (w : Watcher)
-    → firstWith (w .tally) (checkOf (w .tally .samples) (w .ear .both) m (w .device)) ≡ pick (w .tally .differences) (w .tally .first) (differing (checkOf (w .tally .samples) (w .ear .both) m (w .device) ∷ []))
+    → firstWith (w .tally) (checkOf (w .tally .samples) (w .ear .both) m (w .device))
+    ≡ pick (w .tally .differences) (w .tally .first) (differing (checkOf (w .tally .samples) (w .ear .both) m (w .device) ∷ []))
 unfolding differing
 first-read m w = go (eqb (w .tally .differences) 0) (differs (checkOf (w .tally .samples) (w .ear .both) m (w .device)))
   where
@@ -47,7 +51,8 @@ first-read m w = go (eqb (w .tally .differences) 0) (differs (checkOf (w .tally 
     go true false = refl
     go false other = refl
 
-first-event : (e : Event) (w : Watcher) → tallyWith e (w .ear .both) (w .device) (w .tally) .first ≡ pick (w .tally .differences) (w .tally .first) (differing (checksOf e w))
+first-event : (e : Event) (w : Watcher) → tallyWith e (w .ear .both) (w .device) (w .tally) .first
+    ≡ pick (w .tally .differences) (w .tally .first) (differing (checksOf e w))
 unfolding tallyWith withEvent withRead checksOf differing
 first-event (Command m c) w = sym (pick-none (w .tally .differences) (w .tally .first))
 first-event (Write m v) w = sym (pick-none (w .tally .differences) (w .tally .first))

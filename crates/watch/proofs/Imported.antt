@@ -26,11 +26,15 @@ events-mended address before x s = λ j. together (gives-mended Zero (signOf Zer
 pub both-mended : (address before x : ℕ) (s : Both)
     → bothMended (sampled address before x (bothMended s) .both) ≡ bothMended (sampled address before x s .both)
 unfolding sampled
-both-mended address before x s = λ j. record { bus0 = heard-mended address (signOf Zero before x) (s .bus0) j; bus1 = heard-mended address (signOf One before x) (s .bus1) j }
+both-mended address before x s =
+    λ j. record { bus0 = heard-mended address (signOf Zero before x) (s .bus0) j; bus1 = heard-mended address (signOf One before x) (s .bus1) j }
 
 -- ---- a stream, by what is kept of its events: those from above, or all of them
 
-module _ (c : Settings) (keep : List Event → List Event) (kept-none : keep [] ≡ []) (kept-append : (xs ys : List Event) → keep (xs ++ ys) ≡ keep xs ++ keep ys) (kept-at : (x before since : ℕ) (s : Both) → keep (eventsAt c x (record { begun = true; before = before; since = since; both = s })) ≡ eventsIn (sampled (c .address) before x s)) (kept-first : (x before since : ℕ) (s : Both) → keep (eventsAt c x (record { begun = false; before = before; since = since; both = s })) ≡ []) where
+module _ (c : Settings) (keep : List Event → List Event) (kept-none : keep [] ≡ []) (kept-append : (xs ys : List Event) → keep (xs ++ ys) ≡ keep xs ++ keep ys)
+    (kept-at : (x before since : ℕ) (s : Both) → keep (eventsAt c x (record { begun = true; before = before; since = since; both = s }))
+    ≡ eventsIn (sampled (c .address) before x s))
+    (kept-first : (x before since : ℕ) (s : Both) → keep (eventsAt c x (record { begun = false; before = before; since = since; both = s })) ≡ []) where
   kept-from : (rest : List ℕ) (before since : ℕ) (s : Both) (d : Device) (t : Tally)
       → keep (streamEvents rest (listening c before since (bothMended s) d t)) ≡ eventsFrom (c .address) before s rest
   unfolding streamEvents eventsFrom watchedAt heardBy earAfter heardNow

@@ -20,10 +20,12 @@ use Rattle.watch.specs.declared.Check.{Check}
 use Rattle.watch.specs.declared.Watcher.{Watcher}
 use Rattle.watch.specs.Stream.{top}
 use Rattle.watchlayout.specs.Numbers.{doubleAt, longAt}
-use Rattle.watchlayout.specs.Places.{watchLength, laid, settingsIn, busAt, earIn, checkAt, tallyIn, watcherIn, imagePart, bytesFit, fitsAt, settingsFit, busFits, earFits, checkFits, tallyFits, watchInRange}
+use Rattle.watchlayout.specs.Places.{watchLength, laid, settingsIn, busAt, earIn, checkAt, tallyIn, watcherIn, imagePart, bytesFit, fitsAt, settingsFit}
+use Rattle.watchlayout.specs.Places.{busFits, earFits, checkFits, tallyFits, watchInRange}
 use Rattle.watchlayout.specs.Calls.{isLong, watchNumber, isWatch}
 use Rattle.watchlayout.specs.Laws.{Fit, Whole, BufferFits, ListenerFits}
-use Rattle.watchlayout.proofs.Numbers.{awaited-back, master-back, Small, double-small, long-small, longs-small, each, small-fits, fits-small, double-fits, long-fits}
+use Rattle.watchlayout.proofs.Numbers.{awaited-back, master-back, Small, double-small, long-small, longs-small, each, small-fits, fits-small}
+use Rattle.watchlayout.proofs.Numbers.{double-fits, long-fits}
 
 -- ---- the refusals
 

@@ -15,7 +15,8 @@ use Rattle.capture.specs.declared.Sign.{Sign}
 use Rattle.capture.specs.declared.Sign.the-variants.{Steady, Starts, Stops, Clocks}
 use Rattle.capture.specs.declared.Given.{Given}
 use Rattle.capture.specs.declared.Given.the-variants.{Written, Gives}
-use Rattle.watch.specs.Names.{ℕ, _+_, Bool, true, false, not, _&&_, List, [], _∷_, _++_, eqb, ltb, if_then_else_, bit, worth, Master, Zero, One, Event, Command, Write, Read, Stop, Pair, Lines, Tick, GeneralCall, Listener, Nothing, Both, Heard}
+use Rattle.watch.specs.Names.{ℕ, _+_, Bool, true, false, not, _&&_, List, [], _∷_, _++_, eqb, ltb, if_then_else_, bit, worth, Master, Zero, One, Event, Command}
+use Rattle.watch.specs.Names.{Write, Read, Stop, Pair, Lines, Tick, GeneralCall, Listener, Nothing, Both, Heard}
 use Rattle.watch.specs.declared.Settings.{Settings}
 use Rattle.watch.specs.declared.Ear.{Ear}
 use Rattle.watch.specs.Sample.{levelsBelow, belowBefore, isTimed, isDue, heardNow, linesGiven, ticksGiven, eventsAt}

@@ -78,7 +78,8 @@ double-small n h = (omega arith, (omega arith, (omega arith, (omega arith, tt)))
 pub long-small : (n : ℕ) → n ≤ top → Small (longBytes n)
 unfolding top
 long-small n h =
-    small-append (doubleBytes (n % 4294967296)) (doubleBytes (n / 4294967296)) (double-small (n % 4294967296) (omega arith)) (double-small (n / 4294967296) (omega arith))
+    small-append (doubleBytes (n % 4294967296)) (doubleBytes (n / 4294967296)) (double-small (n % 4294967296) (omega arith))
+    (double-small (n / 4294967296) (omega arith))
 
 -- numbers of eight bytes, one after the other
 abbrev pub longs : List ℕ → List ℕ

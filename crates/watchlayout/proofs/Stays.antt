@@ -11,14 +11,16 @@ use Rattle.ranges.specs.Ranges.{inRange, areBytes}
 use Rattle.ranges.proofs.Ranges.{in-range, stays-in-range}
 use Rattle.capture.specs.Events.{rawOf}
 use mathlib.Core.Bool.{and-eq-true-iff}
-use Rattle.watch.specs.Names.{ℕ, _+_, true, not, _&&_, List, [], _∷_, eqb, ltb, worth, of, Master, Zero, One, Kind, Device, Event, Command, Write, Read, Stop, Pair, Lines, Tick, Pulse, Reset, GeneralCall, Both}
+use Rattle.watch.specs.Names.{ℕ, _+_, true, not, _&&_, List, [], _∷_, eqb, ltb, worth, of, Master, Zero, One, Kind, Device, Event, Command, Write, Read, Stop}
+use Rattle.watch.specs.Names.{Pair, Lines, Tick, Pulse, Reset, GeneralCall, Both}
 use Rattle.watch.specs.declared.Settings.{Settings}
 use Rattle.watch.specs.declared.Ear.{Ear}
 use Rattle.watch.specs.declared.Check.{Check}
 use Rattle.watch.specs.declared.Tally.{Tally}
 use Rattle.watch.specs.declared.Watcher.{Watcher}
 use Rattle.watch.specs.Sample.{isTimed, isDue, sinceAfter, earAfter, silentEar}
-use Rattle.watch.specs.Stream.{top, checkOf, differs, withEvent, withRead, tallyWith, followed, followedAll, withSample, eventsNow, faultsNow, heardBy, watchedAt, watched, noCheck, noTally, beginning}
+use Rattle.watch.specs.Stream.{top, checkOf, differs, withEvent, withRead, tallyWith, followed, followedAll, withSample, eventsNow, faultsNow, heardBy}
+use Rattle.watch.specs.Stream.{watchedAt, watched, noCheck, noTally, beginning}
 use Rattle.watch.proofs.Sums.{plus-below, none-below}
 use Rattle.watchlayout.specs.Laws.{Fit, StaysFit, BeginsFit}
 use Rattle.watchlayout.proofs.Given.{AllBytes, BothFit, heard-fits, events-bytes}
