@@ -5,6 +5,7 @@ use Rattle.light.proofs.Settles.{settled-at-power-up, stays-settled}
 use Rattle.light.proofs.Told.{settled-told}
 use Rattle.light.proofs.Light.{ends-itself}
 use Rattle.light.proofs.Ended.{ended-is-step, answer-shows}
+use Rattle.light.proofs.Turns.{granted-at-stop, claimed-by-write}
 
 pub answers : Answers
 answers =
@@ -15,4 +16,6 @@ answers =
       endsItself = ends-itself;
       endedIsStep = ended-is-step;
       answerShows = answer-shows;
+      grantedAtStop = granted-at-stop;
+      claimedByWrite = claimed-by-write;
     }

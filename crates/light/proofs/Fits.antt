@@ -71,7 +71,7 @@ all-five a b c d e p q r s t =
     ∙ t
 
 -- the five tests of a turn, each by itself and all of them
-tests : (t : Turn) (d : Device) → quietFrom t false d ≡ true
+pub tests : (t : Turn) (d : Device) → quietFrom t false d ≡ true
     → (switchStays t d ≡ true) × (noGrant t d ≡ true) × (noClaim t d ≡ true) × (noCut false t d ≡ true) × (noLoss t d ≡ true)
 tests t d h = five (switchStays t d) (noGrant t d) (noClaim t d) (noCut false t d) (noLoss t d) h
 
@@ -209,7 +209,7 @@ bus-again b still =
 
 -- m's side x and its partner's side p in a settled device d
 module _ (m : Master) (d : Device) (x p : Side) where
-  same-levels : Still (d .bus) → levels false (d .bus) (after d x p m) ≡ after d x p m
+  pub same-levels : Still (d .bus) → levels false (d .bus) (after d x p m) ≡ after d x p m
   unfolding levels
   same-levels still = ap (λ (b : Bus). withBus b (after d x p m)) (bus-again (d .bus) still)
 

@@ -166,7 +166,7 @@ own-fits IntMask m v d l = fits-on m (d .arb .turn) (side m d) (side m d) _ (fit
 own-fits MailLow m v d l = fits-self m (d .arb .turn) (side m d)
 own-fits MailHigh m v d l = fits-self m (d .arb .turn) (side m d)
 
-risen-alike : (auto : Bool) (p : Register) (s : Side) → Alike s (if auto then withPointer p s else s)
+pub risen-alike : (auto : Bool) (p : Register) (s : Side) → Alike s (if auto then withPointer p s else s)
 risen-alike true p s = (refl, refl, refl)
 risen-alike false p s = (refl, refl, refl)
 

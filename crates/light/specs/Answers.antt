@@ -3,6 +3,7 @@
 -- Assumes nothing.
 use Rattle.light.specs.Light.{SettledAtPowerUp, StaysSettled, SettledTold}
 use Rattle.light.specs.Ended.{EndsItself, EndedIsStep, AnswerShows}
+use Rattle.light.specs.Turns.{GrantedAtStop, ClaimedByWrite}
 
 pub record Answers : Type 0 where
   -- Is every device that a run reaches settled?
@@ -14,3 +15,6 @@ pub record Answers : Type 0 where
   pub endsItself : EndsItself
   pub endedIsStep : EndedIsStep
   pub answerShows : AnswerShows
+  -- Which events move the turn alone?
+  pub grantedAtStop : GrantedAtStop
+  pub claimedByWrite : ClaimedByWrite

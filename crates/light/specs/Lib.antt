@@ -1,3 +1,4 @@
 pub mod Light
 pub mod Ended
+pub mod Turns
 pub mod Answers

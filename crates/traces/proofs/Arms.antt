@@ -1,6 +1,6 @@
 -- The arms of the loop over events, one by one: what each makes of the two sides, the bus and the answer is the step of its event.
 -- Assumes nothing.
-use Prim.Native.Nat.{ℕ, zero, suc, _-_, _%_, _<_}
+use Prim.Native.Nat.{ℕ, zero, suc, _+_, _-_, _*_, _%_, _≤_, _<_}
 use mathlib.Core.Path.{_≡_, refl, sym, ap, ap₂, _∙_}
 use mathlib.Core.Bool.{Bool, true, false, not, _&&_, _||_, false≢true, and-eq-true-iff}
 use mathlib.Core.List.{List, [], _∷_}
@@ -8,18 +8,20 @@ use native.Mathlib.Omega.{arith}
 use lib.Bits.{or-zero-r}
 use lib.Dec.{eqb}
 use lib.ListN.{length, getD, set}
-use borrow.Author.Tests.{ltb-true}
-use Rattle.arbiter.specs.Words.{if_then_else_, partner, side, device}
-use Rattle.arbiter.specs.Parts.{withPort, withSide, withInts}
+use borrow.Author.Tests.{ltb-true, eqb-true}
+use Rattle.arbiter.specs.Words.{if_then_else_, bit, partner, side, device}
+use Rattle.arbiter.specs.Parts.{withPort, withPointer, withSide, withInts, withIdle, withTurn}
 use Rattle.arbiter.specs.State.{claimsTurn, ownsTurn, isInitialising, atRest, forWriting, sclHigh, sdaHigh}
 use Rattle.arbiter.specs.Registers.{mailEmptiedInt, raised, registerByte, ownWritten, mailWritten}
 use Rattle.arbiter.specs.Rules.{rolls}
 use Rattle.arbiter.specs.Events.{unused, zeroOrOne, level, master, goodCommand, writable, softReset, fitting, decode, decodedNumber, rawNumber, inSequence, acknowledged, outcome, outcomeNumber}
-use Rattle.arbiter.specs.Effects.{commanded, writeRisen, written, paired, empties, readerSide, senderSide, wasRead, intInFallen, lined, freshSide, freshBus, freshArb, wasReset, holdAsked, effect}
+use Rattle.arbiter.specs.Effects.{afterWrite, commanded, writeRisen, written, paired, empties, readerSide, senderSide, wasRead, intInFallen, lined, freshSide, freshBus, freshArb, wasReset, holdAsked, effect}
 use Rattle.arbiter.specs.Order.{clockOf, busyAfter, sclChanged, levels, losses, lossesFrom, cut, cutFrom, claim, grant, grantFrom, connect, connectFrom}
-use Rattle.arbiter.specs.Steps.{parts, byteRead, ownerByte, linesByte, answer, refused, taken, stepEvent, stepDecoded, step}
+use Rattle.arbiter.specs.Steps.{parts, byteRead, groundNumber, ownerByte, linesByte, answer, refused, taken, stepEvent, stepDecoded, step}
 use Rattle.arbiter.specs.declared.Master.{Master}
 use Rattle.arbiter.specs.declared.Master.the-variants.{Zero, One}
+use Rattle.arbiter.specs.declared.Ground.the-variants.{Sole}
+use Rattle.arbiter.specs.declared.Turn.the-variants.{Claims}
 use Rattle.arbiter.specs.declared.Register.{Register}
 use Rattle.arbiter.specs.declared.Register.the-variants.{Id, Contr, Status, Rt, IntStatus, IntMask, MailLow, MailHigh}
 use Rattle.arbiter.specs.declared.Port.the-variants.{Rest}
@@ -39,14 +41,19 @@ use Rattle.arbiter.specs.declared.Answer.{Answer}
 use Rattle.arbiter.specs.declared.Stepped.{Stepped}
 use Rattle.arbiter.proofs.Choice.{not-true}
 use Rattle.events.proofs.Numbers.{raw-told}
+use Rattle.arbitration.specs.Cleared.{groundIn}
 use Rattle.arbitration.specs.Quiet.{noLoss}
 use Rattle.step.specs.Carried.{partsThreeToSeven, steppedWith, kept}
 use Rattle.light.specs.Light.{Settled}
 use Rattle.light.specs.Ended.{leavesTurn, writeIsLight, linedBus, endsItself, keepsLines, itsEnd}
-use Rattle.light.proofs.Fits.{fits-self, fits-settles}
+use Rattle.light.specs.Turns.{sideGranted, arbGranted, isContr, isNobody}
+use Rattle.light.proofs.Fits.{fits-self, fits-settles, same-lines}
 use Rattle.light.proofs.Light.{written-sides, paired-sides}
 use Rattle.light.proofs.Ended.{ended-is-step}
+use Rattle.light.proofs.Turns.{granted-at-stop, claimed-by-write}
 use Rattle.traces.specs.Sides.{kindTold, byteIsLight, linesShown, deviceOf}
+use Rattle.traces.specs.Turns.{stopGrants, grantedBits, byteClaims}
+use Rattle.traces.proofs.Owners.{nobody-foreign, owner-waits, waits-below, claimed-byte}
 
 -- ---- two sides in an array
 
@@ -114,6 +121,27 @@ pub first-holds : (p q : Bool) → p && q ≡ true → p ≡ true
 first-holds true q h = refl
 first-holds false q h = h
 
+four-hold : (p q u v : Bool) → p && q && u && v ≡ true → (p ≡ true) × (q ≡ true) × (u ≡ true) × (v ≡ true)
+four-hold true true true v h = (refl, refl, refl, h)
+four-hold true true false v h = absurd (false≢true h)
+four-hold true false u v h = absurd (false≢true h)
+four-hold false q u v h = absurd (false≢true h)
+
+-- what the two tests for a move of the turn tell
+pub stop-told : (what : ℕ) (r : Raw) (b : Bus) (a : Arbitration) (s : Side) → stopGrants what r b a s ≡ true
+    → (what ≡ 3) × (zeroOrOne (r .x) && unused (r .y) && unused (r .z) ≡ true) × (not (atRest (s .port)) ≡ true) × (claimsTurn (master (r .x)) (a .turn) && eqb (b .hold) 0 ≡ true)
+stop-told what r b a s h =
+    let all = four-hold (eqb what 3) (zeroOrOne (r .x) && unused (r .y) && unused (r .z)) (not (atRest (s .port))) (claimsTurn (master (r .x)) (a .turn) && eqb (b .hold) 0) h in
+    (eqb-true what 3 (all .0), all .1, all .2, all .3)
+
+pub claim-told : (what : ℕ) (r : Raw) (a : Arbitration) (s : Side) → byteClaims what r a s ≡ true
+    → (what ≡ 1) × (zeroOrOne (r .x) && unused (r .z) ≡ true) × (forWriting (s .port) ≡ true) × (isContr (s .pointer) ≡ true) × (bit 0 (r .y) ≡ true) × (isNobody (a .turn) ≡ true)
+claim-told what r a s h =
+    let last = and-eq-true-iff (eqb what 1 && (zeroOrOne (r .x) && unused (r .z)) && forWriting (s .port) && isContr (s .pointer) && bit 0 (r .y)) (isNobody (a .turn)) .0 h in
+    let most = and-eq-true-iff (eqb what 1 && (zeroOrOne (r .x) && unused (r .z)) && forWriting (s .port) && isContr (s .pointer)) (bit 0 (r .y)) .0 (last .0) in
+    let all = four-hold (eqb what 1) (zeroOrOne (r .x) && unused (r .z)) (forWriting (s .port)) (isContr (s .pointer)) (most .0) in
+    (eqb-true what 1 (all .0), all .1, all .2, all .3, most .1, last .1)
+
 module _ (r : Raw) (k : ℕ) (kind : r .kind ≡ k) where
   abbrev same : Decoded
   same = decode (record { kind = k; x = r .x; y = r .y; z = r .z })
@@ -167,6 +195,16 @@ module _ (r : Raw) where
 joined : (d e : Device) (n m p q o u i j : ℕ) → d ≡ e → n ≡ m → p ≡ q → o ≡ u → i ≡ j → steppedWith d (kept n p o i) ≡ steppedWith e (kept m q u j)
 joined d e n m p q o u i j f g h k l = λ t. record { device = f t; answer = record { outcome = g t; read = h t; owner = k t; lines = l t } }
 
+writable-contr : (p : Register) → isContr p ≡ true → writable p ≡ true
+writable-contr Id c = absurd (false≢true c)
+writable-contr Contr c = refl
+writable-contr Status c = absurd (false≢true c)
+writable-contr Rt c = absurd (false≢true c)
+writable-contr IntStatus c = absurd (false≢true c)
+writable-contr IntMask c = absurd (false≢true c)
+writable-contr MailLow c = absurd (false≢true c)
+writable-contr MailHigh c = absurd (false≢true c)
+
 -- ---- a reset leaves parts 3 to 7 nothing to do
 
 none : (t : Bool) → _≡_ {A = ℕ} (if t then 0 else 0) 0
@@ -202,6 +240,17 @@ module _ (k : Kind) (l : List Side) (b : Bus) (a : Arbitration) (two : length l 
   ended-arm e h s q t d number byte li f g p n =
       let asked = ap (λ (x : Bool). outcomeNumber (if x then (if acknowledged e now then Done else NotAcknowledged) else OutOfSequence)) (sym q) in
       joined d _ number _ byte _ owner _ li _ f (g ∙ asked) p o n ∙ sym (stepped e h ∙ ended-is-step e now s q t)
+
+  -- in sequence, acknowledged, and stepped in full
+  taken-arm : (e : Event) → decode r ≡ Reads e → inSequence e now ≡ true → acknowledged e now ≡ true → byteRead e now ≡ 0
+      → (d : Device) (ow li : ℕ) → d ≡ parts e now → ow ≡ ownerByte d → li ≡ linesByte d → steppedWith d (kept 0 0 ow li) ≡ step now r
+  unfolding stepEvent taken outcome
+  taken-arm e h q t z d ow li f g n =
+      let number : 0 ≡ outcomeNumber (outcome e now) =
+      ap₂ (λ (x y : Bool). outcomeNumber (if x then (if y then Done else NotAcknowledged) else OutOfSequence)) (sym q) (sym t)
+      in
+      joined d (parts e now) 0 _ 0 _ ow _ li _ f number (sym z) (g ∙ ap ownerByte f) (n ∙ ap linesByte f)
+      ∙ sym (stepped e h ∙ ap (λ (x : Bool). if x then taken e now else refused (outcomeNumber OutOfSequence) now) q)
 
   -- a reset: parts 2 to 7 find nothing to do, also where SCL is held then
   module _ (hold : ℕ) where
@@ -289,6 +338,68 @@ module _ (k : Kind) (l : List Side) (b : Bus) (a : Arbitration) (two : length l 
         ended-arm (Write m (r .y)) h s (ap (λ (x : Side). forWriting (x .port)) own ∙ q) light _ number 0 li gone
         (g ∙ ap (λ (x : Side). outcomeNumber (if writable (x .pointer) then Done else NotAcknowledged)) (sym own)) refl
         (n ∙ lines-of k _ _ b a ∙ ap linesByte gone)
+
+    -- the owner byte of a claimant's device has room for the bits of its grant
+    pub grant-room : Settled now → claimsTurn m (a .turn) && eqb (b .hold) 0 ≡ true → owner ≤ 96
+    grant-room s t = omega (arith, o, waits-below m now s (and-eq-true-iff (claimsTurn m (a .turn)) (eqb (b .hold) 0) .0 t .0))
+
+    -- the STOP of a claimant brings it the grant
+    pub grant-arm : decode r ≡ Reads (Stop m) → Settled now → not (atRest (sideAt l at .port)) ≡ true → claimsTurn m (a .turn) && eqb (b .hold) 0 ≡ true
+        → (v : Side) (n : Bus) (w : Arbitration) (bits li : ℕ) → v ≡ sideGranted (sideAt l at) → n ≡ withIdle 0 b → w ≡ arbGranted m (sideAt l at) a → bits ≡ grantedBits (r .x) (sideAt l at .contr)
+        → li ≡ linesShown (sideAt (set l at v) 0) (sideAt (set l at v) 1) n
+        → steppedWith (held k (set l at v) n w) (kept 0 0 (owner + bits) li) ≡ step now r
+    unfolding inSequence acknowledged byteRead ownerByte
+    grant-arm h s q t v n w bits li e f g p u =
+        let waits = owner-waits m now s (and-eq-true-iff (claimsTurn m (a .turn)) (eqb (b .hold) 0) .0 t .0) in
+        let gone : held k (set l at v) n w ≡ parts (Stop m) now =
+        set-one k n w l two (r .x) fits v
+        ∙ (λ j. device m ((e ∙ ap sideGranted (sym own)) j) (side (partner m) now) (f j) ((g ∙ ap (λ (x : Side). arbGranted m x a) (sym own)) j) now)
+        ∙ sym (granted-at-stop m now s t)
+        in
+        let sum : owner + bits ≡ grantedBits (r .x) (sideAt l at .contr) + 32 * groundNumber (groundIn (a .turn)) = omega (arith, o, waits, p) in
+        taken-arm (Stop m) h (ap (λ (x : Side). not (atRest (x .port))) own ∙ q) refl refl _ (owner + bits) li gone
+        (sum ∙ ap (λ (x : Arbitration). ownerByte (held k (set l at v) n x)) (sym g)) (u ∙ lines-of k _ _ n w)
+
+    -- a byte to CONTR claims while nobody has the turn
+    abbrev claimer : Side
+    claimer = ownWritten false (sideAt l at .pointer) (r .y) (sideAt l at)
+
+    claimer-ints : (p : Register) → isContr p ≡ true → (y : ℕ) (x : Side) → (ownWritten false p y x .ints ≡ x .ints) × (ownWritten false p y x .mask ≡ x .mask)
+    unfolding ownWritten
+    claimer-ints Id c y x = absurd (false≢true c)
+    claimer-ints Contr c y x = (refl, refl)
+    claimer-ints Status c y x = absurd (false≢true c)
+    claimer-ints Rt c y x = absurd (false≢true c)
+    claimer-ints IntStatus c y x = absurd (false≢true c)
+    claimer-ints IntMask c y x = absurd (false≢true c)
+    claimer-ints MailLow c y x = absurd (false≢true c)
+    claimer-ints MailHigh c y x = absurd (false≢true c)
+
+    risen-ints : (auto : Bool) (p : Register) (x : Side) → ((if auto then withPointer p x else x) .ints ≡ x .ints) × ((if auto then withPointer p x else x) .mask ≡ x .mask)
+    risen-ints true p x = (refl, refl)
+    risen-ints false p x = (refl, refl)
+
+    pub claim-arm : decode r ≡ Reads (Write m (r .y)) → Settled now → forWriting (sideAt l at .port) ≡ true → isContr (sideAt l at .pointer) ≡ true → bit 0 (r .y) ≡ true → isNobody (a .turn) ≡ true
+        → (v : Side) (w : Arbitration) → v ≡ writeRisen (rolls now) claimer → w ≡ withTurn (Claims m Sole) a
+        → steppedWith (held k (set l at v) b w) (kept 0 0 32 lines) ≡ step now r
+    unfolding inSequence acknowledged byteRead ownerByte linesByte
+    claim-arm h s q c t n v w e g =
+        let contr : isContr ((side m now) .pointer) ≡ true = ap (λ (x : Side). isContr (x .pointer)) own ∙ c in
+        let opened : forWriting ((side m now) .port) ≡ true = ap (λ (x : Side). forWriting (x .port)) own ∙ q in
+        let foreign = nobody-foreign m (a .turn) n in
+        let both = claimer-ints (sideAt l at .pointer) c (r .y) (sideAt l at) in
+        let up = risen-ints (claimer .auto) (afterWrite (rolls now) (claimer .pointer)) claimer in
+        let gone : held k (set l at v) b w ≡ parts (Write m (r .y)) now =
+        set-one k b w l two (r .x) fits v
+        ∙ (λ j. device m ((e ∙ ap₂ (λ (x : Bool) (y : Side). writeRisen (rolls now) (ownWritten x (y .pointer) (r .y) y)) (sym foreign) (sym own)) j) (side (partner m) now) b (g j) now)
+        ∙ sym (claimed-by-write m (r .y) now s n contr t opened)
+        in
+        let shown : linesByte (held k (set l at v) b w) ≡ linesByte now =
+        ap linesByte (set-one k b w l two (r .x) fits v)
+        ∙ same-lines now v (side (partner m) now) m (ap (λ (x : Side). x .ints) e ∙ up .0 ∙ both .0 ∙ ap (λ (x : Side). x .ints) (sym own)) (ap (λ (x : Side). x .mask) e ∙ up .1 ∙ both .1 ∙ ap (λ (x : Side). x .mask) (sym own)) refl refl
+        in
+        taken-arm (Write m (r .y)) h opened (writable-contr ((side m now) .pointer) contr) refl _ 32 lines gone
+        (claimed-byte now s n ∙ ap (λ (x : Arbitration). ownerByte (held k (set l at v) b x)) (sym g)) (i ∙ sym shown)
 
     abbrev handed : ℕ
     handed = registerByte (sideAt l at .pointer) (ownsTurn m (a .turn)) (ownsTurn (partner m) (a .turn)) (sideAt l at) (sideAt l (1 - at)) b (a .initfail)

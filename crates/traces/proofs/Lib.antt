@@ -1,5 +1,6 @@
 pub mod Runs
 pub mod Batch
+pub mod Owners
 pub mod Arms
 pub mod Turn
 pub mod Reading

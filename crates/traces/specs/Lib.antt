@@ -1,3 +1,4 @@
 pub mod Bodies
 pub mod Ticks
 pub mod Sides
+pub mod Turns

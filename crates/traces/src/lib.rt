@@ -1,5 +1,6 @@
 // A trace: read from its bytes, or refused by number, and run event by event into a lent answer buffer.
 mod sides;
+mod turns;
 
 ghost use Prim.Native.Nat.{ℕ, _+_, _-_, _*_, _≤_, _<_};
 ghost use mathlib.Core.Path.{_≡_};
@@ -23,6 +24,7 @@ use arbiter::Strapped;
 use arbiter::TraceRead;
 use bits::least_usize;
 use bits::wide_u32;
+use bus::idle_kept;
 use fields::rolls_over;
 use format::EVENT_BYTES;
 use format::HEAD_BYTES;
@@ -83,7 +85,14 @@ use step::answered;
 use step::fresh;
 use step::step_device;
 use straps::address_of;
+use turns::byte_claims;
+use turns::claimed_arb;
+use turns::granted_arb;
+use turns::granted_bits;
+use turns::granted_side;
+use turns::stop_grants;
 use writing::light_writer;
+use writing::writer_side;
 
 // A report with the kind of its device alone, by its number.
 pub struct Head {
@@ -200,7 +209,8 @@ fn step_one(d: Device, r: Raw) -> Stepped
 }
 
 // The first n events of these bytes, each answered at its place. In a device that is settled TICKs that move nothing but counts are taken together, and an
-// event that ends with its own effect does so here, on the one side or the two that it moves; so does what is refused. All else is stepped in full.
+// event that ends with its own effect does so here, on the one side or the two that it moves; so do the STOP that brings a grant and the byte that claims
+// alone, and so does what is refused. All else is stepped in full.
 //
 // It is one long function because it has to be fast: the two sides stand in an array of the loop and are taken by the number of their master, without a
 // branch on it, which no function over them by value or by reference keeps.
@@ -420,6 +430,31 @@ fn play(settled: bool, from: Device, events: &[u8], answers: &mut [u8], n: usize
                 }
             }
             _ => {}
+        }
+        let own = sides[at];
+        if stop_grants(what, r, bus, arb, own) {
+            let after = idle_kept(false, bus);
+            let won = granted_arb(r.x, own, arb);
+            owner = owner + granted_bits(r.x, own.contr);
+            sides[at] = granted_side(own);
+            let s0 = sides[0];
+            let s1 = sides[1];
+            lines = lines_shown(s0, s1, after);
+            bus = after;
+            arb = won;
+            put_answer(answers, i, answer_kept(0, 0, owner, lines));
+            i += 1;
+            continue;
+        }
+        if byte_claims(what, r, arb, own) {
+            let claimed = claimed_arb(r.x, arb);
+            sides[at] = writer_side(rolls, false, r.y, own);
+            arb = claimed;
+            // The ground of a sole claimant; nobody owns, and the switch is apart.
+            owner = 32;
+            put_answer(answers, i, answer_kept(0, 0, owner, lines));
+            i += 1;
+            continue;
         }
         let unread = unread_number(r);
         if unread == 0 {} else {

@@ -17,7 +17,7 @@ use Rattle.arbiter.specs.declared.Answer.{Answer}
 use Rattle.arbiter.specs.declared.Device.{Device}
 use Rattle.step.specs.Carried.{steppedWith, kept}
 use Rattle.traces.proofs.Batch.{least-both, some-one}
-use Rattle.traces.proofs.Arms.{sideAt, held, told as told-kind, first-holds, reads-command, reads-write, reads-read, reads-stop, reads-pair, reads-lines, reads-pulse, reads-reset, reads-call, command-arm, stop-refused, stop-arm, write-refused, write-arm, read-emptying, read-arm, pair-refused, pair-arm, pulse-refused, lines-arm, call-arm, soft-arm, reset-arm, unread-arm}
+use Rattle.traces.proofs.Arms.{sideAt, held, told as told-kind, first-holds, stop-told, claim-told, reads-command, reads-write, reads-read, reads-stop, reads-pair, reads-lines, reads-pulse, reads-reset, reads-call, command-arm, stop-refused, stop-arm, write-refused, write-arm, read-emptying, read-arm, pair-refused, pair-arm, pulse-refused, lines-arm, call-arm, soft-arm, reset-arm, unread-arm, grant-room, grant-arm, claim-arm}
 use Rattle.traces.proofs.Turn.{Known, turned, stepped-on, ticked-on, two-on}
 use Rattle.traces.proofs.play.Statement.{statement}
 use Rattle.traces.proofs.play.Tie as tie
@@ -930,8 +930,59 @@ loop-again-15 c =
           (steppedWith (held kind (at .sides) (at .bus) (at .arb)) (kept 1 0 (at .owner) (at .lines))) r (event .ensures) (arm) _ _ (c .before .before .put-answer14 .kept .0) (c .before .before .put-answer14 .ensures) (c .before .before .before .answer-kept13 .ensures),
     )
 
-unread-number-requires : tie.Need-unread-number-requires Inv-loop μ-loop
-unread-number-requires c κs = search needs
+mul-own : tie.Need-mul-own Inv-loop μ-loop
+mul-own c = omega arith
+
+array-copy-out-own : tie.Need-array-copy-out-own Inv-loop μ-loop
+array-copy-out-own c = omega arith
+
+stop-grants-requires : tie.Need-stop-grants-requires Inv-loop μ-loop
+stop-grants-requires c κs = search needs
+
+idle-kept-requires : tie.Need-idle-kept-requires Inv-loop μ-loop
+idle-kept-requires c κs = search needs
+
+granted-arb-requires : tie.Need-granted-arb-requires Inv-loop μ-loop
+granted-arb-requires c κs = search needs
+
+granted-bits-requires : tie.Need-granted-bits-requires Inv-loop μ-loop
+granted-bits-requires c κs = search needs
+
+add-owner : tie.Need-add-owner Inv-loop μ-loop
+add-owner c =
+    let at = c .before .before .before .before .before .before .before .before .before .before .before .loop in
+    let start = c .before .before .before .before .before .before .before .before .before .before .before .before .before .before .before .before .before .before .before .before in
+    let given = start .args in
+    let kind = given .from .kind in
+    let two = at .inv .0 in
+    let known = at .inv .1 in
+    let event = c .before .before .before .before .before .before .before .before .before .event-at in
+    let r = event .result in
+    let what = c .before .before .before .before .before .before .before .before .kind-told in
+    let s = sideAt (at .sides) (r .x % 2) in
+    let all = stop-told (what .result) r (at .bus) (at .arb) s (sym (c .before .before .before .before .stop-grants .ensures) ∙ c .before .before .before .if22 .taken) in
+    let told = told-kind (given .settled) r (what .result) 3 (what .ensures) (all .0) (omega arith) in
+    let settled = known .4 (told .0) in
+    let room = grant-room kind (at .sides) (at .bus) (at .arb) two (at .owner) (at .lines) (known .5) (known .6) r (first-holds _ _ (first-holds _ _ (all .1))) settled (all .3) in
+    omega (arith, room, c .granted-bits .ensures .1)
+
+granted-side-requires : tie.Need-granted-side-requires Inv-loop μ-loop
+granted-side-requires c κs = search needs
+
+mul-sides-7 : tie.Need-mul-sides-7 Inv-loop μ-loop
+mul-sides-7 c = omega arith
+
+array-set-from-sides-15 : tie.Need-array-set-from-sides-15 Inv-loop μ-loop
+array-set-from-sides-15 c = omega arith
+
+array-copy-out-s0-8 : tie.Need-array-copy-out-s0-8 Inv-loop μ-loop
+array-copy-out-s0-8 c = search needs
+
+array-copy-out-s1-8 : tie.Need-array-copy-out-s1-8 Inv-loop μ-loop
+array-copy-out-s1-8 c = search needs
+
+lines-shown-requires-5 : tie.Need-lines-shown-requires-5 Inv-loop μ-loop
+lines-shown-requires-5 c κs = search needs
 
 answer-kept-requires-14 : tie.Need-answer-kept-requires-14 Inv-loop μ-loop
 answer-kept-requires-14 c κs = search needs
@@ -940,74 +991,121 @@ put-answer-requires-15 : tie.Need-put-answer-requires-15 Inv-loop μ-loop
 put-answer-requires-15 c κs = search needs
 
 add-i-15 : tie.Need-add-i-15 Inv-loop μ-loop
-add-i-15 c = omega (arith, c .before .before .before .before .before .before .before .before .before .before .before .loop-test .taken, c .before .before .before .before .before .before .before .before .before .before .before .before .before .before .before .before .before .before .before .before .before .good .1 .1 .1 .1)
+add-i-15 c = omega (arith, c .before .before .before .before .before .before .before .before .before .before .before .before .before .before .before .before .before .before .before .loop-test .taken, c .before .before .before .before .before .before .before .before .before .before .before .before .before .before .before .before .before .before .before .before .before .before .before .before .before .before .before .before .before .good .1 .1 .1 .1)
 
 loop-less-16 : tie.Need-loop-less-16 Inv-loop μ-loop
-loop-less-16 c = omega (arith, c .before .before .before .before .before .before .before .before .before .before .before .loop-test .taken)
+loop-less-16 c = omega (arith, c .before .before .before .before .before .before .before .before .before .before .before .before .before .before .before .before .before .before .before .loop-test .taken)
 
 loop-again-16 : tie.Need-loop-again-16 Inv-loop μ-loop
 loop-again-16 c =
-    let at = c .before .before .before .before .before .before .before .before .before .before .before .before .loop in
-    let start = c .before .before .before .before .before .before .before .before .before .before .before .before .before .before .before .before .before .before .before .before .before in
+    let at = c .before .before .before .before .before .before .before .before .before .before .before .before .before .before .before .before .before .before .before .before .loop in
+    let start = c .before .before .before .before .before .before .before .before .before .before .before .before .before .before .before .before .before .before .before .before .before .before .before .before .before .before .before .before .before in
     let given = start .args in
     let kind = given .from .kind in
     let two = at .inv .0 in
     let known = at .inv .1 in
-    let event = c .before .before .before .before .before .before .before .before .before .before .event-at in
+    let event = c .before .before .before .before .before .before .before .before .before .before .before .before .before .before .before .before .before .before .event-at in
     let r = event .result in
-    let within = c .before .before .before .before .before .before .before .before .before .before .before .loop-test .taken in
-    let unread = c .before .before .before .before .before .before .unread-number in
-    let arm = unread-arm kind (at .sides) (at .bus) (at .arb) two (at .owner) (at .lines) (known .5) (known .6) r (unread .result) (unread .ensures) (c .before .before .before .before .before .if22 .left) in (
-      two,
+    let what = c .before .before .before .before .before .before .before .before .before .before .before .before .before .before .before .before .before .kind-told in
+    let s = sideAt (at .sides) (r .x % 2) in
+    let all = stop-told (what .result) r (at .bus) (at .arb) s (sym (c .before .before .before .before .before .before .before .before .before .before .before .before .before .stop-grants .ensures) ∙ c .before .before .before .before .before .before .before .before .before .before .before .before .if22 .taken) in
+    let told = told-kind (given .settled) r (what .result) 3 (what .ensures) (all .0) (omega arith) in
+    let settled = known .4 (told .0) in
+    let within = c .before .before .before .before .before .before .before .before .before .before .before .before .before .before .before .before .before .before .before .loop-test .taken in
+    let after = c .before .before .before .before .before .before .before .before .before .before .before .idle-kept in
+    let won = c .before .before .before .before .before .before .before .before .before .before .granted-arb in
+    let bits = c .before .before .before .before .before .before .before .before .before .granted-bits in
+    let side = c .before .before .before .before .before .before .before .before .granted-side in
+    let lines = c .before .before .before .before .before .lines-shown5 in
+    let arm = grant-arm kind (at .sides) (at .bus) (at .arb) two (at .owner) (at .lines) (known .5) (known .6) r (first-holds _ _ (first-holds _ _ (all .1))) (reads-stop r (told .1) (all .1)) settled (all .2) (all .3) (side .result) (after .result) (won .result) (bits .result) (lines .result) (side .ensures) (after .ensures) (won .ensures) (bits .ensures .0) (lines .ensures) in (
+      two-on (at .sides) _ _ two,
       turned (given .settled) (given .events .now) (given .answers .now) (given .n) (given .from) (at .answers) (at .owner) (at .lines) (held kind (at .sides) (at .bus) (at .arb)) (at .i) known within (start .pre .0) (start .pre .1)
-          (steppedWith (held kind (at .sides) (at .bus) (at .arb)) (kept (unread .result) 0 (at .owner) (at .lines))) r (event .ensures) (arm) _ _ (c .before .before .put-answer15 .kept .0) (c .before .before .put-answer15 .ensures) (c .before .before .before .answer-kept14 .ensures),
+          (steppedWith (held kind (set (at .sides) (r .x % 2) (side .result)) (after .result) (won .result)) (kept 0 0 (at .owner + bits .result) (lines .result))) r (event .ensures) (arm) _ _ (c .before .before .put-answer15 .kept .0) (c .before .before .put-answer15 .ensures) (c .before .before .before .answer-kept14 .ensures),
     )
 
-array-copy-out-s0-8 : tie.Need-array-copy-out-s0-8 Inv-loop μ-loop
-array-copy-out-s0-8 c = search needs
+byte-claims-requires : tie.Need-byte-claims-requires Inv-loop μ-loop
+byte-claims-requires c κs = search needs
 
-array-copy-out-s1-8 : tie.Need-array-copy-out-s1-8 Inv-loop μ-loop
-array-copy-out-s1-8 c = search needs
+claimed-arb-requires : tie.Need-claimed-arb-requires Inv-loop μ-loop
+claimed-arb-requires c κs = search needs
 
-device-of-requires-4 : tie.Need-device-of-requires-4 Inv-loop μ-loop
-device-of-requires-4 c κs = search needs
+writer-side-requires : tie.Need-writer-side-requires Inv-loop μ-loop
+writer-side-requires c κs = search needs
 
-step-one-requires : tie.Need-step-one-requires Inv-loop μ-loop
-step-one-requires c κs = search needs
+mul-sides-8 : tie.Need-mul-sides-8 Inv-loop μ-loop
+mul-sides-8 c = omega arith
+
+array-set-from-sides-16 : tie.Need-array-set-from-sides-16 Inv-loop μ-loop
+array-set-from-sides-16 c = omega arith
+
+answer-kept-requires-15 : tie.Need-answer-kept-requires-15 Inv-loop μ-loop
+answer-kept-requires-15 c κs = search needs
 
 put-answer-requires-16 : tie.Need-put-answer-requires-16 Inv-loop μ-loop
 put-answer-requires-16 c κs = search needs
 
-array-set-from-sides-15 : tie.Need-array-set-from-sides-15 Inv-loop μ-loop
-array-set-from-sides-15 c = search needs
-
-array-set-from-sides-16 : tie.Need-array-set-from-sides-16 Inv-loop μ-loop
-array-set-from-sides-16 c = search needs
-
 add-i-16 : tie.Need-add-i-16 Inv-loop μ-loop
-add-i-16 c = omega (arith, c .before .before .before .before .before .before .before .before .before .before .before .before .before .before .before .before .before .before .before .before .loop-test .taken, c .before .before .before .before .before .before .before .before .before .before .before .before .before .before .before .before .before .before .before .before .before .before .before .before .before .before .before .before .before .before .good .1 .1 .1 .1)
+add-i-16 c = omega (arith, c .before .before .before .before .before .before .before .before .before .before .before .before .before .before .before .before .loop-test .taken, c .before .before .before .before .before .before .before .before .before .before .before .before .before .before .before .before .before .before .before .before .before .before .before .before .before .before .good .1 .1 .1 .1)
 
 loop-less-17 : tie.Need-loop-less-17 Inv-loop μ-loop
-loop-less-17 c = omega (arith, c .before .before .before .before .before .before .before .before .before .before .before .before .before .before .before .before .before .before .before .before .loop-test .taken)
+loop-less-17 c = omega (arith, c .before .before .before .before .before .before .before .before .before .before .before .before .before .before .before .before .loop-test .taken)
 
 loop-again-17 : tie.Need-loop-again-17 Inv-loop μ-loop
 loop-again-17 c =
-    let at = c .before .before .before .before .before .before .before .before .before .before .before .before .before .before .before .before .before .before .before .before .before .loop in
-    let start = c .before .before .before .before .before .before .before .before .before .before .before .before .before .before .before .before .before .before .before .before .before .before .before .before .before .before .before .before .before .before in
+    let at = c .before .before .before .before .before .before .before .before .before .before .before .before .before .before .before .before .before .loop in
+    let start = c .before .before .before .before .before .before .before .before .before .before .before .before .before .before .before .before .before .before .before .before .before .before .before .before .before .before in
     let given = start .args in
     let kind = given .from .kind in
     let two = at .inv .0 in
     let known = at .inv .1 in
-    let event = c .before .before .before .before .before .before .before .before .before .before .before .before .before .before .before .before .before .before .before .event-at in
+    let event = c .before .before .before .before .before .before .before .before .before .before .before .before .before .before .before .event-at in
     let r = event .result in
-    let within = c .before .before .before .before .before .before .before .before .before .before .before .before .before .before .before .before .before .before .before .before .loop-test .taken in
-    let s = c .before .before .before .before .before .before .before .before .before .before .step-one in
-    let whole = c .before .before .before .before .before .before .before .before .before .before .before .device-of4 in
-    let put = c .before .before .before .before .before .before .before .put-answer16 in
-    let truly = s .ensures ∙ ap (λ (x : Device). step x r) (whole .ensures) in (
-      two-on (set (at .sides) _ _) _ _ (two-on (at .sides) _ _ two),
-      stepped-on (given .settled) (given .events .now) (given .answers .now) (given .n) (given .from) (at .answers) (at .owner) (at .lines) kind (at .sides) (at .bus) (at .arb) (at .i) two known within (start .pre .0) (start .pre .1)
-          (s .result) r (event .ensures) truly _ _ (put .kept .0) (put .ensures) refl,
+    let what = c .before .before .before .before .before .before .before .before .before .before .before .before .before .before .kind-told in
+    let s = sideAt (at .sides) (r .x % 2) in
+    let all = claim-told (what .result) r (at .arb) s (sym (c .before .before .before .before .before .before .before .before .byte-claims .ensures) ∙ c .before .before .before .before .before .before .before .if23 .taken) in
+    let told = told-kind (given .settled) r (what .result) 1 (what .ensures) (all .0) (omega arith) in
+    let settled = known .4 (told .0) in
+    let within = c .before .before .before .before .before .before .before .before .before .before .before .before .before .before .before .before .loop-test .taken in
+    let claimed = c .before .before .before .before .before .before .claimed-arb in
+    let side = c .before .before .before .before .before .writer-side in
+    let wrote = side .ensures ∙ ap (λ (x : Bool). writeRisen x (ownWritten false (s .pointer) (r .y) s)) (c .before .before .before .before .before .before .before .before .before .before .before .before .before .before .before .before .before .before .before .before .before .before .rolls-over .ensures) in
+    let arm = claim-arm kind (at .sides) (at .bus) (at .arb) two (at .owner) (at .lines) (known .5) (known .6) r (first-holds _ _ (all .1)) (reads-write r (told .1) (all .1)) settled (all .2) (all .3) (all .4) (all .5) (side .result) (claimed .result) wrote (claimed .ensures) in (
+      two-on (at .sides) _ _ two,
+      turned (given .settled) (given .events .now) (given .answers .now) (given .n) (given .from) (at .answers) (at .owner) (at .lines) (held kind (at .sides) (at .bus) (at .arb)) (at .i) known within (start .pre .0) (start .pre .1)
+          (steppedWith (held kind (set (at .sides) (r .x % 2) (side .result)) (at .bus) (claimed .result)) (kept 0 0 32 (at .lines))) r (event .ensures) (arm) _ _ (c .before .before .put-answer16 .kept .0) (c .before .before .put-answer16 .ensures) (c .before .before .before .answer-kept15 .ensures),
+    )
+
+unread-number-requires : tie.Need-unread-number-requires Inv-loop μ-loop
+unread-number-requires c κs = search needs
+
+answer-kept-requires-16 : tie.Need-answer-kept-requires-16 Inv-loop μ-loop
+answer-kept-requires-16 c κs = search needs
+
+put-answer-requires-17 : tie.Need-put-answer-requires-17 Inv-loop μ-loop
+put-answer-requires-17 c κs = search needs
+
+add-i-17 : tie.Need-add-i-17 Inv-loop μ-loop
+add-i-17 c = omega (arith, c .before .before .before .before .before .before .before .before .before .before .before .before .before .before .before .before .loop-test .taken, c .before .before .before .before .before .before .before .before .before .before .before .before .before .before .before .before .before .before .before .before .before .before .before .before .before .before .good .1 .1 .1 .1)
+
+loop-less-18 : tie.Need-loop-less-18 Inv-loop μ-loop
+loop-less-18 c = omega (arith, c .before .before .before .before .before .before .before .before .before .before .before .before .before .before .before .before .loop-test .taken)
+
+loop-again-18 : tie.Need-loop-again-18 Inv-loop μ-loop
+loop-again-18 c =
+    let at = c .before .before .before .before .before .before .before .before .before .before .before .before .before .before .before .before .before .loop in
+    let start = c .before .before .before .before .before .before .before .before .before .before .before .before .before .before .before .before .before .before .before .before .before .before .before .before .before .before in
+    let given = start .args in
+    let kind = given .from .kind in
+    let two = at .inv .0 in
+    let known = at .inv .1 in
+    let event = c .before .before .before .before .before .before .before .before .before .before .before .before .before .before .before .event-at in
+    let r = event .result in
+    let within = c .before .before .before .before .before .before .before .before .before .before .before .before .before .before .before .before .loop-test .taken in
+    let unread = c .before .before .before .before .before .before .unread-number in
+    let arm = unread-arm kind (at .sides) (at .bus) (at .arb) two (at .owner) (at .lines) (known .5) (known .6) r (unread .result) (unread .ensures) (c .before .before .before .before .before .if24 .left) in (
+      two,
+      turned (given .settled) (given .events .now) (given .answers .now) (given .n) (given .from) (at .answers) (at .owner) (at .lines) (held kind (at .sides) (at .bus) (at .arb)) (at .i) known within (start .pre .0) (start .pre .1)
+          (steppedWith (held kind (at .sides) (at .bus) (at .arb)) (kept (unread .result) 0 (at .owner) (at .lines))) r (event .ensures) (arm) _ _ (c .before .before .put-answer17 .kept .0) (c .before .before .put-answer17 .ensures) (c .before .before .before .answer-kept16 .ensures),
     )
 
 array-copy-out-s0-9 : tie.Need-array-copy-out-s0-9 Inv-loop μ-loop
@@ -1015,6 +1113,53 @@ array-copy-out-s0-9 c = search needs
 
 array-copy-out-s1-9 : tie.Need-array-copy-out-s1-9 Inv-loop μ-loop
 array-copy-out-s1-9 c = search needs
+
+device-of-requires-4 : tie.Need-device-of-requires-4 Inv-loop μ-loop
+device-of-requires-4 c κs = search needs
+
+step-one-requires : tie.Need-step-one-requires Inv-loop μ-loop
+step-one-requires c κs = search needs
+
+put-answer-requires-18 : tie.Need-put-answer-requires-18 Inv-loop μ-loop
+put-answer-requires-18 c κs = search needs
+
+array-set-from-sides-17 : tie.Need-array-set-from-sides-17 Inv-loop μ-loop
+array-set-from-sides-17 c = search needs
+
+array-set-from-sides-18 : tie.Need-array-set-from-sides-18 Inv-loop μ-loop
+array-set-from-sides-18 c = search needs
+
+add-i-18 : tie.Need-add-i-18 Inv-loop μ-loop
+add-i-18 c = omega (arith, c .before .before .before .before .before .before .before .before .before .before .before .before .before .before .before .before .before .before .before .before .before .before .before .before .before .loop-test .taken, c .before .before .before .before .before .before .before .before .before .before .before .before .before .before .before .before .before .before .before .before .before .before .before .before .before .before .before .before .before .before .before .before .before .before .before .good .1 .1 .1 .1)
+
+loop-less-19 : tie.Need-loop-less-19 Inv-loop μ-loop
+loop-less-19 c = omega (arith, c .before .before .before .before .before .before .before .before .before .before .before .before .before .before .before .before .before .before .before .before .before .before .before .before .before .loop-test .taken)
+
+loop-again-19 : tie.Need-loop-again-19 Inv-loop μ-loop
+loop-again-19 c =
+    let at = c .before .before .before .before .before .before .before .before .before .before .before .before .before .before .before .before .before .before .before .before .before .before .before .before .before .before .loop in
+    let start = c .before .before .before .before .before .before .before .before .before .before .before .before .before .before .before .before .before .before .before .before .before .before .before .before .before .before .before .before .before .before .before .before .before .before .before in
+    let given = start .args in
+    let kind = given .from .kind in
+    let two = at .inv .0 in
+    let known = at .inv .1 in
+    let event = c .before .before .before .before .before .before .before .before .before .before .before .before .before .before .before .before .before .before .before .before .before .before .before .before .event-at in
+    let r = event .result in
+    let within = c .before .before .before .before .before .before .before .before .before .before .before .before .before .before .before .before .before .before .before .before .before .before .before .before .before .loop-test .taken in
+    let s = c .before .before .before .before .before .before .before .before .before .before .step-one in
+    let whole = c .before .before .before .before .before .before .before .before .before .before .before .device-of4 in
+    let put = c .before .before .before .before .before .before .before .put-answer18 in
+    let truly = s .ensures ∙ ap (λ (x : Device). step x r) (whole .ensures) in (
+      two-on (set (at .sides) _ _) _ _ (two-on (at .sides) _ _ two),
+      stepped-on (given .settled) (given .events .now) (given .answers .now) (given .n) (given .from) (at .answers) (at .owner) (at .lines) kind (at .sides) (at .bus) (at .arb) (at .i) two known within (start .pre .0) (start .pre .1)
+          (s .result) r (event .ensures) truly _ _ (put .kept .0) (put .ensures) refl,
+    )
+
+array-copy-out-s0-10 : tie.Need-array-copy-out-s0-10 Inv-loop μ-loop
+array-copy-out-s0-10 c = search needs
+
+array-copy-out-s1-10 : tie.Need-array-copy-out-s1-10 Inv-loop μ-loop
+array-copy-out-s1-10 c = search needs
 
 device-of-requires-5 : tie.Need-device-of-requires-5 Inv-loop μ-loop
 device-of-requires-5 c κs = search needs
@@ -1225,24 +1370,52 @@ play-spec =
     add-i-14
     loop-less-15
     loop-again-15
-    unread-number-requires
+    mul-own
+    array-copy-out-own
+    stop-grants-requires
+    idle-kept-requires
+    granted-arb-requires
+    granted-bits-requires
+    add-owner
+    granted-side-requires
+    mul-sides-7
+    array-set-from-sides-15
+    array-copy-out-s0-8
+    array-copy-out-s1-8
+    lines-shown-requires-5
     answer-kept-requires-14
     put-answer-requires-15
     add-i-15
     loop-less-16
     loop-again-16
-    array-copy-out-s0-8
-    array-copy-out-s1-8
-    device-of-requires-4
-    step-one-requires
-    put-answer-requires-16
-    array-set-from-sides-15
+    byte-claims-requires
+    claimed-arb-requires
+    writer-side-requires
+    mul-sides-8
     array-set-from-sides-16
+    answer-kept-requires-15
+    put-answer-requires-16
     add-i-16
     loop-less-17
     loop-again-17
+    unread-number-requires
+    answer-kept-requires-16
+    put-answer-requires-17
+    add-i-17
+    loop-less-18
+    loop-again-18
     array-copy-out-s0-9
     array-copy-out-s1-9
+    device-of-requires-4
+    step-one-requires
+    put-answer-requires-18
+    array-set-from-sides-17
+    array-set-from-sides-18
+    add-i-18
+    loop-less-19
+    loop-again-19
+    array-copy-out-s0-10
+    array-copy-out-s1-10
     device-of-requires-5
     same-length
     returns)
