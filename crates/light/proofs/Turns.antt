@@ -30,7 +30,7 @@ use Rattle.arbiter.specs.declared.Arbitration.{Arbitration}
 use Rattle.arbiter.specs.declared.Device.{Device}
 use Rattle.arbiter.specs.declared.Clock.the-variants.{NoClock}
 use Rattle.arbiter.proofs.Choice.{not-true}
-use Rattle.connection.specs.Quiet.{isApart}
+use Rattle.fields.specs.Apart.{isApart}
 use Rattle.step.specs.Carried.{quietFrom, isQuiet}
 use Rattle.light.specs.Turns.{sideGranted, arbGranted, isContr, isNobody, GrantedAtStop, ClaimedByWrite}
 use Rattle.light.proofs.Fits.{Alike, tests, same-levels}
