@@ -18,7 +18,8 @@ use Rattle.arbiter.specs.declared.Switch.the-variants.{Apart, Initialising, Clo
 use Rattle.arbiter.specs.declared.Control.{Control}
 use Rattle.arbiter.specs.declared.Device.{Device}
 use Rattle.arbitration.specs.Cleared.{groundIn}
-use Rattle.connection.specs.Quiet.{isApart, switchStays}
+use Rattle.fields.specs.Apart.{isApart}
+use Rattle.connection.specs.Quiet.{switchStays}
 use Rattle.step.specs.Carried.{isQuiet}
 use Rattle.light.specs.Light.{Settled}
 use Rattle.light.specs.Turns.{isNobody}
