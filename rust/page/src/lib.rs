@@ -9,7 +9,8 @@
 //! use gunwaleish_page::ask;
 //! use gunwaleish_page::fields::join;
 //!
-//! let listed = ask(&join(&[b"listing", &[4, 0, 0, 0, 0, 0, 0, 1, 0]]));
+//! let trace: &[u8] = &[4, 0, 0, 0, 0, 0, 0, 1, 0];
+//! let listed = ask(&join(&[b"listing", trace]));
 //! assert!(String::from_utf8_lossy(&listed).contains("70 0000\n"));
 //! ```
 //!
