@@ -45,7 +45,9 @@ put-joining : (m : Master) (d : Device) → put m (joining m ((side m d) .contr 
 unfolding joined
 put-joining m d = go m ((side m d) .contr .businit)
   where
-    go : (k : Master) (init : Bool) → put k (joining m init) d ≡ (if init then withArb (record { last = d .arb .last; initfail = false; switch = Initialising m 0; reserve = d .arb .reserve; turn = d .arb .turn }) d else switched (Closed m) d)
+    go : (k : Master) (init : Bool) → put k (joining m init) d
+        ≡ (if init then withArb (record { last = d .arb .last; initfail = false; switch = Initialising m 0; reserve = d .arb .reserve; turn = d .arb .turn }) d
+        else switched (Closed m) d)
     go Zero true = refl
     go Zero false = refl
     go One true = refl
@@ -58,18 +60,21 @@ put-clocking ClockHigh Zero n w d e = refl
 put-clocking ClockHigh One n w d e = refl
 put-clocking ClockLow m n w d e = go m (ltb n 8)
   where
-    go : (k : Master) (more : Bool) → put k (if more then still (Initialising k (n + 1)) else record { switch = Apart; starts = false; ends = true; fails = true }) d ≡ (if more then switched (Initialising k (n + 1)) d else initFailed k d)
+    go : (k : Master) (more : Bool) → put k (if more then still (Initialising k (n + 1))
+        else record { switch = Apart; starts = false; ends = true; fails = true }) d ≡ (if more then switched (Initialising k (n + 1)) d else initFailed k d)
     go Zero true = refl
     go Zero false = refl
     go One true = refl
     go One false = refl
 
-put-linking : (c : Clock) (m : Master) (w : Switch) (d : Device) → d .arb .switch ≡ w → put m (linking c m ((side m d) .contr .businit) w) d ≡ keptJoined c m w d
+put-linking : (c : Clock) (m : Master) (w : Switch) (d : Device) → d .arb .switch ≡ w → put m (linking c m ((side m d) .contr .businit) w) d
+    ≡ keptJoined c m w d
 unfolding linking keptJoined
 put-linking c m Apart d e = put-joining m d
 put-linking c m (Initialising k n) d e = go (sameMaster m k)
   where
-    go : (same : Bool) → put m (if same then clocking c m n (Initialising k n) else joining m ((side m d) .contr .businit)) d ≡ (if same then clocked c m n d else joined m d)
+    go : (same : Bool) → put m (if same then clocking c m n (Initialising k n) else joining m ((side m d) .contr .businit)) d
+        ≡ (if same then clocked c m n d else joined m d)
     go true = put-clocking c m n (Initialising k n) d e
     go false = put-joining m d
 put-linking c m (Closed k) d e = go (sameMaster m k)
@@ -79,10 +84,13 @@ put-linking c m (Closed k) d e = go (sameMaster m k)
     go false = put-joining m d
 
 -- the owner m, with BUS_CONNECT or without
-put-owner : (c : Clock) (m : Master) (d : Device) → put m (if (side m d) .contr .busconnect then linking c m ((side m d) .contr .businit) (d .arb .switch) else still Apart) d ≡ (if (side m d) .contr .busconnect then keptJoined c m (d .arb .switch) d else switched Apart d)
+put-owner : (c : Clock) (m : Master) (d : Device)
+    → put m (if (side m d) .contr .busconnect then linking c m ((side m d) .contr .businit) (d .arb .switch) else still Apart) d
+    ≡ (if (side m d) .contr .busconnect then keptJoined c m (d .arb .switch) d else switched Apart d)
 put-owner c m d = go ((side m d) .contr .busconnect)
   where
-    go : (on : Bool) → put m (if on then linking c m ((side m d) .contr .businit) (d .arb .switch) else still Apart) d ≡ (if on then keptJoined c m (d .arb .switch) d else switched Apart d)
+    go : (on : Bool) → put m (if on then linking c m ((side m d) .contr .businit) (d .arb .switch) else still Apart) d
+        ≡ (if on then keptJoined c m (d .arb .switch) d else switched Apart d)
     go true = put-linking c m (d .arb .switch) d refl
     go false = put-still m Apart d
 
@@ -91,12 +99,15 @@ connectWith owns0 owns1 l d =
     deviceWith (endedSide (owns0 && l .ends) (owns0 && l .fails) (d .side0)) (endedSide (owns1 && l .ends) (owns1 && l .fails) (d .side1)) (d .bus)
     (arbLinked l (d .arb)) d
 
-connect-from : (c : Clock) (t : Turn) (d : Device) → connectWith (ownsTurn Zero t) (ownsTurn One t) (linkOf c t (d .side0 .contr) (d .side1 .contr) (d .arb .switch)) d ≡ connectFrom c t d
+connect-from : (c : Clock) (t : Turn) (d : Device)
+    → connectWith (ownsTurn Zero t) (ownsTurn One t) (linkOf c t (d .side0 .contr) (d .side1 .contr) (d .arb .switch)) d ≡ connectFrom c t d
 unfolding linkOf connectFrom
 connect-from c Nobody d = refl
 connect-from c (Claims m g) d = refl
 connect-from c (Owns Zero g) d = put-owner c Zero d
 connect-from c (Owns One g) d = put-owner c One d
 
-pub connect-law : (c : Clock) (d : Device) → connectWith (ownsTurn Zero (d .arb .turn)) (ownsTurn One (d .arb .turn)) (linkOf c (d .arb .turn) (d .side0 .contr) (d .side1 .contr) (d .arb .switch)) d ≡ connectFrom c (d .arb .turn) d
+pub connect-law : (c : Clock) (d : Device)
+    → connectWith (ownsTurn Zero (d .arb .turn)) (ownsTurn One (d .arb .turn)) (linkOf c (d .arb .turn) (d .side0 .contr) (d .side1 .contr) (d .arb .switch)) d
+    ≡ connectFrom c (d .arb .turn) d
 connect-law c d = connect-from c (d .arb .turn) d

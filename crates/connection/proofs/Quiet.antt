@@ -26,7 +26,8 @@ apart (Initialising m n) q = absurd (false≢true q)
 apart (Closed m) q = absurd (false≢true q)
 
 -- with the owner m it is as BUS_CONNECT has it
-linked-same : (m : Master) (busconnect : Bool) (w : Switch) (d : Device) → d .arb .switch ≡ w → linked m busconnect w ≡ true → (if busconnect then keptJoined NoClock m w d else switched Apart d) ≡ d
+linked-same : (m : Master) (busconnect : Bool) (w : Switch) (d : Device) → d .arb .switch ≡ w → linked m busconnect w ≡ true
+    → (if busconnect then keptJoined NoClock m w d else switched Apart d) ≡ d
 unfolding keptJoined clocked
 linked-same m true Apart d e q = absurd (false≢true q)
 linked-same m false Apart d e q = switched-same Apart d (sym e)

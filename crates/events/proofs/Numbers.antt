@@ -56,7 +56,8 @@ number (suc (suc (suc (suc (suc (suc zero)))))) x y z = fitting-number (unused x
 number (suc (suc (suc (suc (suc (suc (suc zero))))))) x y z = fitting-number (zeroOrOne x && unused y && unused z) (Pulse (level x))
 number (suc (suc (suc (suc (suc (suc (suc (suc zero)))))))) x y z = fitting-number (unused x && unused y && unused z) Reset
 number (suc (suc (suc (suc (suc (suc (suc (suc (suc zero))))))))) x y z = any-number (zeroOrOne x) (unused z) (GeneralCall (master x) y)
-number (suc (suc (suc (suc (suc (suc (suc (suc (suc (suc k)))))))))) x y z = unknown-number (raw (suc (suc (suc (suc (suc (suc (suc (suc (suc (suc k)))))))))) x y z) (omega arith)
+number (suc (suc (suc (suc (suc (suc (suc (suc (suc (suc k)))))))))) x y z =
+    unknown-number (raw (suc (suc (suc (suc (suc (suc (suc (suc (suc (suc k)))))))))) x y z) (omega arith)
 
 pub raw-told : (r : Raw) (d : Decoded) → d ≡ decode r → (d ≡ decode r) × (decodedNumber d ≡ rawNumber r)
 raw-told r d e = (e, ap decodedNumber e ∙ number (r .kind) (r .x) (r .y) (r .z))

@@ -10,7 +10,8 @@ use Rattle.arbiter.specs.State.{owns}
 use Rattle.arbiter.specs.Registers.{ownWritten, mailWritten, drivesWritten, turnWritten}
 use Rattle.arbiter.specs.Events.{decode, inSequence, acknowledged, outcome}
 use Rattle.arbiter.specs.Effects.{commanded, written, countedTo, ticked, effect}
-use Rattle.arbiter.specs.Order.{levels, lost, lossesFrom, losses, cutFrom, cut, claim, granted, grantFrom, grant, joined, clocked, keptJoined, connectFrom, connect}
+use Rattle.arbiter.specs.Order.{levels, lost, lossesFrom, losses, cutFrom, cut, claim, granted, grantFrom, grant, joined, clocked, keptJoined, connectFrom}
+use Rattle.arbiter.specs.Order.{connect}
 use Rattle.arbiter.specs.Steps.{parts, taken, stepEvent, stepDecoded, step, runFrom, run}
 use Rattle.arbiter.specs.AuditWords.{next, requests, never, throughout}
 use Rattle.arbiter.specs.Marks.{tick, times}
@@ -96,7 +97,18 @@ connectedSide idle ints =
 -- m has connected so; its partner waits, with such a reserve, and so many idle ticks are counted
 abbrev connectedTo : Master → Bool → Kind → ℕ → ℕ → ℕ → Device
 connectedTo m idle k rt ints count =
-    let bus : Bus = record { outscl = true; outsda = true; intin = true; drivescl = true; drivesda = true; busy = false; hold = 0; idle = count; lowscl = 0; lowsda = 0 } in
+    let bus : Bus = record {
+      outscl = true;
+      outsda = true;
+      intin = true;
+      drivescl = true;
+      drivesda = true;
+      busy = false;
+      hold = 0;
+      idle = count;
+      lowscl = 0;
+      lowsda = 0;
+    } in
     record {
       side0 = of m (connectedSide idle 0x04) (sideWith rt false false true ints);
       side1 = of m (sideWith rt false false true ints) (connectedSide idle 0x04);
@@ -169,7 +181,8 @@ pub connects-05 : (m : Master) (k : Kind) (s t : Setting)
 connects-05 Zero k s t = connected-05 Zero k s t (s .idle)
 connects-05 One k s t = connected-05 One k s t (t .idle)
 
-connects-25 : (m : Master) (k : Kind) (s t : Setting) → runFrom (holding m k s t) (setsContr m 0x25) ≡ connectedTo m true k (reserveBeside m s t) (intsBeside m) 0
+connects-25 : (m : Master) (k : Kind) (s t : Setting) → runFrom (holding m k s t) (setsContr m 0x25)
+    ≡ connectedTo m true k (reserveBeside m s t) (intsBeside m) 0
 connects-25 Zero k s t = connected-25 Zero k s t (s .idle)
 connects-25 One k s t = connected-25 One k s t (t .idle)
 

@@ -65,7 +65,13 @@ calm = record { outscl = true; outsda = true; intin = true; drivescl = true; dri
 -- m owns, granted as the sole requester, with such a reserve count
 abbrev pub ownedBy : Master → ℕ → Kind → Side → Side → Device
 ownedBy m count k s0 s1 =
-    record { side0 = s0; side1 = s1; bus = calm; arb = record { last = Was m; initfail = false; switch = Apart; reserve = count; turn = Owns m Sole }; kind = k }
+    record {
+      side0 = s0;
+      side1 = s1;
+      bus = calm;
+      arb = record { last = Was m; initfail = false; switch = Apart; reserve = count; turn = Owns m Sole };
+      kind = k;
+    }
 
 -- after master 0's six events, and after all twelve: the granted interrupt of master 0 is set
 abbrev pub first : Kind → Setting → Device
@@ -77,7 +83,8 @@ started k s t =
 
 -- ---- the twelve events lead there
 
-first-table : (k : Kind) (r : ℕ) → table (λ (p i : Bool). runFrom (powerUp k) (settingEvents 0 (setting r p i))) ≡ table (λ (p i : Bool). first k (setting r p i))
+first-table : (k : Kind) (r : ℕ) → table (λ (p i : Bool). runFrom (powerUp k) (settingEvents 0 (setting r p i)))
+    ≡ table (λ (p i : Bool). first k (setting r p i))
 unfolding ownWritten mailWritten drivesWritten turnWritten decode inSequence acknowledged outcome commanded written freshSide powerUp effect
     levels lossesFrom losses cutFrom cut claim granted grantFrom grant connectFrom connect
     parts taken stepEvent stepDecoded step runFrom controlByte
@@ -156,7 +163,8 @@ one-command k s t = parts-owned (mid (Command Zero 0x01) (started k s t)) refl r
 
 -- and its byte then ends its grant, so that master 1 is granted.
 one-rest : (k : Kind) (s : Setting) (p i : Bool)
-    → came One (write 0 0x00 ∷ stop 0 ∷ setsContr Zero 0x01) (left (Command Zero 0x01) (started k s (setting 0 p i))) ≡ (holding One k s (setting 0 p i), true, true)
+    → came One (write 0 0x00 ∷ stop 0 ∷ setsContr Zero 0x01) (left (Command Zero 0x01) (started k s (setting 0 p i)))
+    ≡ (holding One k s (setting 0 p i), true, true)
 unfolding rulesOf ownWritten mailWritten drivesWritten turnWritten decode inSequence acknowledged outcome commanded written effect
     levels lossesFrom losses cutFrom cut claim granted grantFrom grant connectFrom connect parts taken stepEvent stepDecoded step runFrom never
 one-rest Pca9641 s p true = refl

@@ -15,7 +15,8 @@ use Rattle.audit.specs.WaitAsSet.{isWithin}
 use Rattle.sheets.specs.declared.Order.{Order}
 use Rattle.sheets.specs.Settings.{orderOf, orderEvents}
 use Rattle.sheets.specs.Started.{Outset}
-use Rattle.guarantee.specs.Guarantee.{reserveIn, Guaranteed, OrderGuarantees, SheetsGuarantee, GuaranteedWithin, OrderGuaranteesWithin, SheetsGuaranteeWithin}
+use Rattle.guarantee.specs.Guarantee.{reserveIn, Guaranteed, OrderGuarantees, SheetsGuarantee, GuaranteedWithin, OrderGuaranteesWithin}
+use Rattle.guarantee.specs.Guarantee.{SheetsGuaranteeWithin}
 use Rattle.arbiter.proofs.Tenure.{run-owned}
 use Rattle.audit.proofs.WaitAsSet.{never-beyond, within-self, wait-as-set}
 use Rattle.sheets.proofs.Complete.{events-read}

@@ -16,7 +16,8 @@ use Rattle.arbiter.specs.Steps.{parts, taken, stepEvent, stepDecoded, step, run
 use Rattle.arbiter.specs.AuditWords.{next, requests, resting, reserveOf, accepted, isAccepted, reset, letsGo, withdrawalOf, grantTaken, never, throughout}
 use Rattle.arbiter.specs.Marks.{stop}
 use Rattle.arbiter.specs.Witnesses.{number}
-use Rattle.ranges.specs.Names.{Master, Zero, One, Ground, Nobody, Owns, Kind, Pca9641, Tpt29641, Device, Raw, Event, Command, Write, Read, Stop, Pair, Lines, Tick, Pulse, Reset, GeneralCall}
+use Rattle.ranges.specs.Names.{Master, Zero, One, Ground, Nobody, Owns, Kind, Pca9641, Tpt29641, Device, Raw, Event, Command, Write, Read, Stop, Pair, Lines}
+use Rattle.ranges.specs.Names.{Tick, Pulse, Reset, GeneralCall}
 use Rattle.audit.specs.SettingsKept.{isRt, writesAt, byteBy, stores, storesRt}
 use Rattle.sheets.specs.declared.Setting.{Setting}
 use Rattle.sheets.specs.Settings.{controlByte, settingEvents, orderEvents}
@@ -213,7 +214,8 @@ starts-again Zero = record { own = refl; others = refl }
 starts-again One = record { own = refl; others = refl }
 
 computed : (k : Kind) → rebootRows k ≡ true
-unfolding rulesOf ownWritten mailWritten drivesWritten turnWritten decode inSequence acknowledged outcome commanded written lined ticked freshSide powerUp effect
+unfolding rulesOf ownWritten mailWritten drivesWritten turnWritten decode inSequence acknowledged outcome commanded written lined ticked freshSide powerUp
+    effect
     levels lost lossesFrom losses cutFrom cut winner claim granted grantFrom grant connectFrom connect
     parts taken stepEvent stepDecoded step runFrom run controlByte orderEvents rebootRows
 computed Pca9641 = refl

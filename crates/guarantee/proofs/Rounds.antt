@@ -88,7 +88,8 @@ unfolding stopsAfter
 owner-stops m more [] d h = refl
 owner-stops m more (r ∷ rs) d h =
     let none : delayed m 0 r d ≡ 0 =
-    ap (λ (c : Bool). if (c && not (resting m d)) && delays m (next d r) then 0 + worth 1 (aTick r d) else 0) (unclaimed m (d .arb .turn) (now (owns m) (r ∷ rs) d h)) in
+    ap (λ (c : Bool). if (c && not (resting m d)) && delays m (next d r) then 0 + worth 1 (aTick r d) else 0)
+    (unclaimed m (d .arb .turn) (now (owns m) (r ∷ rs) d h)) in
     ap₂ (λ (n : ℕ) (b : Bool). ltb n (more + 2) && b) none refl
     ∙ ap (λ (n : ℕ). ltb 0 (more + 2) && stopsAfter m more n (next d r) rs) none
     ∙ ap₂ _&&_ (lt-ltb 0 (more + 2) (omega arith)) (owner-stops m more rs (next d r) (hence (owns m) r rs d h))

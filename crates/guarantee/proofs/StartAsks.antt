@@ -36,7 +36,8 @@ unfolding those
 those-append such [] ys = refl
 those-append such (x ∷ xs) ys =
     split (such x)
-    (λ h. those-first such x (xs ++ ys) h ∙ ap (λ (l : List Raw). x ∷ l) (those-append such xs ys) ∙ sym (ap (λ (l : List Raw). l ++ those such ys) (those-first such x xs h)))
+    (λ h. those-first such x (xs ++ ys) h ∙ ap (λ (l : List Raw). x ∷ l) (those-append such xs ys)
+    ∙ sym (ap (λ (l : List Raw). l ++ those such ys) (those-first such x xs h)))
     (λ h. those-later such x (xs ++ ys) h ∙ those-append such xs ys ∙ sym (ap (λ (l : List Raw). l ++ those such ys) (those-later such x xs h)))
 
 -- Where none is such, none of the later ones is.

@@ -3,7 +3,8 @@
 use Prim.Native.Nat.{ℕ}
 use mathlib.Core.Path.{_≡_, refl, sym, ap, _∙_}
 use mathlib.Core.Bool.{Bool, true, false, not, true≢false, false≢true}
-use Rattle.ranges.specs.Names.{Master, Zero, One, Register, Id, Contr, Status, Rt, IntStatus, IntMask, MailLow, MailHigh, Port, Side, Device, Raw, Event, Command, Write, Read, Stop, Pair, Lines, Tick, Pulse, Reset, GeneralCall}
+use Rattle.ranges.specs.Names.{Master, Zero, One, Register, Id, Contr, Status, Rt, IntStatus, IntMask, MailLow, MailHigh, Port, Side, Device, Raw, Event}
+use Rattle.ranges.specs.Names.{Command, Write, Read, Stop, Pair, Lines, Tick, Pulse, Reset, GeneralCall}
 use Rattle.arbiter.specs.Words.{sameMaster, side}
 use Rattle.arbiter.specs.State.{owns}
 use Rattle.arbiter.specs.Registers.{mailWritten}

@@ -5,7 +5,8 @@ use mathlib.Core.Path.{_≡_, refl, ap, ap₂, _∙_}
 use mathlib.Core.Bool.{Bool, true, false, not, _&&_}
 use lib.Dec.{eqb}
 use borrow.Author.Tests.{eq-eqb}
-use Rattle.ranges.specs.Names.{Master, Zero, One, Register, Id, Contr, Status, Rt, IntStatus, IntMask, MailLow, MailHigh, Rest, Writing, Side, Device, Raw, Event, Command, Write, Stop}
+use Rattle.ranges.specs.Names.{Master, Zero, One, Register, Id, Contr, Status, Rt, IntStatus, IntMask, MailLow, MailHigh, Rest, Writing, Side, Device, Raw}
+use Rattle.ranges.specs.Names.{Event, Command, Write, Stop}
 use Rattle.arbiter.specs.Words.{bit, side}
 use Rattle.arbiter.specs.Parts.{withPort, withSide}
 use Rattle.arbiter.specs.State.{owns, atRest, forWriting}

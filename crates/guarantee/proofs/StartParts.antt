@@ -9,7 +9,8 @@ use Rattle.arbiter.specs.Rules.{idleLimit}
 use Rattle.arbiter.specs.Words.{if_then_else_, sameMaster, side}
 use Rattle.arbiter.specs.State.{ownsTurn, owns, atRest}
 use Rattle.arbiter.specs.Effects.{effect}
-use Rattle.arbiter.specs.Order.{isReset, isTick, clockOf, runsOut, levels, lost, lossesFrom, losses, cutFrom, cut, claimBy, newClaim, claimAfter, claim, granted, grantFrom, grant, connect}
+use Rattle.arbiter.specs.Order.{isReset, isTick, clockOf, runsOut, levels, lost, lossesFrom, losses, cutFrom, cut, claimBy, newClaim, claimAfter, claim}
+use Rattle.arbiter.specs.Order.{granted, grantFrom, grant, connect}
 use Rattle.arbiter.specs.Steps.{parts}
 use Rattle.arbiter.specs.AuditWords.{next, requests}
 use Rattle.arbiter.proofs.Choice.{either, split, if-false}

@@ -70,7 +70,14 @@ read-by (suc (suc (suc zero))) x y z a =
     record { fits = zeroOrOne x && unused y && unused z; event = Stop (master x); read = refl; plain = refl; ticks = refl; other = other-master x a }
 read-by (suc (suc (suc (suc zero)))) x y z a = absurd (false≢true a)
 read-by (suc (suc (suc (suc (suc zero))))) x y z a =
-    record { fits = zeroOrOne x && zeroOrOne y && zeroOrOne z; event = Lines (level x) (level y) (level z); read = refl; plain = refl; ticks = refl; other = λ m h. refl }
+    record {
+      fits = zeroOrOne x && zeroOrOne y && zeroOrOne z;
+      event = Lines (level x) (level y) (level z);
+      read = refl;
+      plain = refl;
+      ticks = refl;
+      other = λ m h. refl;
+    }
 read-by (suc (suc (suc (suc (suc (suc zero)))))) x y z a =
     record { fits = unused x && unused y && unused z; event = Tick; read = refl; plain = refl; ticks = refl; other = λ m h. refl }
 read-by (suc (suc (suc (suc (suc (suc (suc kind))))))) x y z a = absurd (no-other kind x y z a)

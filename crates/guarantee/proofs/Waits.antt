@@ -156,7 +156,8 @@ unfolding orderOf
 other-setting controller board house h =
     let low = ltb-true controller 2 h in
     split (eqb controller 0)
-    (λ is. ap (λ (n : ℕ). settingOf (1 - n) board house) (eqb-true controller 0 is) ∙ ap (λ (b : Bool). settingIn (partner (if b then Zero else One)) (orderOf board house)) (sym is))
+    (λ is. ap (λ (n : ℕ). settingOf (1 - n) board house) (eqb-true controller 0 is)
+    ∙ ap (λ (b : Bool). settingIn (partner (if b then Zero else One)) (orderOf board house)) (sym is))
     (λ no.
     let one : controller ≡ 1 = (let apart = eqb-false controller 0 no in omega arith) in
     ap (λ (n : ℕ). settingOf (1 - n) board house) one ∙ ap (λ (b : Bool). settingIn (partner (if b then Zero else One)) (orderOf board house)) (sym no))

@@ -2,11 +2,13 @@
 -- Assumes nothing.
 use mathlib.Core.Path.{_≡_, refl, sym, ap, ap₂, _∙_}
 use mathlib.Core.Bool.{false≢true, and-eq-true-iff, or-false}
-use Rattle.ranges.specs.Names.{ℕ, Bool, true, false, _&&_, _||_, Master, Switch, Apart, Initialising, Closed, Bus, Clock, Device, Event, Command, Write, Read, Stop, Pair, Lines, Tick, Pulse, Reset, GeneralCall}
+use Rattle.ranges.specs.Names.{ℕ, Bool, true, false, _&&_, _||_, Master, Switch, Apart, Initialising, Closed, Bus, Clock, Device, Event, Command, Write}
+use Rattle.ranges.specs.Names.{Read, Stop, Pair, Lines, Tick, Pulse, Reset, GeneralCall}
 use Rattle.arbiter.specs.Words.{if_then_else_, side}
 use Rattle.arbiter.specs.State.{closedFor, sclHigh, sdaHigh}
 use Rattle.arbiter.specs.Effects.{freshBus, freshSide, wasReset, holdAsked, powerUp, effect}
-use Rattle.arbiter.specs.Order.{isReset, isTick, clockOf, sclChanged, settledBus, levels, lossesFrom, losses, cutFrom, cut, claim, grantFrom, grant, connectFrom, connect}
+use Rattle.arbiter.specs.Order.{isReset, isTick, clockOf, sclChanged, settledBus, levels, lossesFrom, losses, cutFrom, cut, claim, grantFrom, grant}
+use Rattle.arbiter.specs.Order.{connectFrom, connect}
 use Rattle.arbiter.specs.Steps.{parts, run}
 use Rattle.arbiter.specs.AuditWords.{next}
 use Rattle.ranges.specs.Exact.{initialisingFor, SwitchExact, outsideHigh, PowerUpIsReset}

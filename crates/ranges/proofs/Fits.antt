@@ -5,15 +5,21 @@ use mathlib.Core.Path.{_≡_, refl, ap₂, subst}
 use mathlib.Core.Bool.{Bool, true, false, not, _&&_, _||_, and-eq-true-iff}
 use native.Mathlib.Omega.{arith}
 use borrow.Author.Tests.{ltb-true, lt-ltb}
-use Rattle.ranges.specs.Names.{ℕ, _+_, _-_, _%_, List, [], _∷_, eqb, ltb, bitAnd, Master, Zero, One, Ground, Turn, Nobody, Claims, Owns, Rest, Register, Id, Contr, Status, Rt, IntStatus, IntMask, MailLow, MailHigh, Mailbox, Side, Bus, Switch, Apart, Initialising, Closed, Arbitration, Kind, Device, Clock, NoClock, ClockLow, ClockHigh, Raw, Event, Command, Write, Read, Stop, Pair, Lines, Tick, Pulse, Reset, GeneralCall, Decoded, Reads, UnknownKind, BadField, Stepped}
+use Rattle.ranges.specs.Names.{ℕ, _+_, _-_, _%_, List, [], _∷_, eqb, ltb, bitAnd, Master, Zero, One, Ground, Turn, Nobody, Claims, Owns, Rest, Register}
+use Rattle.ranges.specs.Names.{Id, Contr, Status, Rt, IntStatus, IntMask, MailLow, MailHigh, Mailbox, Side, Bus, Switch, Apart, Initialising, Closed}
+use Rattle.ranges.specs.Names.{Arbitration, Kind, Device, Clock, NoClock, ClockLow, ClockHigh, Raw, Event, Command, Write, Read, Stop, Pair, Lines, Tick}
+use Rattle.ranges.specs.Names.{Pulse, Reset, GeneralCall, Decoded, Reads, UnknownKind, BadField, Stepped}
 use Rattle.arbiter.specs.Rules.{idleLimit}
 use Rattle.arbiter.specs.Words.{if_then_else_, bit, partner, sameMaster, side, device}
 use Rattle.arbiter.specs.Parts.{withSide, withInts, withPort, withIdle, withTurn, withContr, withBusInit}
 use Rattle.arbiter.specs.State.{owns, isIdle, sclHigh, sdaHigh, atRest, sclHungLimit, sdaHungLimit}
-use Rattle.arbiter.specs.Registers.{mailEmptiedInt, intInInt, testInt, mailFullInt, grantedInt, lostInt, raised, cleared, disconnected, released, withdraws, ownWritten, mailWritten, drivesWritten}
+use Rattle.arbiter.specs.Registers.{mailEmptiedInt, intInInt, testInt, mailFullInt, grantedInt, lostInt, raised, cleared, disconnected, released, withdraws}
+use Rattle.arbiter.specs.Registers.{ownWritten, mailWritten, drivesWritten}
 use Rattle.arbiter.specs.Events.{fitting, zeroOrOne, unused, master, level, decode, goodCommand, softReset}
-use Rattle.arbiter.specs.Effects.{commanded, writerSide, partnerSide, writtenBus, writtenTurn, written, paired, empties, readerSide, senderSide, wasRead, lined, countedTo, ticked, freshSide, wasReset, powerUp, effect}
-use Rattle.arbiter.specs.Order.{isReset, isTick, clockOf, busyAfter, sclChanged, levels, runsOut, loser, lost, lossesFrom, losses, cutTicks, cutFrom, cut, claim, grantedArb, granted, grantFrom, grant, joined, failedSide, clocked, keptJoined, connectFrom, connect}
+use Rattle.arbiter.specs.Effects.{commanded, writerSide, partnerSide, writtenBus, writtenTurn, written, paired, empties, readerSide, senderSide, wasRead, lined}
+use Rattle.arbiter.specs.Effects.{countedTo, ticked, freshSide, wasReset, powerUp, effect}
+use Rattle.arbiter.specs.Order.{isReset, isTick, clockOf, busyAfter, sclChanged, levels, runsOut, loser, lost, lossesFrom, losses, cutTicks, cutFrom, cut}
+use Rattle.arbiter.specs.Order.{claim, grantedArb, granted, grantFrom, grant, joined, failedSide, clocked, keptJoined, connectFrom, connect}
 use Rattle.arbiter.specs.Steps.{parts, taken, refused, step, runFrom, run}
 use Rattle.ranges.specs.Ranges.{Field, fits, pulses, narrow, allFit}
 use Rattle.arbiter.proofs.Choice.{either}

@@ -6,12 +6,14 @@ use mathlib.Core.Path.{_≡_, refl, sym, ap, ap₂, _∙_}
 use mathlib.Core.Bool.{true≢false, false≢true, and-eq-true-iff}
 use native.Mathlib.Omega.{arith}
 use borrow.Author.Tests.{eqb-true}
-use Rattle.ranges.specs.Names.{ℕ, _-_, _/_, _%_, Bool, true, false, not, _&&_, _||_, eqb, bitAnd, Master, Zero, One, Turn, Nobody, Claims, Owns, Register, Id, Contr, Status, Rt, IntStatus, IntMask, MailLow, MailHigh, Control, Side, Bus, Device}
+use Rattle.ranges.specs.Names.{ℕ, _-_, _/_, _%_, Bool, true, false, not, _&&_, _||_, eqb, bitAnd, Master, Zero, One, Turn, Nobody, Claims, Owns, Register}
+use Rattle.ranges.specs.Names.{Id, Contr, Status, Rt, IntStatus, IntMask, MailLow, MailHigh, Control, Side, Bus, Device}
 use Rattle.arbiter.specs.Rules.{rolls}
 use Rattle.arbiter.specs.Words.{if_then_else_, bit, partner}
 use Rattle.arbiter.specs.Parts.{withBusConnect, withPointer, withInts, withMail, withTurn}
 use Rattle.arbiter.specs.State.{ownsTurn, owns}
-use Rattle.arbiter.specs.Registers.{registerNumber, testInt, mailFullInt, raised, cleared, withdraws, controlOf, mailLow, mailHigh, ownWritten, mailWritten, drivesWritten, turnWritten}
+use Rattle.arbiter.specs.Registers.{registerNumber, testInt, mailFullInt, raised, cleared, withdraws, controlOf, mailLow, mailHigh, ownWritten, mailWritten}
+use Rattle.arbiter.specs.Registers.{drivesWritten, turnWritten}
 use Rattle.arbiter.specs.Effects.{afterWrite, writeRisen, writerSide, writtenBus, written, paired}
 use Rattle.arbiter.specs.Steps.{run}
 use Rattle.ranges.specs.Exact.{clashes, PairAsWrites, PairEitherOrder, ClashEndsSet}

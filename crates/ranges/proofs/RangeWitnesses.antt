@@ -11,11 +11,13 @@ use Rattle.arbiter.specs.Words.{byteOf}
 use Rattle.arbiter.specs.Registers.{contrByte, statusByte, registerByte, isAsserted, ownWritten, mailWritten, drivesWritten, turnWritten}
 use Rattle.arbiter.specs.Events.{decode, inSequence, acknowledged, outcome}
 use Rattle.arbiter.specs.Effects.{commanded, written, paired, wasRead, lined, ticked, freshSide, wasReset, powerUp, effect}
-use Rattle.arbiter.specs.Order.{levels, lost, lossesFrom, losses, cutFrom, cut, winner, claim, granted, grantFrom, grant, joined, clocked, keptJoined, connectFrom, connect}
+use Rattle.arbiter.specs.Order.{levels, lost, lossesFrom, losses, cutFrom, cut, winner, claim, granted, grantFrom, grant, joined, clocked, keptJoined}
+use Rattle.arbiter.specs.Order.{connectFrom, connect}
 use Rattle.arbiter.specs.Steps.{parts, ownerByte, linesByte, byteRead, refused, taken, stepEvent, stepDecoded, step, runFrom, run}
 use Rattle.arbiter.specs.AuditWords.{next}
 use Rattle.ranges.specs.Ranges.{Field, narrow, bytes, choices, isBytes, areBytes}
-use Rattle.ranges.specs.RangeWitnesses.{Reached, AllReached, EveryValueReached, Way, rises, falls, met, metAlong, meetsAll, covers, allCover, waysOf, AllCover}
+use Rattle.ranges.specs.RangeWitnesses.{Reached, AllReached, EveryValueReached, Way, rises, falls, met, metAlong, meetsAll, covers, allCover, waysOf}
+use Rattle.ranges.specs.RangeWitnesses.{AllCover}
 use Rattle.arbiter.proofs.Choice.{either, split}
 
 pub all-cover : AllCover

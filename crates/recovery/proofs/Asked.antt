@@ -3,7 +3,8 @@
 use mathlib.Core.Path.{_≡_, refl, sym, ap, ap₂, _∙_}
 use mathlib.Core.Bool.{true≢false, and-eq-true-iff, and-false}
 use borrow.Author.Tests.{eq-eqb}
-use Rattle.ranges.specs.Names.{ℕ, zero, suc, Bool, true, false, not, _&&_, _||_, List, [], _∷_, _++_, eqb, Master, Zero, One, Contr, Bus, Device, Raw, Event, Command, Write, Stop, Lines, Decoded, Reads}
+use Rattle.ranges.specs.Names.{ℕ, zero, suc, Bool, true, false, not, _&&_, _||_, List, [], _∷_, _++_, eqb, Master, Zero, One, Contr, Bus, Device, Raw, Event}
+use Rattle.ranges.specs.Names.{Command, Write, Stop, Lines, Decoded, Reads}
 use Rattle.arbiter.specs.State.{owns, sclHigh, sdaHigh, atRest}
 use Rattle.arbiter.specs.Events.{decode, inSequence}
 use Rattle.arbiter.specs.Effects.{outside, lined, effect}
@@ -136,5 +137,6 @@ unfolding throughout runFrom
 some-tick p zero d h = (0, split (owns p d) (λ o. o) (λ o. absurd (true≢false (sym (ap not o) ∙ h))))
 some-tick p (suc n) d h =
     split (owns p d) (λ o. (0, o))
-    (λ o. let more = some-tick p n (next d aTick) (sym (ap (λ (b : Bool). not b && throughout (λ (x : Device). not (owns p x)) (next d aTick) (times n aTick)) o) ∙ h) in
+    (λ o. let more = some-tick p n (next d aTick)
+    (sym (ap (λ (b : Bool). not b && throughout (λ (x : Device). not (owns p x)) (next d aTick) (times n aTick)) o) ∙ h) in
     (suc (more .0), more .1))

@@ -4,7 +4,9 @@ use mathlib.Core.Path.{_≡_, refl, sym, ap, ap₂, _∙_, subst}
 use mathlib.Core.Bool.{true≢false, and-eq-true-iff}
 use mathlib.Core.Logic.{_⊎_, inl, inr, ⊎-elim}
 use borrow.Author.Tests.{eqb-true, eq-eqb}
-use Rattle.ranges.specs.Names.{ℕ, Bool, true, false, not, _&&_, _||_, List, [], _∷_, eqb, Master, Zero, One, Ground, Turn, Nobody, Claims, Owns, Register, Id, Contr, Status, Rt, IntStatus, IntMask, MailLow, MailHigh, Bus, Kind, Device, Raw, Event, Command, Write, Read, Stop, Pair, Lines, Tick, Pulse, Reset, GeneralCall}
+use Rattle.ranges.specs.Names.{ℕ, Bool, true, false, not, _&&_, _||_, List, [], _∷_, eqb, Master, Zero, One, Ground, Turn, Nobody, Claims, Owns, Register, Id}
+use Rattle.ranges.specs.Names.{Contr, Status, Rt, IntStatus, IntMask, MailLow, MailHigh, Bus, Kind, Device, Raw, Event, Command, Write, Read, Stop, Pair, Lines}
+use Rattle.ranges.specs.Names.{Tick, Pulse, Reset, GeneralCall}
 use Rattle.arbiter.specs.Rules.{idleLimit}
 use Rattle.arbiter.specs.Words.{if_then_else_, partner, sameMaster, side}
 use Rattle.arbiter.specs.State.{ownsTurn, owns, claims, sclHigh, sdaHigh, isIdle}
@@ -153,7 +155,8 @@ others One Zero t s o = o
 others One One t s o = absurd (true≢false s)
 
 -- so where its partner does not own, no event but m's, short of a reset, moves them
-pub effect-loose : (m : Master) (e : Event) (d : Device) → isReset e ≡ false → isOf m e ≡ false → owns (partner m) d ≡ false → loose ((effect e d) .bus) ≡ loose (d .bus)
+pub effect-loose : (m : Master) (e : Event) (d : Device) → isReset e ≡ false → isOf m e ≡ false → owns (partner m) d ≡ false → loose ((effect e d) .bus)
+    ≡ loose (d .bus)
 unfolding effect written wasRead lined ticked
 effect-loose m (Command k c) d ok s o = refl
 effect-loose m (Write k v) d ok s o =

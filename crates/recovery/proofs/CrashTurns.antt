@@ -6,7 +6,8 @@ use mathlib.Core.Path.{_≡_, refl, sym, ap, ap₂, _∙_}
 use mathlib.Core.Bool.{true≢false, false≢true}
 use mathlib.Core.Logic.{_⊎_, inl, inr}
 use borrow.Author.Tests.{eq-eqb, eqb-false}
-use Rattle.ranges.specs.Names.{ℕ, _-_, Bool, true, false, not, _&&_, _||_, List, [], _∷_, eqb, Master, Zero, One, Ground, Turn, Nobody, Claims, Owns, Kind, Device, Raw}
+use Rattle.ranges.specs.Names.{ℕ, _-_, Bool, true, false, not, _&&_, _||_, List, [], _∷_, eqb, Master, Zero, One, Ground, Turn, Nobody, Claims, Owns, Kind}
+use Rattle.ranges.specs.Names.{Device, Raw}
 use Rattle.arbiter.specs.Words.{worth, partner}
 use Rattle.arbiter.specs.State.{owns, claims, atRest}
 use Rattle.arbiter.specs.Effects.{powerUp, effect}

@@ -125,7 +125,8 @@ module _ (k : Kind) (m : Master) (rs : List Raw) (n : ℕ) (q : requests (partne
       (λ (x : owns p d || claims p d || C ≡ true).
       ⊎-elim
       (λ (y : owns p d || claims p d ≡ true). in-turn (held-in long)
-      (⊎-elim (λ (z : owns p d ≡ true). or-second (claims p d) (owns p d) z) (λ (z : claims p d ≡ true). or-first (claims p d) (owns p d) z) (or-cases (owns p d) (claims p d) y))
+      (⊎-elim (λ (z : owns p d ≡ true). or-second (claims p d) (owns p d) z) (λ (z : claims p d ≡ true). or-first (claims p d) (owns p d) z)
+      (or-cases (owns p d) (claims p d) y))
       w)
       (λ (y : C ≡ true). gets-owner long y w) (or-cases (owns p d || claims p d) C x))
       (λ (x : D ≡ true). gets-claimant long x w) (or-cases (owns p d || claims p d || C) D h)

@@ -7,12 +7,15 @@ use native.Mathlib.Omega.{arith}
 use mathlib.Core.Path.{_≡_, refl, sym, ap, _∙_, subst}
 use mathlib.Core.Bool.{true≢false, false≢true, and-false, and-eq-true-iff}
 use borrow.Author.Tests.{lt-ltb}
-use Rattle.ranges.specs.Names.{ℕ, Bool, true, false, not, _&&_, [], _∷_, ltb, Master, Zero, One, Ground, Turn, Nobody, Claims, Owns, Switch, Apart, Initialising, Closed, Control, Side, Clock, NoClock, Device, Raw, Event, Command, Write, Read, Stop, Pair, Lines, Tick, Pulse, Reset, GeneralCall}
+use Rattle.ranges.specs.Names.{ℕ, Bool, true, false, not, _&&_, [], _∷_, ltb, Master, Zero, One, Ground, Turn, Nobody, Claims, Owns, Switch, Apart}
+use Rattle.ranges.specs.Names.{Initialising, Closed, Control, Side, Clock, NoClock, Device, Raw, Event, Command, Write, Read, Stop, Pair, Lines, Tick, Pulse}
+use Rattle.ranges.specs.Names.{Reset, GeneralCall}
 use Rattle.arbiter.specs.Words.{worth, side}
 use Rattle.arbiter.specs.State.{ownsTurn, owns}
 use Rattle.arbiter.specs.Events.{softReset}
 use Rattle.arbiter.specs.Effects.{written, paired, wasRead, lined, ticked, effect}
-use Rattle.arbiter.specs.Order.{isReset, isTick, clockOf, levels, lost, lossesFrom, losses, cutFrom, cut, claim, granted, grantFrom, grant, switched, joined, initialised, initFailed, clocked, keptJoined, connectFrom, connect}
+use Rattle.arbiter.specs.Order.{isReset, isTick, clockOf, levels, lost, lossesFrom, losses, cutFrom, cut, claim, granted, grantFrom, grant, switched, joined}
+use Rattle.arbiter.specs.Order.{initialised, initFailed, clocked, keptJoined, connectFrom, connect}
 use Rattle.arbiter.specs.Steps.{parts, runFrom}
 use Rattle.arbiter.specs.AuditWords.{next, letsGo, reset}
 use Rattle.recovery.specs.Diagnosis.{isPulse, pulseOf, lowPulsesIn, ownsOn, InitEnds, InitGoesOn, InitCounts}
@@ -200,7 +203,8 @@ unfolding clocked
 init-ends m d n r s on o =
     let w : Device = six (Pulse false) d in (
       (λ h. subst (Ended m) (sym (pulsed true m d n r s on o h)) (ended m (six (Pulse true) d))),
-      (λ h few. ap (λ (x : Device). x .arb .switch) (pulsed false m d n r s on o h ∙ if-true (switched (Initialising m (n + 1)) w) (initFailed m w) (lt-ltb n 8 few))),
+      (λ h few. ap (λ (x : Device). x .arb .switch)
+          (pulsed false m d n r s on o h ∙ if-true (switched (Initialising m (n + 1)) w) (initFailed m w) (lt-ltb n 8 few))),
       (λ h eight. subst (Failed m)
           (sym (pulsed false m d n r s on o h ∙ if-false (switched (Initialising m (n + 1)) w) (initFailed m w) (ap (λ (k : ℕ). ltb k 8) eight)))
           (failed m w)),

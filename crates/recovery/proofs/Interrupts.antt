@@ -4,14 +4,17 @@
 use Prim.Native.Nat.{_-_, _%_}
 use mathlib.Core.Path.{_≡_, refl, sym, ap, _∙_}
 use mathlib.Core.Bool.{or-false, and-true, and-false}
-use Rattle.ranges.specs.Names.{ℕ, Bool, true, false, not, _&&_, _||_, Master, Zero, One, Ground, Turn, Nobody, Claims, Owns, Rest, Register, Id, Contr, Status, Rt, IntStatus, IntMask, MailLow, MailHigh, Side, Switch, Clock, Device, Event, Command, Write, Read, Stop, Pair, Lines, Tick, Pulse, Reset, GeneralCall}
+use Rattle.ranges.specs.Names.{ℕ, Bool, true, false, not, _&&_, _||_, Master, Zero, One, Ground, Turn, Nobody, Claims, Owns, Rest, Register, Id, Contr, Status}
+use Rattle.ranges.specs.Names.{Rt, IntStatus, IntMask, MailLow, MailHigh, Side, Switch, Clock, Device, Event, Command, Write, Read, Stop, Pair, Lines, Tick}
+use Rattle.ranges.specs.Names.{Pulse, Reset, GeneralCall}
 use Rattle.arbiter.specs.Rules.{rolls}
 use Rattle.arbiter.specs.Words.{if_then_else_, bit, partner, sameMaster, side}
 use Rattle.arbiter.specs.Parts.{withPort}
 use Rattle.arbiter.specs.State.{ownsTurn, owns}
 use Rattle.arbiter.specs.Registers.{mailFullInt, mailEmptiedInt, testInt, grantedInt, lostInt, intInInt, withdraws, ownWritten, mailWritten}
 use Rattle.arbiter.specs.Events.{goodCommand, softReset}
-use Rattle.arbiter.specs.Effects.{commanded, writeRisen, writerSide, readerSide, senderSide, empties, written, paired, wasRead, lined, ticked, freshSide, wasReset, holdAsked, effect}
+use Rattle.arbiter.specs.Effects.{commanded, writeRisen, writerSide, readerSide, senderSide, empties, written, paired, wasRead, lined, ticked, freshSide}
+use Rattle.arbiter.specs.Effects.{wasReset, holdAsked, effect}
 use Rattle.arbiter.specs.Order.{isTick, clockOf, levels, lost, lossesFrom, losses, cutFrom, cut, claim, granted, grantFrom, grant, connect}
 use Rattle.arbiter.specs.Steps.{parts}
 use Rattle.arbiter.proofs.Choice.{either, of-either}

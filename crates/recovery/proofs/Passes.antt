@@ -1,4 +1,5 @@
--- A silent master that has something that ends its grant, and is not inside a transfer: what stands before its partner is counted in ticks, and each tick takes one
+-- A silent master that has something that ends its grant, and is not inside a transfer: what stands before its partner is counted in ticks, and each tick takes
+-- one
 -- from it.
 -- Assumes nothing.
 use Prim.Native.Nat.{_<_, _≤_}
@@ -168,7 +169,8 @@ nothing-left zero m b d z ready x i rest (behind g t shut l) =
     beyond : (k : ℕ) → d .bus .hold + k ≤ b → ⊥
     beyond k y = let some : 1 ≤ d .bus .hold = due-held m d ready t shut in omega arith
 
-stands : (zero : Bool) (m : Master) (b : ℕ) (rs : List Raw) (d : Device) → Owned d → Ready d → Ends zero m d → never reset d rs ≡ true → never (sentBy m) d rs ≡ true
+stands : (zero : Bool) (m : Master) (b : ℕ) (rs : List Raw) (d : Device) → Owned d → Ready d → Ends zero m d → never reset d rs ≡ true → never (sentBy m) d rs
+    ≡ true
     → throughout (requests (partner m)) d rs ≡ true → throughout (idleUnder m) d rs ≡ true → b ≤ ticksIn d rs → resting (partner m) (runFrom d rs) ≡ true
     → Before zero m b d → owns (partner m) (runFrom d rs) ≡ true
 unfolding runFrom ticksIn
@@ -180,7 +182,8 @@ stands zero m b (r ∷ rs) d i ready x nr ns st idle long rest p =
     let more = hence (requests (partner m)) r rs d st in
     let idle1 = hence (idleUnder m) r rs d idle in
     let q = now (requests (partner m)) rs n more in
-    stands zero m (b - worth 1 (tick r d)) rs n (next-owned r d i) (ready-next r d ready) (ends-on m b r d i ready (ok .0) (silent .0) q zero x) (ok .1) (silent .1) more
+    stands zero m (b - worth 1 (tick r d)) rs n (next-owned r d i) (ready-next r d ready) (ends-on m b r d i ready (ok .0) (silent .0) q zero x) (ok .1)
+    (silent .1) more
     idle1 (omega arith) rest
     (before-then m b r d i ready (ok .0) (silent .0) q zero x (now (idleUnder m) (r ∷ rs) d idle) (now (idleUnder m) rs n idle1) p)
 
@@ -198,7 +201,8 @@ module _ (k : Kind) (m : Master) (rs : List Raw) (shut : stalledInside m (run k 
 
   start-owner : (zero : Bool) (g : Ground) → d .arb .turn ≡ Owns m g → Start zero
   start-owner true g t = let top = any-ok k rs .bus .1 in let same = limit in theirs (run-owned k rs m g t) (λ z. omega arith) (omega arith)
-  start-owner false g t = let low : d .arb .reserve ≤ reserveOf m d = run-spends k rs m g t in theirs (run-owned k rs m g t) (λ z. absurd (false≢true z)) (omega arith)
+  start-owner false g t =
+      let low : d .arb .reserve ≤ reserveOf m d = run-spends k rs m g t in theirs (run-owned k rs m g t) (λ z. absurd (false≢true z)) (omega arith)
 
   start-claimant : (zero : Bool) (g : Ground) → d .arb .turn ≡ Claims m g → Start zero
   start-claimant zero g t = behind g t rested (go zero)

@@ -2,7 +2,8 @@
 -- Assumes nothing.
 use mathlib.Core.Path.{_≡_, refl, sym, ap, ap₂, _∙_, subst}
 use mathlib.Core.Bool.{true≢false, false≢true, and-false}
-use Rattle.ranges.specs.Names.{ℕ, _-_, Bool, true, false, not, _&&_, _||_, List, [], _∷_, _++_, eqb, Master, Zero, One, Ground, Sole, Turn, Nobody, Claims, Owns, Port, Register, Status, Bus, Kind, Device, Raw, Event, Command, Read, Stop}
+use Rattle.ranges.specs.Names.{ℕ, _-_, Bool, true, false, not, _&&_, _||_, List, [], _∷_, _++_, eqb, Master, Zero, One, Ground, Sole, Turn, Nobody, Claims}
+use Rattle.ranges.specs.Names.{Owns, Port, Register, Status, Bus, Kind, Device, Raw, Event, Command, Read, Stop}
 use Rattle.arbiter.specs.Rules.{limitOf}
 use Rattle.arbiter.specs.Words.{if_then_else_, bit, worth, partner, side}
 use Rattle.arbiter.specs.State.{ownsTurn, owns, claimsTurn, claims, atRest, sclHigh, sdaHigh, isIdle}

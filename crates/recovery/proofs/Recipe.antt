@@ -15,7 +15,8 @@ use Rattle.arbiter.specs.Witnesses.{number}
 use Rattle.audit.specs.WaitAsSet.{isWithin}
 use Rattle.sheets.specs.declared.Setting.{Setting}
 use Rattle.guarantee.specs.Starts.{those}
-use Rattle.recovery.specs.Recipe.{isFrom, Recovers, HasBus, ticksSince, RecoveryRecipe, RecoveryHeld, RecoveryHold, RecoveryGuarantees, RecoveryGuaranteesWithin}
+use Rattle.recovery.specs.Recipe.{isFrom, Recovers, HasBus, ticksSince, RecoveryRecipe, RecoveryHeld, RecoveryHold, RecoveryGuarantees}
+use Rattle.recovery.specs.Recipe.{RecoveryGuaranteesWithin}
 use Rattle.arbiter.proofs.Choice.{owns-turn}
 use Rattle.arbiter.proofs.Runs.{from-append}
 use Rattle.arbiter.proofs.Tenure.{run-owned}

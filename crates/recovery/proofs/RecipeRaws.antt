@@ -5,7 +5,8 @@ use mathlib.Core.Path.{_≡_, refl, sym, ap, ap₂, _∙_}
 use mathlib.Core.Bool.{true≢false, false≢true, or-true}
 use native.Mathlib.Omega.{arith}
 use borrow.Author.Tests.{eqb-true, le-ltb}
-use Rattle.ranges.specs.Names.{ℕ, Bool, true, false, not, _&&_, _||_, List, [], _∷_, eqb, Master, Zero, One, Device, Raw, Event, Decoded, Reads, UnknownKind, BadField}
+use Rattle.ranges.specs.Names.{ℕ, Bool, true, false, not, _&&_, _||_, List, [], _∷_, eqb, Master, Zero, One, Device, Raw, Event, Decoded, Reads, UnknownKind}
+use Rattle.ranges.specs.Names.{BadField}
 use Rattle.arbiter.specs.Words.{partner}
 use Rattle.arbiter.specs.Events.{decode}
 use Rattle.arbiter.specs.AuditWords.{acceptedAs}

@@ -2,7 +2,8 @@
 -- Assumes nothing.
 use mathlib.Core.Path.{_≡_, refl, sym, ap, ap₂, _∙_}
 use mathlib.Core.Bool.{true≢false, false≢true, and-eq-true-iff}
-use Rattle.ranges.specs.Names.{ℕ, Bool, true, false, not, _&&_, List, [], _∷_, Master, Zero, One, Rest, Register, Side, Device, Raw, Event, Command, Write, Read, Stop, Pair, Lines, Tick, Pulse, Reset, GeneralCall}
+use Rattle.ranges.specs.Names.{ℕ, Bool, true, false, not, _&&_, List, [], _∷_, Master, Zero, One, Rest, Register, Side, Device, Raw, Event, Command, Write}
+use Rattle.ranges.specs.Names.{Read, Stop, Pair, Lines, Tick, Pulse, Reset, GeneralCall}
 use Rattle.arbiter.specs.Rules.{rolls}
 use Rattle.arbiter.specs.Words.{partner, sameMaster, side}
 use Rattle.arbiter.specs.Parts.{withPort}

@@ -4,7 +4,8 @@ use native.Mathlib.Omega.{arith}
 use mathlib.Core.Path.{_≡_, refl, sym, ap, ap₂, _∙_}
 use mathlib.Core.Bool.{true≢false, false≢true, and-true}
 use borrow.Author.Tests.{eq-eqb}
-use Rattle.ranges.specs.Names.{ℕ, zero, suc, _+_, Bool, true, false, not, _&&_, _||_, [], _∷_, eqb, Master, Zero, One, Ground, Turn, Nobody, Claims, Owns, Bus, Device, Event, Tick}
+use Rattle.ranges.specs.Names.{ℕ, zero, suc, _+_, Bool, true, false, not, _&&_, _||_, [], _∷_, eqb, Master, Zero, One, Ground, Turn, Nobody, Claims, Owns, Bus}
+use Rattle.ranges.specs.Names.{Device, Event, Tick}
 use Rattle.arbiter.specs.Words.{worth, partner, side}
 use Rattle.arbiter.specs.Rules.{idleLimit}
 use Rattle.arbiter.specs.State.{ownsTurn, owns, claims, sclHigh, sdaHigh, isIdle, atRest}
@@ -83,7 +84,8 @@ tick-quiet d =
     let b : Bus = d .bus in
     ap (λ (n : Device). quiet (n .bus)) (taken d .after)
     ∙ ap quiet (parts-bus Tick d)
-    ∙ ap (λ (busy : Bool). not busy && (b .outscl && b .drivescl) && (b .outsda && b .drivesda)) (calm (b .busy) (sclHigh b && sclHigh (tickedBus (idleLimit d) b)) (sdaHigh b))
+    ∙ ap (λ (busy : Bool). not busy && (b .outscl && b .drivescl) && (b .outsda && b .drivesda))
+    (calm (b .busy) (sclHigh b && sclHigh (tickedBus (idleLimit d) b)) (sdaHigh b))
 
 -- Without a hold a quiet bus is an idle one.
 pub idle-quiet : (b : Bus) → b .hold ≡ 0 → isIdle b ≡ quiet b
@@ -155,7 +157,8 @@ module _ (m : Master) where
       elim (lot m aTick d (i m (t .0) (t .1)) (taken d .same λ f y. isReset f)) [
         | keeps k ↦ ap (λ (b : Bool). claims m n || b) (turn-owns m (n .arb .turn) (k .owner .turn)) ∙ or-yes (claims m n)
         | over x c ↦
-            (let idle = next-idle aTick d (ap (λ (y : Device). isIdle (y .bus)) (taken d .middle) ∙ lost-idle m Tick d (sym (ap (expired m) (taken d .middle)) ∙ c (taken d .same (letsGo m)))) in
+            (let idle = next-idle aTick d (ap (λ (y : Device). isIdle (y .bus)) (taken d .middle)
+            ∙ lost-idle m Tick d (sym (ap (expired m) (taken d .middle)) ∙ c (taken d .same (letsGo m)))) in
             absurd (true≢false (sym idle ∙ idle-quiet (n .bus) (x .hold) ∙ tick-quiet d ∙ h)))
       ])
       (λ o. let t = claims-turn m (d .arb .turn) (sym (or-no (claims m d) (owns m d) o) ∙ has) in
@@ -178,7 +181,8 @@ module _ (m : Master) where
   other-out One (Owns Zero g) h = absurd (false≢true h)
   other-out One (Owns One g) h = refl
 
-  pub keeps-out : (n : ℕ) (d : Device) → Owned d → Ready d → quiet (d .bus) ≡ false → hasTurn m (d .arb .turn) ≡ true → throughout without d (times n aTick) ≡ true
+  pub keeps-out : (n : ℕ) (d : Device) → Owned d → Ready d → quiet (d .bus) ≡ false → hasTurn m (d .arb .turn) ≡ true → throughout without d (times n aTick)
+      ≡ true
   unfolding throughout
   keeps-out zero d i ready h has = ap not (other-out m (d .arb .turn) has)
   keeps-out (suc n) d i ready h has =

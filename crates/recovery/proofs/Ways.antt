@@ -90,7 +90,8 @@ module _ (m : Master) (r : Raw) (d : Device) (i : Owned d) (ready : Ready d) (ok
   way-on (going e l (inl o)) = owning e l o
   way-on (going e l (inr c)) = claiming e l c
 
-pub way-run : (m : Master) (rs : List Raw) (d : Device) → Owned d → Ready d → never reset d rs ≡ true → never (sentBy m) d rs ≡ true → Way m d → Way m (runFrom d rs)
+pub way-run : (m : Master) (rs : List Raw) (d : Device) → Owned d → Ready d → never reset d rs ≡ true → never (sentBy m) d rs ≡ true → Way m d
+    → Way m (runFrom d rs)
 unfolding runFrom
 way-run m [] d i ready nr ns w = w
 way-run m (r ∷ rs) d i ready nr ns w =
@@ -156,7 +157,8 @@ module _ (m : Master) (d : Device) (i : Owned d) (ready : Ready d) (free : block
       go Nobody e = inr (gone (ap (ownsTurn m) e) (unasked-all m e))
       go (Claims j g) e =
           ⊎-elim (λ (s : j ≡ m). inr (start-claims g (e ∙ ap (λ (x : Master). Claims x g) s)))
-          (λ (s : j ≡ partner m). inl (ap (hasTurn (partner m)) (e ∙ ap (λ (x : Master). Claims x g) s) ∙ ap (λ (b : Bool). b || false) (same-self (partner m))))
+          (λ (s : j ≡ partner m). inl (ap (hasTurn (partner m)) (e ∙ ap (λ (x : Master). Claims x g) s)
+          ∙ ap (λ (b : Bool). b || false) (same-self (partner m))))
           (mine j)
       go (Owns j g) e =
           ⊎-elim (λ (s : j ≡ m). inr (start-owns g (e ∙ ap (λ (x : Master). Owns x g) s)))

@@ -22,6 +22,7 @@ taken s = withMail (record { low = s .mail .low; high = s .mail .high; full = s 
 pub reader-law : (s : Side) → withPort Open (withPointer (if s .auto then afterRead (s .pointer) else s .pointer) (taken s)) ≡ readerSide s
 reader-law s = go (s .auto)
   where
-    go : (auto : Bool) → withPort Open (withPointer (if auto then afterRead (s .pointer) else s .pointer) (taken s)) ≡ withPort Open (if auto then withPointer (afterRead (s .pointer)) (taken s) else taken s)
+    go : (auto : Bool) → withPort Open (withPointer (if auto then afterRead (s .pointer) else s .pointer) (taken s))
+        ≡ withPort Open (if auto then withPointer (afterRead (s .pointer)) (taken s) else taken s)
     go true = refl
     go false = refl

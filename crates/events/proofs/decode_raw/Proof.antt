@@ -17,11 +17,13 @@ returns-2 c = raw-told _ _ (simp (← c .fitting-if2 .ensures, c .before .before
 
 returns-3 : tie.Need-returns-3
 unfolding decode
-returns-3 c = raw-told _ _ (simp (← c .fitting-if3 .ensures, c .before .before .before .match .keys3, ← c .before .before .before .before .before .master-of .ensures))
+returns-3 c =
+    raw-told _ _ (simp (← c .fitting-if3 .ensures, c .before .before .before .match .keys3, ← c .before .before .before .before .before .master-of .ensures))
 
 returns-4 : tie.Need-returns-4
 unfolding decode
-returns-4 c = raw-told _ _ (simp (← c .fitting-if4 .ensures, c .before .before .before .match .keys4, ← c .before .before .before .before .before .master-of .ensures))
+returns-4 c =
+    raw-told _ _ (simp (← c .fitting-if4 .ensures, c .before .before .before .match .keys4, ← c .before .before .before .before .before .master-of .ensures))
 
 returns-5 : tie.Need-returns-5
 unfolding decode
