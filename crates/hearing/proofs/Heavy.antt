@@ -53,15 +53,18 @@ module _ (was now : Levels) (l : Listener) (heavy : isLight was now l ≡ false)
       go true false true true o t h = (λ p q. refl, λ p q. absurd (false≢true (sym q)), λ p. absurd (false≢true (sym p)))
       go false b true d o t h = (λ p q. absurd (false≢true p), λ p q. absurd (false≢true p), λ p. (refl, h))
 
-  pub on-stop : was .scl ≡ true → now .sda ≡ true → (address : ℕ) (m : Master) → (stopped l ≡ heard address (sign was now) l) × (gives m Stops l ≡ gives m (sign was now) l)
+  pub on-stop : was .scl ≡ true → now .sda ≡ true → (address : ℕ) (m : Master) → (stopped l ≡ heard address (sign was now) l)
+      × (gives m Stops l ≡ gives m (sign was now) l)
   unfolding heard
   on-stop p q address m = rw (shows .0 p q) (refl, refl)
 
-  pub on-start : was .scl ≡ true → now .sda ≡ false → (address : ℕ) (m : Master) → (started l ≡ heard address (sign was now) l) × (Nothing ≡ gives m (sign was now) l)
+  pub on-start : was .scl ≡ true → now .sda ≡ false → (address : ℕ) (m : Master) → (started l ≡ heard address (sign was now) l)
+      × (Nothing ≡ gives m (sign was now) l)
   unfolding heard gives
   on-start p q address m = rw (shows .1 p q) (refl, refl)
 
-  pub on-outside : was .scl ≡ false → isOutside (l .awaited) ≡ true → (address : ℕ) (m : Master) → (l ≡ heard address (sign was now) l) × (Nothing ≡ gives m (sign was now) l)
+  pub on-outside : was .scl ≡ false → isOutside (l .awaited) ≡ true → (address : ℕ) (m : Master) → (l ≡ heard address (sign was now) l)
+      × (Nothing ≡ gives m (sign was now) l)
   unfolding heard gives atClock
   on-outside p o address m = (
     simp (shows .2 p .0, o),
@@ -80,14 +83,16 @@ module _ (was now : Levels) (l : Listener) (heavy : isLight was now l ≡ false)
 abbrev pub endedBy : Awaited → Bool → Listener → Listener
 endedBy w o l = record { awaited = w; clocks = 0; value = 0; owed = l .owed || o; broken = l .broken }
 
-pub is-ended : (address : ℕ) (l : Listener) (w : Awaited) (o : Bool) → w ≡ awaitedAfter address (l .awaited) (l .value) → o ≡ owes (l .awaited) → endedBy w o l ≡ ended address l
+pub is-ended : (address : ℕ) (l : Listener) (w : Awaited) (o : Bool) → w ≡ awaitedAfter address (l .awaited) (l .value) → o ≡ owes (l .awaited) → endedBy w o l
+    ≡ ended address l
 unfolding ended
 is-ended address l w o p q = λ j. endedBy (p j) (q j) l
 
 -- ---- both buses
 
 -- a test of two levels, where they are those of two samples
-pub light-at : (m : Master) (before now : ℕ) (l : Listener) (w n : Levels) → w ≡ levels m before → n ≡ levels m now → isLight w n l ≡ isLight (levels m before) (levels m now) l
+pub light-at : (m : Master) (before now : ℕ) (l : Listener) (w n : Levels) → w ≡ levels m before → n ≡ levels m now → isLight w n l
+    ≡ isLight (levels m before) (levels m now) l
 light-at m before now l w n p q = λ j. isLight (p j) (q j) l
 
 pub other-heavy : (before now : ℕ) (s : Both) → areLight before now s ≡ false → isLight (levels One before) (levels One now) (s .bus1) ≡ true
@@ -103,10 +108,12 @@ abbrev pub heardWith : Listener → Listener → Given → Given → Heard
 heardWith b c g h = record { both = record { bus0 = b; bus1 = c }; given0 = g; given1 = h }
 
 -- what each bus shows by itself is what both show
-module _ (address before now : ℕ) (s : Both) (w n x y : Levels) (p : w ≡ levels Zero before) (q : n ≡ levels Zero now) (r : x ≡ levels One before) (t : y ≡ levels One now) where
+module _ (address before now : ℕ) (s : Both) (w n x y : Levels) (p : w ≡ levels Zero before) (q : n ≡ levels Zero now) (r : x ≡ levels One before)
+    (t : y ≡ levels One now) where
   pub both-heard : (b c : Listener) (g h : Given) → b ≡ heard address (sign w n) (s .bus0) → c ≡ heard address (sign x y) (s .bus1)
       → g ≡ gives Zero (sign w n) (s .bus0) → h ≡ gives One (sign x y) (s .bus1) → heardWith b c g h ≡ sampled address before now s
   unfolding sampled
   both-heard b c g h e f d k =
       (λ j. heardWith (e j) (f j) (d j) (k j))
-      ∙ λ j. heardWith (heard address (sign (p j) (q j)) (s .bus0)) (heard address (sign (r j) (t j)) (s .bus1)) (gives Zero (sign (p j) (q j)) (s .bus0)) (gives One (sign (r j) (t j)) (s .bus1))
+      ∙ λ j. heardWith (heard address (sign (p j) (q j)) (s .bus0)) (heard address (sign (r j) (t j)) (s .bus1)) (gives Zero (sign (p j) (q j)) (s .bus0))
+      (gives One (sign (r j) (t j)) (s .bus1))

@@ -47,7 +47,10 @@ unfolding isStill sampled heard gives
 still-sampled address before now s h =
     split (eqb before now) (λ e. let b : before ≡ now = eqb-true before now e in rw (b, same-steady (levels Zero now), same-steady (levels One now)) refl)
     λ e. let both-low : (not (bit 0 now) && not (bit 2 now)) ≡ true = sym (ap (λ (b : Bool). b || (not (bit 0 now) && not (bit 2 now))) e) ∙ h in
-    rw (low-steady (levels Zero before) (levels Zero now) (not-true (bit 0 now) (and-left (not (bit 0 now)) (not (bit 2 now)) both-low)), low-steady (levels One before) (levels One now) (not-true (bit 2 now) (and-right (not (bit 0 now)) (not (bit 2 now)) both-low))) refl
+    rw (
+      low-steady (levels Zero before) (levels Zero now) (not-true (bit 0 now) (and-left (not (bit 0 now)) (not (bit 2 now)) both-low)),
+      low-steady (levels One before) (levels One now) (not-true (bit 2 now) (and-right (not (bit 0 now)) (not (bit 2 now)) both-low)),
+    ) refl
 
 -- ---- a light sample brings at most a bit
 

@@ -106,7 +106,8 @@ module _ (p : Master) where
       let short = on .late (omega arith) in
       omega (arith, more, one, short) in
       record {
-        all = split (ltb 1 b) (λ h. let many = ltb-true 1 b h in omega (arith, more, rest, so, many)) (λ h. let short = few (ltb-false 1 b h) in omega (arith, short, low));
+        all = split (ltb 1 b) (λ h. let many = ltb-true 1 b h in omega (arith, more, rest, so, many))
+            (λ h. let short = few (ltb-false 1 b h) in omega (arith, short, low));
         late = few;
       }
 

@@ -77,7 +77,8 @@ put-none k n at l h =
     let len : length (digits k n) ≡ 0 = ap length e in
     (omega (arith, len), omega arith, append-none (take at l) ∙ ap (λ (m : List ℕ). take at l ++ m) (sym e))
 
-pub put-one : (k n at : ℕ) (l : List ℕ) (b r : ℕ) (after : List ℕ) → (k ≡ 0 → ⊥) → n < 10 → b ≡ 48 + n → r ≡ at + 1 → take r after ≡ take at l ++ b ∷ [] → Put k n at l r after
+pub put-one : (k n at : ℕ) (l : List ℕ) (b r : ℕ) (after : List ℕ) → (k ≡ 0 → ⊥) → n < 10 → b ≡ 48 + n → r ≡ at + 1 → take r after ≡ take at l ++ b ∷ []
+    → Put k n at l r after
 put-one k n at l b r after h s eb er et =
     let e = digits-one k n h s in
     let len : length (digits k n) ≡ 1 = ap length e in

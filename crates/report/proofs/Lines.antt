@@ -19,7 +19,8 @@ pub two-put : (a b c p q : List ℕ) → b ≡ a ++ p → c ≡ b ++ q → c ≡
 two-put a b c p q e f = f ∙ ap (λ (m : List ℕ). m ++ q) e ∙ append-assoc a p q
 
 -- a line: what stands after its digit, its space and each of its numbers
-pub line-put : (m owned connected waited b : ℕ) (l0 l1 l2 l3 l4 l5 : List ℕ) → b ≡ 48 + m → l1 ≡ l0 ++ b ∷ [] → l2 ≡ l1 ++ space ∷ [] → l3 ≡ l2 ++ field owned space
+pub line-put : (m owned connected waited b : ℕ) (l0 l1 l2 l3 l4 l5 : List ℕ) → b ≡ 48 + m → l1 ≡ l0 ++ b ∷ [] → l2 ≡ l1 ++ space ∷ [] → l3 ≡ l2
+    ++ field owned space
     → l4 ≡ l3 ++ field connected space → l5 ≡ l4 ++ field waited lineEnd → l5 ≡ l0 ++ line m owned connected waited
 unfolding line
 line-put m owned connected waited b l0 l1 l2 l3 l4 l5 e e1 e2 e3 e4 e5 =
@@ -42,7 +43,8 @@ module _ (x : Totals) (past : Bool) where
   pub past-report : (l1 l2 l3 : List ℕ) → past ≡ true → l1 ≡ line0 → l2 ≡ l1 ++ line1 → l3 ≡ l2 ++ pastLine → l3 ≡ reportText x past
   unfolding reportText
   past-report l1 l2 l3 h e1 e2 e3 =
-      e3 ∙ ap (λ (m : List ℕ). m ++ pastLine) (e2 ∙ ap (λ (m : List ℕ). m ++ line1) e1) ∙ ap (λ (b : Bool). line0 ++ line1 ++ (if b then pastLine else [])) (sym h)
+      e3 ∙ ap (λ (m : List ℕ). m ++ pastLine) (e2 ∙ ap (λ (m : List ℕ). m ++ line1) e1)
+      ∙ ap (λ (b : Bool). line0 ++ line1 ++ (if b then pastLine else [])) (sym h)
 
   pub whole-report : (l1 l2 : List ℕ) → past ≡ false → l1 ≡ line0 → l2 ≡ l1 ++ line1 → l2 ≡ reportText x past
   unfolding reportText

@@ -36,7 +36,8 @@ rest-after : (c : Record) (rest : List ℕ) → drop recordBytes (bytesOfRecord 
 rest-after c rest = drop-at (bytesOfRecord c) rest recordBytes (record-long c)
 
 record-first : (c : Record) (rest : List ℕ) → inRange (c .device) ≡ true → recordIn (bytesOfRecord c ++ rest) ≡ c
-record-first c rest h = ap (λ (d : Device). let x : Record = record { address = c .address; device = d } in x) (ap deviceIn (image-first c rest) ∙ read-back (c .device) h)
+record-first c rest h =
+    ap (λ (d : Device). let x : Record = record { address = c .address; device = d } in x) (ap deviceIn (image-first c rest) ∙ read-back (c .device) h)
 
 -- ---- a row in range comes back from its bytes
 
@@ -95,7 +96,8 @@ row-read-back row h =
 
 first-again : (b : List ℕ) → recordBytes ≤ length b → isImage (imageIn b) ≡ true → bytesOfRecord (recordIn b) ++ drop recordBytes b ≡ b
 first-again [] l h = absurd (omega arith)
-first-again (x ∷ b) l h = ap (λ (i : List ℕ). x ∷ (i ++ drop imageLength b)) (laid-out-back (imageIn (x ∷ b)) h) ∙ ap (λ (i : List ℕ). x ∷ i) (take-append-drop imageLength b)
+first-again (x ∷ b) l h =
+    ap (λ (i : List ℕ). x ∷ (i ++ drop imageLength b)) (laid-out-back (imageIn (x ∷ b)) h) ∙ ap (λ (i : List ℕ). x ∷ i) (take-append-drop imageLength b)
 
 none-left : (b : List ℕ) → length b ≡ 0 → [] ≡ b
 none-left [] e = refl
@@ -142,7 +144,8 @@ pub images-more : (k : ℕ) (b : List ℕ) → imagesFit (suc k) b ≡ imagesFit
 unfolding imagesFit
 images-more zero b = and-true (isImage (imageIn b))
 images-more (suc k) b =
-    ap (λ (x : Bool). isImage (imageIn b) && x) (images-more k (drop recordBytes b) ∙ ap (λ (l : List ℕ). imagesFit k (drop recordBytes b) && isImage (imageIn l)) (next-place k b))
+    ap (λ (x : Bool). isImage (imageIn b) && x)
+    (images-more k (drop recordBytes b) ∙ ap (λ (l : List ℕ). imagesFit k (drop recordBytes b) && isImage (imageIn l)) (next-place k b))
     ∙ sym (and-assoc (isImage (imageIn b)) (imagesFit k (drop recordBytes b)) _)
   where
     and-assoc : (u v w : Bool) → (u && v) && w ≡ u && (v && w)
@@ -172,7 +175,8 @@ image-put (a ∷ row) zero c h e =
     ∙ ap (λ (n : ℕ). n ∷ (imageOf (c .device) ++ bytesOfRow row)) (sym e)
 image-put (a ∷ row) (suc i) c h e =
     ap (λ (n : ℕ). take n l ++ (imageOf (c .device) ++ drop imageLength (drop n l))) (further-place a i)
-    ∙ ap₂ (λ (x y : List ℕ). x ++ (imageOf (c .device) ++ drop imageLength y)) (take-append-add (bytesOfRecord a) (bytesOfRow row) (imagePlace i)) (drop-append-add (bytesOfRecord a) (bytesOfRow row) (imagePlace i))
+    ∙ ap₂ (λ (x y : List ℕ). x ++ (imageOf (c .device) ++ drop imageLength y)) (take-append-add (bytesOfRecord a) (bytesOfRow row) (imagePlace i))
+    (drop-append-add (bytesOfRecord a) (bytesOfRow row) (imagePlace i))
     ∙ append-assoc (bytesOfRecord a) (take (imagePlace i) (bytesOfRow row)) _
     ∙ ap (λ (x : List ℕ). bytesOfRecord a ++ x) (image-put row i c (omega arith) e)
   where

@@ -27,7 +27,8 @@ use Rattle.routing.specs.declared.Seen.{Seen}
 use Rattle.routing.specs.Deciding.{startOf, seeOf, seenTo, seenOf, reachFor}
 use Rattle.routing.proofs.Told.{reach-for-is}
 use Rattle.rowimage.specs.Row.{recordBytes, bytesOfRecord, bytesOfRow, imageIn}
-use Rattle.rowimage.specs.Slots.{slotBytes, slotCount, slotIn, slotsTo, kindsKnown, rowOfSlots, numberBy, slotsNumber, isLaidFor, freshRowNumber, freshRowBuffer}
+use Rattle.rowimage.specs.Slots.{slotBytes, slotCount, slotIn, slotsTo, kindsKnown, rowOfSlots, numberBy, slotsNumber, isLaidFor, freshRowNumber}
+use Rattle.rowimage.specs.Slots.{freshRowBuffer}
 use Rattle.rowimage.specs.Walk.{imagePlace, withImage}
 use Rattle.rowimage.proofs.Bytes.{record-long, row-long}
 
@@ -78,7 +79,8 @@ first-byte i b = ap (λ (n : ℕ). getD b n 0) (none (slotBytes * i)) ∙ sym (g
     none : (n : ℕ) → n ≡ n + 0
     none n = omega arith
 
-pub kinds-again : (b : List ℕ) (i : ℕ) (known now : Bool) → known ≡ kindsKnown i b → now ≡ isKind (getD b (slotBytes * i + 1) 0) → (known && now) ≡ kindsKnown (i + 1) b
+pub kinds-again : (b : List ℕ) (i : ℕ) (known now : Bool) → known ≡ kindsKnown i b → now ≡ isKind (getD b (slotBytes * i + 1) 0) → (known && now)
+    ≡ kindsKnown (i + 1) b
 kinds-again b i known now k e =
     ap₂ _&&_ k (e ∙ ap isKind (second-byte i b)) ∙ sym (kinds-more i b) ∙ ap (λ (n : ℕ). kindsKnown n b) (sym (add-one i))
 
@@ -194,13 +196,15 @@ module _ (slots l : List ℕ) (n i : ℕ) (known : kindsKnown n slots ≡ true) 
       in
       ap (λ (x : List ℕ). set x (recordBytes * i) (getD slots (slotBytes * i) 0)) (e ∙ ap₂ (λ (x y : List ℕ). withImage i x y) image at)
       ∙ placed (firstBytes i slots) l _ _ i (first-long i slots) inside
-      ∙ ap (λ (a : ℕ). (firstBytes i slots ++ (a ∷ imageOf (powerUp (slotIn (drop (slotBytes * i) slots) .kind)))) ++ drop (recordBytes * i + recordBytes) l) (first-byte i slots)
+      ∙ ap (λ (a : ℕ). (firstBytes i slots ++ (a ∷ imageOf (powerUp (slotIn (drop (slotBytes * i) slots) .kind)))) ++ drop (recordBytes * i + recordBytes) l)
+      (first-byte i slots)
       ∙ ap₂ (λ (x : List ℕ) (k : ℕ). x ++ drop k l) (sym (first-more i slots)) (further i)
     where
       further : (i : ℕ) → recordBytes * i + recordBytes ≡ recordBytes * (i + 1)
       further i = omega arith
 
-pub slots-done : (slots l row : List ℕ) (n i : ℕ) → length l ≡ recordBytes * n → i ≡ n → row ≡ bytesOfRow (freshRow (slotsTo i slots)) ++ drop (recordBytes * i) l
+pub slots-done : (slots l row : List ℕ) (n i : ℕ) → length l ≡ recordBytes * n → i ≡ n → row ≡ bytesOfRow (freshRow (slotsTo i slots))
+    ++ drop (recordBytes * i) l
     → row ≡ bytesOfRow (freshRow (slotsTo n slots))
 slots-done slots l row n i room e at =
     at ∙ ap (λ (k : ℕ). bytesOfRow (freshRow (slotsTo k slots)) ++ drop (recordBytes * k) l) e

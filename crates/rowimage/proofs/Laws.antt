@@ -53,7 +53,8 @@ unfolding rowInRange stepRecord
 map-fits [] r b h = refl
 map-fits (c ∷ row) r b h =
     let two = and-eq-true-iff (inRange (c .device)) (rowInRange row) .0 h in
-    and-eq-true-iff (inRange (step (c .device) r .device)) (rowInRange (map (stepRecord r) row)) .1 (stays-in-range (c .device) r b (two .0), map-fits row r b (two .1))
+    and-eq-true-iff (inRange (step (c .device) r .device)) (rowInRange (map (stepRecord r) row)) .1
+    (stays-in-range (c .device) r b (two .0), map-fits row r b (two .1))
 
 after-fits : (w : Reach) (row : List Record) (r : Raw) → isBytes r ≡ true → rowInRange row ≡ true → rowInRange (rowAfter w r row) ≡ true
 unfolding stepRecord

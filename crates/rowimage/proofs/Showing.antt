@@ -39,7 +39,8 @@ past false f w h = h
 -- a place reaches no more than its own device
 not-everyone : (place : ℕ) (roll : List ℕ) → reachOf APlace place roll ≡ Everyone → ⊥
 not-everyone place roll h =
-    one (ltb place (length roll)) (past (twoEqual roll) EqualAddresses _ (past (ltb mostRecords (length roll)) TooMany _ (past (eqb (length roll) 0) EmptyRow _ h)))
+    one (ltb place (length roll)) (past (twoEqual roll) EqualAddresses _
+    (past (ltb mostRecords (length roll)) TooMany _ (past (eqb (length roll) 0) EmptyRow _ h)))
   where
     one : (b : Bool) → (if b then At place else Refused NotInRow) ≡ Everyone → ⊥
     one true e = false≢true (ap isEveryone e)

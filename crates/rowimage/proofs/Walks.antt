@@ -48,7 +48,8 @@ image-in-place row i h = ap (λ (l : List ℕ). take imageLength l) (drop-drop 1
 
 -- ---- the test of the images
 
-pub fit-again : (b : List ℕ) (i number : ℕ) (good : Bool) → good ≡ imagesFit i b → number ≡ imageNumber (take (imagePlace i + imageLength - imagePlace i) (drop (imagePlace i) b))
+pub fit-again : (b : List ℕ) (i number : ℕ) (good : Bool) → good ≡ imagesFit i b → number
+    ≡ imageNumber (take (imagePlace i + imageLength - imagePlace i) (drop (imagePlace i) b))
     → (good && eqb number 0) ≡ imagesFit (i + 1) b
 fit-again b i number good g e =
     ap (λ (x : Bool). x && eqb number 0) g
@@ -70,7 +71,8 @@ pub see-none : (name : ℕ) (b : List ℕ) → seenTo 0 name (recordsIn b) ≡ s
 unfolding seenTo
 see-none name b = refl
 
-pub see-again : (name : ℕ) (b : List ℕ) (i : ℕ) (s now : Seen) → i < recordCount b → s ≡ seenTo i name (recordsIn b) → now ≡ seeOf s (getD b (recordBytes * i) 0)
+pub see-again : (name : ℕ) (b : List ℕ) (i : ℕ) (s now : Seen) → i < recordCount b → s ≡ seenTo i name (recordsIn b) → now
+    ≡ seeOf s (getD b (recordBytes * i) 0)
     → now ≡ seenTo (i + 1) name (recordsIn b)
 unfolding seenTo
 see-again name b i s now h e p =

@@ -19,7 +19,8 @@ use Rattle.shelf.specs.declared.Fault.{Fault}
 use Rattle.shelf.specs.declared.Fault.the-variants.{EmptyRow, TooMany, EqualAddresses, NotInRow}
 use Rattle.shelf.specs.declared.Reach.{Reach}
 use Rattle.shelf.specs.declared.Reach.the-variants.{At, Everyone, Refused}
-use Rattle.shelf.specs.Shelf.{addressesOf, recordAt, deviceAt, twoEqual, naming, reachBy, reaches, stepRecord, rowAfter, faultAnswer, answerAfter, shelfRow, shelfAnswer}
+use Rattle.shelf.specs.Shelf.{addressesOf, recordAt, deviceAt, twoEqual, naming, reachBy, reaches, stepRecord, rowAfter, faultAnswer, answerAfter, shelfRow}
+use Rattle.shelf.specs.Shelf.{shelfAnswer}
 use Rattle.shelf.proofs.Rows.{addresses-length}
 use Rattle.shelf.proofs.Found.{reached-in-row}
 use Rattle.routing.specs.declared.Task.{Task}
@@ -154,7 +155,8 @@ does-all count r (c ∷ row) n e = record {
     so : (count : ℕ) → count ≡ length (c ∷ row) → count - 0 ≡ length (c ∷ row)
     so count e = omega (arith, e)
 
-does-none : (f : Fault) (count : ℕ) (r : Raw) (row : List Record) → Does (planBy (Refused f) count r) row (rowAfter (Refused f) r row) (answerAfter (Refused f) r row)
+does-none : (f : Fault) (count : ℕ) (r : Raw) (row : List Record)
+    → Does (planBy (Refused f) count r) row (rowAfter (Refused f) r row) (answerAfter (Refused f) r row)
 unfolding planBy planWith carriedOut sweepOf visitOf
 does-none f count r row = record { fits = omega arith; leaves = refl; answers = refl }
 
@@ -170,5 +172,6 @@ by-reach (Refused f) name r row e = does-none f (seenOf name row .count) r row
 pub plan-does : (name : ℕ) (r : Raw) (row : List Record) → Does (planOf (seenOf name row) r) row (shelfRow row name r) (shelfAnswer row name r)
 unfolding planOf shelfRow shelfAnswer
 plan-does name r row =
-    subst (λ (w : Reach). Does (planBy w (seenOf name row .count) r) row (rowAfter (reaches (addressesOf row) name r) r row) (answerAfter (reaches (addressesOf row) name r) r row))
+    subst (λ (w : Reach). Does (planBy w (seenOf name row .count) r) row (rowAfter (reaches (addressesOf row) name r) r row)
+    (answerAfter (reaches (addressesOf row) name r) r row))
     (sym (reach-is name r row)) (by-reach (reaches (addressesOf row) name r) name r row refl)

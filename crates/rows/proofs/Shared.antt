@@ -15,7 +15,8 @@ use base.Logic.{ent, sep, ex}
 use base.Fml.{Lft, GName, Share, Fml, fsep, flft, fdead, fobs, fauth, flent, fobor}
 use prog.Wp.{Heap}
 use ghost.Atoms.{Atoms, sem}
-use types.Kit.{Given, ‵, _⊛_, some, later, _$_, _∵_, !, qed, move, use1, drop, split, pick, fsplit, fjoin, feqI, frame, await, updating, now as at-once, show, done}
+use types.Kit.{Given, ‵, _⊛_, some, later, _$_, _∵_, !, qed, move, use1, drop, split, pick, fsplit, fjoin, feqI, frame, await, updating, now as at-once, show}
+use types.Kit.{done}
 use types.Tokens.{lent-back}
 use types.Share.{arr-parts}
 use denote.RattleType.{RattleType}
@@ -34,7 +35,9 @@ module _ (R : RattleType) (κ κ′ : Lft) (q : Share) (γ : GName) (b o : ℕ) 
   all-shared = arr-parts (shares R) (length ys) .part fullShare ys b o
 
   abbrev pub LentShared : Fml
-  LentShared = fsep (flent κ′ all-shared) (fsep (fobor κ q (Held R (length ys) b o γ)) (fsep (fobs γ (codedHoleys R .code (heres R ys))) (fauth γ (codedHoleys R .code (heres R ys)))))
+  LentShared =
+      fsep (flent κ′ all-shared) (fsep (fobor κ q (Held R (length ys) b o γ))
+      (fsep (fobs γ (codedHoleys R .code (heres R ys))) (fauth γ (codedHoleys R .code (heres R ys)))))
 
   module _ {M : Type 1} (𝓤 : URA M) (H : Heap 𝓤) (A : Atoms 𝓤) (W : Given 𝓤 H A) (ℓ ℓ′ : Lifetime) where
     abbrev vals : List Val
@@ -43,9 +46,11 @@ module _ (R : RattleType) (κ κ′ : Lft) (q : Share) (γ : GName) (b o : ℕ) 
     pub lends-shared : ent 𝓤 (sep 𝓤 (sem 𝓤 H A (MutSlice ℓ κ R .own (named-list γ) vals)) (A .lft κ q))
         (H .⇛ (ex 𝓤 (λ (γ₁ : GName). sep 𝓤 (sem 𝓤 H A (ShrSlice ℓ′ κ′ R .own (named-list γ₁) vals)) (sem 𝓤 H A LentShared))))
     lends-shared =
-        qed W (‵ (MutSlice ℓ κ R .own (named-list γ) vals) ∷ ‵ (flft κ q) ∷ []) ∵ updating ! $ fsplit ! $ pureL ! (at-slice R (named-list γ) vals) (λ p. fsplit ! $ opens-slice ! tt R ys b o $
+        qed W (‵ (MutSlice ℓ κ R .own (named-list γ) vals) ∷ ‵ (flft κ q) ∷ []) ∵ updating ! $ fsplit ! $
+        pureL ! (at-slice R (named-list γ) vals) (λ p. fsplit ! $ opens-slice ! tt R ys b o $
         feqI ! ℕ (length ys) (length ys) refl $ fjoin ! $
-        use1 W (later (some (λ (γ₁ : GName). ‵ (ShrSlice ℓ′ κ′ R .own (named-list γ₁) vals) ⊛ ‵ (flent κ′ all-shared)))) (lends-shr-slice 𝓤 H A W R ℓ′ κ′ fullShare ys b o (p .1)) $ await ! tt $ pick ! (λ γ₁. split ! $
+        use1 W (later (some (λ (γ₁ : GName). ‵ (ShrSlice ℓ′ κ′ R .own (named-list γ₁) vals) ⊛ ‵ (flent κ′ all-shared))))
+        (lends-shr-slice 𝓤 H A W R ℓ′ κ′ fullShare ys b o (p .1)) $ await ! tt $ pick ! (λ γ₁. split ! $
         -- [the shared slice; the lender's part at κ′; the open borrow at κ; obs γ; auth γ]
         at-once ! $ show ! (λ (γ′ : GName). sep 𝓤 (sem 𝓤 H A (ShrSlice ℓ′ κ′ R .own (named-list γ′) vals)) (sem 𝓤 H A LentShared)) γ₁ $ frame ! $
         move ! (2 ∷ 3 ∷ []) $ fjoin ! $ move ! (2 ∷ 0 ∷ []) $ fjoin ! $ move ! (1 ∷ 0 ∷ []) $ fjoin ! $ done !))

@@ -4,14 +4,8 @@ use borrow.Author.Needs.{needs}
 use Rattle.bench.proofs.event_of.Statement.{statement}
 use Rattle.bench.proofs.event_of.Tie as tie
 
-events-in-requires : tie.Need-events-in-requires
-events-in-requires c κs = search needs
-
-event-at-requires : tie.Need-event-at-requires
-event-at-requires c κs = search needs
-
 returns : tie.Need-returns
 returns c = simp (c .event-at .ensures, c .before .events-in .ensures)
 
 pub event-of-spec : {M : Type 1} → statement M
-event-of-spec = tie.close (tie.spec events-in-requires event-at-requires returns)
+event-of-spec = tie.close (tie.spec (λ c κs. search needs) (λ c κs. search needs) returns)

@@ -26,8 +26,11 @@ returns-3 c =
 returns-4 : tie.Need-returns-4
 returns-4 c =
     let s = c .before .before .before .before .before .before .before in
-    let e = on-ninth _ _ _ (s .pre) (c .before .before .before .before .before .before .if1 .left) (sym (c .before .before .before .before .before .is-outside .ensures) ∙ c .before .before .before .before .if3 .left) (s .args .address) (s .args .m) in
-    (is-ended (s .args .address) (s .args .l) _ _ (c .before .before .before .awaited-after .ensures) (c .before .before .is-owing .ensures) ∙ e .0, c .byte-gives .ensures ∙ e .1)
+    let e = on-ninth _ _ _ (s .pre) (c .before .before .before .before .before .before .if1 .left)
+    (sym (c .before .before .before .before .before .is-outside .ensures) ∙ c .before .before .before .before .if3 .left) (s .args .address) (s .args .m) in (
+      is-ended (s .args .address) (s .args .l) _ _ (c .before .before .before .awaited-after .ensures) (c .before .before .is-owing .ensures) ∙ e .0,
+      c .byte-gives .ensures ∙ e .1,
+    )
 
 pub heavily-spec : {M : Type 1} → statement M
 heavily-spec =

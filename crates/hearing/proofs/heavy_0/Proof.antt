@@ -22,8 +22,11 @@ returns : tie.Need-returns
 returns c =
     let s = c .before .before .before .before .before .before .before .before .before in
     let t = c .before .before .before .before .heavily .ensures in
-    let light = light-at One (s .args .before) (s .args .now) (s .args .s .bus1) _ _ (c .before .before .levels-1 .ensures) (c .before .levels-12 .ensures) ∙ s .pre .1 in
-    both-heard (s .args .address) (s .args .before) (s .args .now) (s .args .s) _ _ _ _ (c .before .before .before .before .before .before .levels-0 .ensures) (c .before .before .before .before .before .levels-02 .ensures) (c .before .before .levels-1 .ensures) (c .before .levels-12 .ensures) _ _ _ _ (t .0) (c .with-bit .ensures ∙ light-heard _ _ _ light (s .args .address)) (t .1) (light-gives _ _ _ light One)
+    let light = light-at One (s .args .before) (s .args .now) (s .args .s .bus1) _ _ (c .before .before .levels-1 .ensures) (c .before .levels-12 .ensures)
+    ∙ s .pre .1 in
+    both-heard (s .args .address) (s .args .before) (s .args .now) (s .args .s) _ _ _ _ (c .before .before .before .before .before .before .levels-0 .ensures)
+    (c .before .before .before .before .before .levels-02 .ensures) (c .before .before .levels-1 .ensures) (c .before .levels-12 .ensures) _ _ _ _ (t .0)
+    (c .with-bit .ensures ∙ light-heard _ _ _ light (s .args .address)) (t .1) (light-gives _ _ _ light One)
 
 pub heavy-0-spec : {M : Type 1} → statement M
 heavy-0-spec =

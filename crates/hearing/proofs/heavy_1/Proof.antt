@@ -22,8 +22,12 @@ returns : tie.Need-returns
 returns c =
     let s = c .before .before .before .before .before .before .before .before .before in
     let t = c .before .before .before .before .heavily .ensures in
-    let light = light-at Zero (s .args .before) (s .args .now) (s .args .s .bus0) _ _ (c .before .before .before .levels-0 .ensures) (c .before .before .levels-02 .ensures) ∙ s .pre .0 in
-    both-heard (s .args .address) (s .args .before) (s .args .now) (s .args .s) _ _ _ _ (c .before .before .before .levels-0 .ensures) (c .before .before .levels-02 .ensures) (c .before .before .before .before .before .before .levels-1 .ensures) (c .before .before .before .before .before .levels-12 .ensures) _ _ _ _ (c .before .with-bit .ensures ∙ light-heard _ _ _ light (s .args .address)) (t .0) (light-gives _ _ _ light Zero) (t .1)
+    let light = light-at Zero (s .args .before) (s .args .now) (s .args .s .bus0) _ _ (c .before .before .before .levels-0 .ensures)
+    (c .before .before .levels-02 .ensures) ∙ s .pre .0 in
+    both-heard (s .args .address) (s .args .before) (s .args .now) (s .args .s) _ _ _ _ (c .before .before .before .levels-0 .ensures)
+    (c .before .before .levels-02 .ensures) (c .before .before .before .before .before .before .levels-1 .ensures)
+    (c .before .before .before .before .before .levels-12 .ensures) _ _ _ _ (c .before .with-bit .ensures ∙ light-heard _ _ _ light (s .args .address)) (t .0)
+    (light-gives _ _ _ light Zero) (t .1)
 
 pub heavy-1-spec : {M : Type 1} → statement M
 heavy-1-spec =

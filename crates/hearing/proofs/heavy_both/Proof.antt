@@ -22,7 +22,9 @@ returns c =
     let s = c .before .before .before .before .before .before .before .before .before .before in
     let t = c .before .before .before .before .before .heavily .ensures in
     let u = c .before .before .heavily2 .ensures in
-    both-heard (s .args .address) (s .args .before) (s .args .now) (s .args .s) _ _ _ _ (c .before .before .before .before .before .before .before .levels-0 .ensures) (c .before .before .before .before .before .before .levels-02 .ensures) (c .before .before .before .before .levels-1 .ensures) (c .before .before .before .levels-12 .ensures) _ _ _ _ (t .0) (u .0) (t .1) (u .1)
+    both-heard (s .args .address) (s .args .before) (s .args .now) (s .args .s) _ _ _ _
+    (c .before .before .before .before .before .before .before .levels-0 .ensures) (c .before .before .before .before .before .before .levels-02 .ensures)
+    (c .before .before .before .before .levels-1 .ensures) (c .before .before .before .levels-12 .ensures) _ _ _ _ (t .0) (u .0) (t .1) (u .1)
 
 pub heavy-both-spec : {M : Type 1} → statement M
 heavy-both-spec =

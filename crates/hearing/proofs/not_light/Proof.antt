@@ -10,18 +10,29 @@ use Rattle.hearing.proofs.not_light.Tie as tie
 heavy-0-requires : tie.Need-heavy-0-requires
 heavy-0-requires c κs =
     let s = c .before .before .before .before .before .before .args in
-    let one = sym (light-at One (s .before) (s .now) (s .s .bus1) _ _ (c .before .before .before .levels-1 .ensures) (c .before .before .levels-12 .ensures)) ∙ sym (c .before .is-light .ensures) ∙ c .if1 .taken in
+    let one = sym (light-at One (s .before) (s .now) (s .s .bus1) _ _ (c .before .before .before .levels-1 .ensures) (c .before .before .levels-12 .ensures))
+    ∙ sym (c .before .is-light .ensures) ∙ c .if1 .taken in
     (other-heavy (s .before) (s .now) (s .s) (c .before .before .before .before .before .before .pre) one, one)
 
 heavy-1-requires : tie.Need-heavy-1-requires
 heavy-1-requires c κs =
-    let s = c .before .before .before .before .before .before .before .before .before .before .args in
-    (sym (light-at Zero (s .before) (s .now) (s .s .bus0) _ _ (c .before .before .before .levels-0 .ensures) (c .before .before .levels-02 .ensures)) ∙ sym (c .before .is-light2 .ensures) ∙ c .if2 .taken, sym (light-at One (s .before) (s .now) (s .s .bus1) _ _ (c .before .before .before .before .before .before .before .levels-1 .ensures) (c .before .before .before .before .before .before .levels-12 .ensures)) ∙ sym (c .before .before .before .before .before .is-light .ensures) ∙ c .before .before .before .before .if1 .left)
+    let s = c .before .before .before .before .before .before .before .before .before .before .args in (
+      sym (light-at Zero (s .before) (s .now) (s .s .bus0) _ _ (c .before .before .before .levels-0 .ensures) (c .before .before .levels-02 .ensures))
+          ∙ sym (c .before .is-light2 .ensures) ∙ c .if2 .taken,
+      sym (light-at One (s .before) (s .now) (s .s .bus1) _ _ (c .before .before .before .before .before .before .before .levels-1 .ensures)
+          (c .before .before .before .before .before .before .levels-12 .ensures)) ∙ sym (c .before .before .before .before .before .is-light .ensures)
+          ∙ c .before .before .before .before .if1 .left,
+    )
 
 heavy-both-requires : tie.Need-heavy-both-requires
 heavy-both-requires c κs =
-    let s = c .before .before .before .before .before .before .before .before .before .before .args in
-    (sym (light-at Zero (s .before) (s .now) (s .s .bus0) _ _ (c .before .before .before .levels-0 .ensures) (c .before .before .levels-02 .ensures)) ∙ sym (c .before .is-light2 .ensures) ∙ c .if2 .left, sym (light-at One (s .before) (s .now) (s .s .bus1) _ _ (c .before .before .before .before .before .before .before .levels-1 .ensures) (c .before .before .before .before .before .before .levels-12 .ensures)) ∙ sym (c .before .before .before .before .before .is-light .ensures) ∙ c .before .before .before .before .if1 .left)
+    let s = c .before .before .before .before .before .before .before .before .before .before .args in (
+      sym (light-at Zero (s .before) (s .now) (s .s .bus0) _ _ (c .before .before .before .levels-0 .ensures) (c .before .before .levels-02 .ensures))
+          ∙ sym (c .before .is-light2 .ensures) ∙ c .if2 .left,
+      sym (light-at One (s .before) (s .now) (s .s .bus1) _ _ (c .before .before .before .before .before .before .before .levels-1 .ensures)
+          (c .before .before .before .before .before .before .levels-12 .ensures)) ∙ sym (c .before .before .before .before .before .is-light .ensures)
+          ∙ c .before .before .before .before .if1 .left,
+    )
 
 returns : tie.Need-returns
 returns c = c .heavy-0 .ensures

@@ -39,9 +39,6 @@ digit-of-requires t c κs = omega arith
 put-byte-requires : (t : ℕ) → lts.Need-put-byte-requires (known t) (at t) put-digits.Post
 put-byte-requires t c κs = omega arith
 
-same-length : (t : ℕ) → lts.Need-same-length (known t) (at t) put-digits.Post
-same-length t c = search needs
-
 returns-2 : (t : ℕ) → lts.Need-returns-2 (known t) (at t) put-digits.Post
 returns-2 t c =
     let put = c .before .before in
@@ -61,9 +58,6 @@ digit-of-requires-2 t c κs = omega arith
 put-byte-requires-2 : (t : ℕ) → lts.Need-put-byte-requires-2 (known t) (at t) put-digits.Post
 put-byte-requires-2 t c κs = omega arith
 
-same-length-2 : (t : ℕ) → lts.Need-same-length-2 (known t) (at t) put-digits.Post
-same-length-2 t c = search needs
-
 returns-3 : (t : ℕ) → lts.Need-returns-3 (known t) (at t) put-digits.Post
 returns-3 t c =
     let put = c .before .before in
@@ -80,11 +74,11 @@ pub +put-digits-spec : {M : Type 1} → statement M
     (returns t)
     (digit-of-requires t)
     (put-byte-requires t)
-    (same-length t)
+    (λ c. search needs)
     (returns-2 t)
     (sub-put-digits t)
     (put-digits-requires t)
     (digit-of-requires-2 t)
     (put-byte-requires-2 t)
-    (same-length-2 t)
+    (λ c. search needs)
     (returns-3 t)

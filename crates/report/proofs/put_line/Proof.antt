@@ -7,27 +7,6 @@ use Rattle.report.proofs.Lines.{line-put}
 use Rattle.report.proofs.put_line.Statement.{statement}
 use Rattle.report.proofs.put_line.Tie as tie
 
-digit-of-requires : tie.Need-digit-of-requires
-digit-of-requires c κs = search needs
-
-put-byte-requires : tie.Need-put-byte-requires
-put-byte-requires c κs = search needs
-
-put-byte-requires-2 : tie.Need-put-byte-requires-2
-put-byte-requires-2 c κs = search needs
-
-put-number-requires : tie.Need-put-number-requires
-put-number-requires c κs = search needs
-
-put-number-requires-2 : tie.Need-put-number-requires-2
-put-number-requires-2 c κs = search needs
-
-put-number-requires-3 : tie.Need-put-number-requires-3
-put-number-requires-3 c κs = search needs
-
-same-length : tie.Need-same-length
-same-length c = search needs
-
 returns : tie.Need-returns
 returns c =
     let waited = c .before .before in
@@ -36,8 +15,16 @@ returns c =
     let blank = owned .before .before .before .before in
     let first = blank .before .before .before .before in
     let start = first .before .before .before .before .args in (
-      omega (arith, waited .put-number3 .ensures .0, connected .put-number2 .ensures .0, owned .put-number .ensures .0, blank .put-byte2 .ensures .0, first .put-byte .ensures .0),
-      line-put (start .m) (start .owned) (start .connected) (start .waited) _ (take (start .at) (start .out .now)) _ _ _ _ _ (first .before .digit-of .ensures) (first .put-byte .ensures .1) (blank .put-byte2 .ensures .1) (owned .put-number .ensures .1)
+      omega (
+        arith,
+        waited .put-number3 .ensures .0,
+        connected .put-number2 .ensures .0,
+        owned .put-number .ensures .0,
+        blank .put-byte2 .ensures .0,
+        first .put-byte .ensures .0,
+      ),
+      line-put (start .m) (start .owned) (start .connected) (start .waited) _ (take (start .at) (start .out .now)) _ _ _ _ _ (first .before .digit-of .ensures)
+          (first .put-byte .ensures .1) (blank .put-byte2 .ensures .1) (owned .put-number .ensures .1)
           (connected .put-number2 .ensures .1) (waited .put-number3 .ensures .1),
     )
 
@@ -45,11 +32,6 @@ pub put-line-spec : {M : Type 1} → statement M
 put-line-spec =
     tie.close
     (tie.spec
-    digit-of-requires
-    put-byte-requires
-    put-byte-requires-2
-    put-number-requires
-    put-number-requires-2
-    put-number-requires-3
-    same-length
+    (λ c κs. search needs) (λ c κs. search needs) (λ c κs. search needs) (λ c κs. search needs) (λ c κs. search needs)
+    (λ c κs. search needs) (λ c. search needs)
     returns)

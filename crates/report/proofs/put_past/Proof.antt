@@ -7,18 +7,6 @@ use Rattle.report.proofs.Lines.{past-put}
 use Rattle.report.proofs.put_past.Statement.{statement}
 use Rattle.report.proofs.put_past.Tie as tie
 
-put-byte-requires : tie.Need-put-byte-requires
-put-byte-requires c κs = search needs
-
-put-byte-requires-2 : tie.Need-put-byte-requires-2
-put-byte-requires-2 c κs = search needs
-
-put-byte-requires-3 : tie.Need-put-byte-requires-3
-put-byte-requires-3 c κs = search needs
-
-same-length : tie.Need-same-length
-same-length c = search needs
-
 returns : tie.Need-returns
 returns c =
     let third = c .before .before in
@@ -32,4 +20,6 @@ returns c =
 pub put-past-spec : {M : Type 1} → statement M
 put-past-spec =
     tie.close
-    (tie.spec put-byte-requires put-byte-requires-2 put-byte-requires-3 same-length returns)
+    (tie.spec
+    (λ c κs. search needs) (λ c κs. search needs) (λ c κs. search needs) (λ c. search needs)
+    returns)

@@ -6,18 +6,6 @@ use Rattle.report.proofs.Lines.{past-report, whole-report}
 use Rattle.report.proofs.put_report.Statement.{statement}
 use Rattle.report.proofs.put_report.Tie as tie
 
-put-line-requires : tie.Need-put-line-requires
-put-line-requires c κs = search needs
-
-put-line-requires-2 : tie.Need-put-line-requires-2
-put-line-requires-2 c κs = search needs
-
-put-past-requires : tie.Need-put-past-requires
-put-past-requires c κs = search needs
-
-same-length : tie.Need-same-length
-same-length c = search needs
-
 returns : tie.Need-returns
 returns c =
     let past = c .before .before in
@@ -28,9 +16,6 @@ returns c =
       omega (arith, past .put-past .ensures .0, second .put-line2 .ensures .0, first .put-line .ensures .0),
       past-report (start .x) (start .past) _ _ _ (if1 .if1 .taken) (first .put-line .ensures .1) (second .put-line2 .ensures .1) (past .put-past .ensures .1),
     )
-
-same-length-2 : tie.Need-same-length-2
-same-length-2 c = search needs
 
 returns-2 : tie.Need-returns-2
 returns-2 c =
@@ -45,10 +30,7 @@ pub put-report-spec : {M : Type 1} → statement M
 put-report-spec =
     tie.close
     (tie.spec
-    put-line-requires
-    put-line-requires-2
-    put-past-requires
-    same-length
+    (λ c κs. search needs) (λ c κs. search needs) (λ c κs. search needs) (λ c. search needs)
     returns
-    same-length-2
+    (λ c. search needs)
     returns-2)

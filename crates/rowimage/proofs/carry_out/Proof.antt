@@ -31,9 +31,6 @@ loop-holds c =
 step-place-requires : tie.Need-step-place-requires Inv-loop μ-loop
 step-place-requires c κs = omega arith
 
-told-by-requires : tie.Need-told-by-requires Inv-loop μ-loop
-told-by-requires c κs = search needs
-
 add-i : tie.Need-add-i Inv-loop μ-loop
 add-i c = omega arith
 
@@ -53,9 +50,6 @@ loop-again c =
     _ _ _ _ _ (inv .3) (inv .4) (put .step-place .ensures .0) (put .step-place .ensures .1) (c .told-by .ensures)
     in
     (omega arith, omega arith, put .step-place .kept .0 ∙ inv .2, next .0, next .1)
-
-same-length : tie.Need-same-length Inv-loop μ-loop
-same-length c = search needs
 
 returns : tie.Need-returns Inv-loop μ-loop
 unfolding carriedOut
@@ -77,9 +71,9 @@ carry-out-spec =
     μ-loop
     loop-holds
     step-place-requires
-    told-by-requires
+    (λ c κs. search needs)
     add-i
     loop-less
     loop-again
-    same-length
+    (λ c. search needs)
     returns)

@@ -37,9 +37,6 @@ part-image-number-start c = omega arith
 part-image-number-end : tie.Need-part-image-number-end Inv-loop μ-loop
 part-image-number-end c = omega arith
 
-image-number-requires : tie.Need-image-number-requires Inv-loop μ-loop
-image-number-requires c κs = search needs
-
 add-i : tie.Need-add-i Inv-loop μ-loop
 add-i c = omega arith
 
@@ -70,7 +67,7 @@ images-fit-spec =
     sub-image-number
     part-image-number-start
     part-image-number-end
-    image-number-requires
+    (λ c κs. search needs)
     add-i
     loop-less
     loop-again

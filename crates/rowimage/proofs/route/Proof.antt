@@ -8,21 +8,12 @@ use Rattle.rowimage.proofs.Walks.{plan-fits, plan-done}
 use Rattle.rowimage.proofs.route.Statement.{statement}
 use Rattle.rowimage.proofs.route.Tie as tie
 
-survey-requires : tie.Need-survey-requires
-survey-requires c κs = search needs
-
-plan-of-requires : tie.Need-plan-of-requires
-plan-of-requires c κs = search needs
-
 carry-out-requires : tie.Need-carry-out-requires
 carry-out-requires c κs =
     let start = c .before .before .before .before .before in
     let r = start .args .r in
     let planned = c .before .plan-of .ensures ∙ ap (λ (s : Seen). planOf s r) (c .before .before .survey .ensures) in
     (start .pre, plan-fits (start .args .row .now) (start .pre) (start .args .name) r _ planned)
-
-same-length : tie.Need-same-length
-same-length c = search needs
 
 returns : tie.Need-returns
 returns c =
@@ -34,4 +25,5 @@ returns c =
     plan-done (start .args .row .now) (start .pre) (start .args .name) r _ _ _ planned (done .0) (done .1)
 
 pub route-spec : {M : Type 1} → statement M
-route-spec = tie.close (tie.spec survey-requires plan-of-requires carry-out-requires same-length returns)
+route-spec =
+    tie.close (tie.spec (λ c κs. search needs) (λ c κs. search needs) carry-out-requires (λ c. search needs) returns)

@@ -11,30 +11,6 @@ use Rattle.rowimage.proofs.Walks.{part-is}
 use Rattle.rowimage.proofs.show_place.Statement.{statement}
 use Rattle.rowimage.proofs.show_place.Tie as tie
 
-mul-from : tie.Need-mul-from
-mul-from c = search needs
-
-add-from : tie.Need-add-from
-add-from c = search needs
-
-add-end : tie.Need-add-end
-add-end c = search needs
-
-sub-read-image : tie.Need-sub-read-image
-sub-read-image c = search needs
-
-part-read-image-start : tie.Need-part-read-image-start
-part-read-image-start c = search needs
-
-part-read-image-end : tie.Need-part-read-image-end
-part-read-image-end c = search needs
-
-read-image-requires : tie.Need-read-image-requires
-read-image-requires c κs = search needs
-
-show-device-requires : tie.Need-show-device-requires
-show-device-requires c κs = search needs
-
 returns : tie.Need-returns
 returns c =
     let start = c .before .before .before .before .args in
@@ -44,12 +20,6 @@ pub show-place-spec : {M : Type 1} → statement M
 show-place-spec =
     tie.close
     (tie.spec
-    mul-from
-    add-from
-    add-end
-    sub-read-image
-    part-read-image-start
-    part-read-image-end
-    read-image-requires
-    show-device-requires
+    (λ c. search needs) (λ c. search needs) (λ c. search needs) (λ c. search needs) (λ c. search needs)
+    (λ c. search needs) (λ c κs. search needs) (λ c κs. search needs)
     returns)

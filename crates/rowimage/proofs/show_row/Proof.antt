@@ -8,15 +8,6 @@ use Rattle.rowimage.specs.Calls.{rowShown}
 use Rattle.rowimage.proofs.show_row.Statement.{statement}
 use Rattle.rowimage.proofs.show_row.Tie as tie
 
-row-number-requires : tie.Need-row-number-requires
-row-number-requires c κs = search needs
-
-show-in-requires : tie.Need-show-in-requires
-show-in-requires c κs = search needs
-
-refused-by-requires : tie.Need-refused-by-requires
-refused-by-requires c κs = search needs
-
 returns : tie.Need-returns
 unfolding rowShown
 returns c = simp (eq-eqb _ _ (sym (c .before .before .row-number .ensures) ∙ c .before .if1 .taken)) (c .show-in .ensures)
@@ -29,4 +20,4 @@ returns-2 c =
 
 pub show-row-spec : {M : Type 1} → statement M
 show-row-spec =
-    tie.close (tie.spec row-number-requires show-in-requires refused-by-requires returns returns-2)
+    tie.close (tie.spec (λ c κs. search needs) (λ c κs. search needs) (λ c κs. search needs) returns returns-2)

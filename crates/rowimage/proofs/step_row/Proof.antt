@@ -8,18 +8,9 @@ use Rattle.rowimage.specs.Calls.{rowAnswer, rowBuffer}
 use Rattle.rowimage.proofs.step_row.Statement.{statement}
 use Rattle.rowimage.proofs.step_row.Tie as tie
 
-row-number-requires : tie.Need-row-number-requires
-row-number-requires c κs = search needs
-
 route-requires : tie.Need-route-requires
 unfolding rowAnswer rowBuffer
 route-requires c κs = simp (eq-eqb _ _ (c .before .if1 .taken), ← c .before .before .row-number .ensures)
-
-refused-by-requires : tie.Need-refused-by-requires
-refused-by-requires c κs = search needs
-
-same-length : tie.Need-same-length
-same-length c = search needs
 
 returns : tie.Need-returns
 unfolding rowAnswer rowBuffer
@@ -27,9 +18,6 @@ returns c =
     let good = eq-eqb _ _ (sym (c .before .before .before .before .before .row-number .ensures) ∙ c .before .before .before .before .if1 .taken) in
     let done = c .before .before .route .ensures in
     (simp good (done .0), simp good (done .1))
-
-same-length-2 : tie.Need-same-length-2
-same-length-2 c = search needs
 
 returns-2 : tie.Need-returns-2
 unfolding rowAnswer rowBuffer
@@ -42,10 +30,9 @@ pub step-row-spec : {M : Type 1} → statement M
 step-row-spec =
     tie.close
     (tie.spec
-    row-number-requires
+    (λ c κs. search needs)
     route-requires
-    refused-by-requires
-    same-length
+    (λ c κs. search needs) (λ c. search needs)
     returns
-    same-length-2
+    (λ c. search needs)
     returns-2)

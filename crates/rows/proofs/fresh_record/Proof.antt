@@ -4,11 +4,8 @@ use borrow.Author.Needs.{needs}
 use Rattle.rows.proofs.fresh_record.Statement.{statement}
 use Rattle.rows.proofs.fresh_record.Tie as tie
 
-fresh-requires : tie.Need-fresh-requires
-fresh-requires c κs = search needs
-
 returns : tie.Need-returns
 returns c = simp (c .fresh .ensures)
 
 pub fresh-record-spec : {M : Type 1} → statement M
-fresh-record-spec = tie.close (tie.spec fresh-requires returns)
+fresh-record-spec = tie.close (tie.spec (λ c κs. search needs) returns)

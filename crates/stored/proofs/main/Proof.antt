@@ -13,12 +13,6 @@ Inv-loop input₀ turns₀ input turns = 65535 ≤ length input
 abbrev μ-loop : tie.MeasureT-loop
 μ-loop input₀ turns₀ input turns = turns
 
-room-requires : tie.Need-room-requires Inv-loop μ-loop
-room-requires c κs = search needs
-
-slice-aggregate-input : tie.Need-slice-aggregate-input Inv-loop μ-loop
-slice-aggregate-input c = search needs
-
 loop-holds : tie.Need-loop-holds Inv-loop μ-loop
 loop-holds c = omega arith
 
@@ -46,8 +40,7 @@ main-spec =
     (tie.spec
     Inv-loop
     μ-loop
-    room-requires
-    slice-aggregate-input
+    (λ c κs. search needs) (λ c. search needs)
     loop-holds
     list-next-requires
     sub-turns

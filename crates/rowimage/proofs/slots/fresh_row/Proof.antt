@@ -7,20 +7,11 @@ use Rattle.rowimage.proofs.Fresh.{laid-room, number-known, fresh-done, 
 use Rattle.rowimage.proofs.slots.fresh_row.Statement.{statement}
 use Rattle.rowimage.proofs.slots.fresh_row.Tie as tie
 
-is-laid-for-requires : tie.Need-is-laid-for-requires
-is-laid-for-requires c κs = search needs
-
-slots-number-requires : tie.Need-slots-number-requires
-slots-number-requires c κs = search needs
-
 put-slots-requires : tie.Need-put-slots-requires
 put-slots-requires c κs =
     let numbered = c .before .before in
     let laid = sym (numbered .before .before .is-laid-for .ensures) ∙ numbered .before .if1 .taken in
     (omega arith, laid-room _ _ laid, number-known _ (sym (numbered .slots-number .ensures) ∙ c .before .if2 .taken))
-
-same-length : tie.Need-same-length
-same-length c = search needs
 
 returns : tie.Need-returns
 returns c =
@@ -40,10 +31,9 @@ pub fresh-row-spec : {M : Type 1} → statement M
 fresh-row-spec =
     tie.close
     (tie.spec
-    is-laid-for-requires
-    slots-number-requires
+    (λ c κs. search needs) (λ c κs. search needs)
     put-slots-requires
-    same-length
+    (λ c. search needs)
     returns
     returns-2
     returns-3)

@@ -28,9 +28,6 @@ add-at c = omega arith
 shared-slice-read-is-kind : tie.Need-shared-slice-read-is-kind Inv-loop μ-loop
 shared-slice-read-is-kind c = omega arith
 
-is-kind-requires : tie.Need-is-kind-requires Inv-loop μ-loop
-is-kind-requires c κs = search needs
-
 add-i : tie.Need-add-i Inv-loop μ-loop
 add-i c = omega arith
 
@@ -58,7 +55,7 @@ kinds-known-spec =
     mul-at
     add-at
     shared-slice-read-is-kind
-    is-kind-requires
+    (λ c κs. search needs)
     add-i
     loop-less
     loop-again

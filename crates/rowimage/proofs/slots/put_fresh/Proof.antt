@@ -14,30 +14,6 @@ use Rattle.rowimage.proofs.Walks.{part-size, part-is}
 use Rattle.rowimage.proofs.slots.put_fresh.Statement.{statement}
 use Rattle.rowimage.proofs.slots.put_fresh.Tie as tie
 
-mul-from : tie.Need-mul-from
-mul-from c = search needs
-
-add-from : tie.Need-add-from
-add-from c = search needs
-
-add-end : tie.Need-add-end
-add-end c = search needs
-
-sub-fresh-image : tie.Need-sub-fresh-image
-sub-fresh-image c = search needs
-
-part-fresh-image-start : tie.Need-part-fresh-image-start
-part-fresh-image-start c = search needs
-
-part-fresh-image-end : tie.Need-part-fresh-image-end
-part-fresh-image-end c = search needs
-
-fresh-image-requires : tie.Need-fresh-image-requires
-fresh-image-requires c κs = search needs
-
-same-length : tie.Need-same-length
-same-length c = search needs
-
 returns : tie.Need-returns
 returns c =
     let start = c .before .before .before .before .before .args in
@@ -50,12 +26,6 @@ pub put-fresh-spec : {M : Type 1} → statement M
 put-fresh-spec =
     tie.close
     (tie.spec
-    mul-from
-    add-from
-    add-end
-    sub-fresh-image
-    part-fresh-image-start
-    part-fresh-image-end
-    fresh-image-requires
-    same-length
+    (λ c. search needs) (λ c. search needs) (λ c. search needs) (λ c. search needs) (λ c. search needs)
+    (λ c. search needs) (λ c κs. search needs) (λ c. search needs)
     returns)

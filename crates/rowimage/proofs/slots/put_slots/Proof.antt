@@ -60,7 +60,8 @@ loop-again c =
     let more : at .loop .i < start .args .n = omega arith in (
       omega arith,
       simp length-set (put .put-fresh .kept .0 ∙ inv .1),
-      slot-again (start .args .slots .now) (start .args .row .now) (start .args .n) (at .loop .i) (start .pre .2) more (start .pre .1) _ _ (inv .1) (inv .2) (put .put-fresh .ensures),
+      slot-again (start .args .slots .now) (start .args .row .now) (start .args .n) (at .loop .i) (start .pre .2) more (start .pre .1) _ _ (inv .1) (inv .2)
+          (put .put-fresh .ensures),
     )
 
 same-length : tie.Need-same-length Inv-loop μ-loop

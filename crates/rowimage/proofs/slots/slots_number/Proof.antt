@@ -11,30 +11,6 @@ use Rattle.rowimage.proofs.Fresh.{number-told}
 use Rattle.rowimage.proofs.slots.slots_number.Statement.{statement}
 use Rattle.rowimage.proofs.slots.slots_number.Tie as tie
 
-survey-slots-requires : tie.Need-survey-slots-requires
-survey-slots-requires c κs = search needs
-
-reach-for-requires : tie.Need-reach-for-requires
-reach-for-requires c κs = search needs
-
-enum-told : tie.Need-enum-told
-enum-told c = search needs
-
-kinds-number-requires : tie.Need-kinds-number-requires
-kinds-number-requires c κs = search needs
-
-enum-told-2 : tie.Need-enum-told-2
-enum-told-2 c = search needs
-
-kinds-number-requires-2 : tie.Need-kinds-number-requires-2
-kinds-number-requires-2 c κs = search needs
-
-enum-known-reach : tie.Need-enum-known-reach
-enum-known-reach c = search needs
-
-fault-answer-requires : tie.Need-fault-answer-requires
-fault-answer-requires c κs = search needs
-
 returns : tie.Need-returns
 returns c =
     let from = c .before .before .before in
@@ -60,14 +36,8 @@ pub slots-number-spec : {M : Type 1} → statement M
 slots-number-spec =
     tie.close
     (tie.spec
-    survey-slots-requires
-    reach-for-requires
-    enum-told
-    kinds-number-requires
-    enum-told-2
-    kinds-number-requires-2
-    enum-known-reach
-    fault-answer-requires
+    (λ c κs. search needs) (λ c κs. search needs) (λ c. search needs) (λ c κs. search needs) (λ c. search needs)
+    (λ c κs. search needs) (λ c. search needs) (λ c κs. search needs)
     returns
     returns-2
     returns-3)
