@@ -15,7 +15,8 @@ use base.Logic.{SProp, ent, sep, ex, guard}
 use base.Fml.{GName, Lft, Fml, fat, fsep, fdead, flent}
 use prog.Wp.{Heap}
 use ghost.Atoms.{Atoms, sem}
-use types.Kit.{Given, ‵, later, _$_, _∵_, !, qed, by, move, drop, use1, use3, rewrite, fsplit, fjoin, fpick, fpack, feqI, feqL, await, updating, now as at-once, check, done}
+use types.Kit.{Given, ‵, later, _$_, _∵_, !, qed, by, move, drop, use1, use3, rewrite, fsplit, fjoin, fpick, fpack, feqI, feqL, await, updating, now as at-once}
+use types.Kit.{check, done}
 use types.SemTy.{Arr, cells}
 use types.Share.{arr-parts}
 use denote.RattleType.{RattleType}
@@ -76,11 +77,13 @@ module _ {M : Type 1} (𝓤 : URA M) (H : Heap 𝓤) (A : Atoms 𝓤) (W : Given
 
   -- what is there once n elements are lent
   abbrev pub Lent : Lft → List Record → ℕ → ℕ → SProp 𝓤
-  Lent κ ys l n = H .⇛ (ex 𝓤 (λ (γ : GName). sep 𝓤 ⟦ MutSlice (named 0) κ T.the-row .own (lentRow l γ ys) (sliceVal (l, 0) n ∷ []) ⟧ (A .lent κ (Held T.the-row n l 0 γ))))
+  Lent κ ys l n =
+      H .⇛ (ex 𝓤 (λ (γ : GName). sep 𝓤 ⟦ MutSlice (named 0) κ T.the-row .own (lentRow l γ ys) (sliceVal (l, 0) n ∷ []) ⟧ (A .lent κ (Held T.the-row n l 0 γ))))
 
   lent : (κ : Lft) (ys : List Record) (l : ℕ) → length ys ≡ count → ent 𝓤 ⟦ cells (mem T.the-row) ys l 0 ⟧ (Lent κ ys l count)
   lent κ ys l has =
-      subst (λ (n : ℕ). ent 𝓤 ⟦ cells (mem T.the-row) ys l 0 ⟧ (Lent κ ys l n)) has (lends-slice 𝓤 H A W T.the-row (named 0) κ ys l 0 (subst (Room T.the-row) (sym has) row-room))
+      subst (λ (n : ℕ). ent 𝓤 ⟦ cells (mem T.the-row) ys l 0 ⟧ (Lent κ ys l n)) has
+      (lends-slice 𝓤 H A W T.the-row (named 0) κ ys l 0 (subst (Room T.the-row) (sym has) row-room))
 
   pub lends-row : (κ : Lft) (ys : List Record) (l : ℕ) → RowIs ys → ent 𝓤 ⟦ fat fullShare rowMir l 0 (rowVal ys) ⟧ (Lent κ ys l count)
   unfolding partOf
@@ -89,11 +92,13 @@ module _ {M : Type 1} (𝓤 : URA M) (H : Heap 𝓤) (A : Atoms 𝓤) (W : Given
       use1 W (‵ (cellAt fullShare (Row .mir) (rowVal ys ∷ []) l 0)) (W .laws .at-raw fullShare rowMir l 0 (rowVal ys)) $
       owned ! Row (Is Row) row-makes ys _ is $ move ! (1 ∷ 0 ∷ []) $ fjoin ! $
       fpack ! (List Val) (λ us. fsep (cellAt fullShare (Row .mir) us l 0) (Row .own ys us)) (rowVal ys ∷ []) $
-      use1 W (‵ (arr-parts (shares T.the-row) count .part fullShare ys l 0)) (array-apart 𝓤 H A W T.the-row fullShare tt count ys l 0) $ fsplit ! $ feqL ! (λ has.
+      use1 W (‵ (arr-parts (shares T.the-row) count .part fullShare ys l 0)) (array-apart 𝓤 H A W T.the-row fullShare tt count ys l 0) $ fsplit ! $
+      feqL ! (λ has.
       rewrite ! 0 (λ (F : Fml). ‵ F) (parts-cells T.the-row fullShare ys l 0) refl $ by ! (lent κ ys l has))
 
   pub row-back : (κ : Lft) (γ : GName) (zs : List Record) (l : ℕ)
-      → ent 𝓤 (sep 𝓤 (A .dead κ) (sep 𝓤 (A .lent κ (Held T.the-row count l 0 γ)) ⟦ finally T.the-row γ zs ⟧)) (H .⇛ (guard 𝓤 (RowIs zs) ⟦ fat fullShare rowMir l 0 (rowVal zs) ⟧))
+      → ent 𝓤 (sep 𝓤 (A .dead κ) (sep 𝓤 (A .lent κ (Held T.the-row count l 0 γ)) ⟦ finally T.the-row γ zs ⟧))
+      (H .⇛ (guard 𝓤 (RowIs zs) ⟦ fat fullShare rowMir l 0 (rowVal zs) ⟧))
   unfolding partOf
   row-back κ γ zs l =
       qed W (‵ (fdead κ) ∷ ‵ (flent κ (Held T.the-row count l 0 γ)) ∷ ‵ (finally T.the-row γ zs) ∷ []) ∵ updating ! $

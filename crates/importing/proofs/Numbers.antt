@@ -37,7 +37,8 @@ module _ (address : ℕ) (samples buffer : List ℕ) where
   refusal k r t e h =
       let c : r .count ≡ importedBy k address samples .count = h .1 ∙ sym (if-false (length (captured address samples)) 0 t) in
       let answer : r ≡ importedBy k address samples = λ j. record { number = h .0 j; count = c j } in
-      let kept : buffer ≡ bufferBy k address samples buffer = sym (if-false (eventBytes (captured address samples) ++ drop (4 * length (captured address samples)) buffer) buffer t) in
+      let kept : buffer ≡ bufferBy k address samples buffer =
+      sym (if-false (eventBytes (captured address samples) ++ drop (4 * length (captured address samples)) buffer) buffer t) in
       (answer ∙ ap (λ (n : ℕ). importedBy n address samples) (sym e), kept ∙ ap (λ (n : ℕ). bufferBy n address samples buffer) (sym e))
 
   pub refused-13 : (r : Imported) → 32768 < length samples → (r .number ≡ 13) × (r .count ≡ 0) → Promised r buffer

@@ -28,8 +28,10 @@ counts-put t b b1 b2 b3 b4 b5 b6 h e1 e2 e3 e4 e5 e6 =
     let fits : 106 ≤ length b = omega arith in
     let d2 : b2 ≡ withPart 58 (one ++ two) b = e2 ∙ ap (λ (l : List ℕ). withPart 66 two l) e1 ∙ joined 58 one two b (omega arith) in
     let d3 : b3 ≡ withPart 58 ((one ++ two) ++ three) b = e3 ∙ ap (λ (l : List ℕ). withPart 74 three l) d2 ∙ joined 58 (one ++ two) three b (omega arith) in
-    let d4 : b4 ≡ withPart 58 (((one ++ two) ++ three) ++ four) b = e4 ∙ ap (λ (l : List ℕ). withPart 82 four l) d3 ∙ joined 58 ((one ++ two) ++ three) four b (omega arith) in
-    let d5 : b5 ≡ withPart 58 ((((one ++ two) ++ three) ++ four) ++ five) b = e5 ∙ ap (λ (l : List ℕ). withPart 90 five l) d4 ∙ joined 58 (((one ++ two) ++ three) ++ four) five b (omega arith) in
+    let d4 : b4 ≡ withPart 58 (((one ++ two) ++ three) ++ four) b = e4 ∙ ap (λ (l : List ℕ). withPart 82 four l) d3
+    ∙ joined 58 ((one ++ two) ++ three) four b (omega arith) in
+    let d5 : b5 ≡ withPart 58 ((((one ++ two) ++ three) ++ four) ++ five) b = e5 ∙ ap (λ (l : List ℕ). withPart 90 five l) d4
+    ∙ joined 58 (((one ++ two) ++ three) ++ four) five b (omega arith) in
     e6 ∙ ap (λ (l : List ℕ). withPart 98 six l) d5 ∙ joined 58 ((((one ++ two) ++ three) ++ four) ++ five) six b (omega arith)
 
 -- the three READs
@@ -64,7 +66,8 @@ all-laid w b h =
     let two : length (image ++ settings) ≡ 44 = length-append image settings ∙ ap (λ (n : ℕ). n + 6) first in
     let three : length ((image ++ settings) ++ ear) ≡ 58 = length-append (image ++ settings) ear ∙ ap (λ (n : ℕ). n + 14) two in
     let four : length (((image ++ settings) ++ ear) ++ counts) ≡ 106 = length-append ((image ++ settings) ++ ear) counts ∙ ap (λ (n : ℕ). n + 48) three in
-    let five : length ((((image ++ settings) ++ ear) ++ counts) ++ reads) ≡ 142 = length-append (((image ++ settings) ++ ear) ++ counts) reads ∙ ap (λ (n : ℕ). n + 36) four in
+    let five : length ((((image ++ settings) ++ ear) ++ counts) ++ reads) ≡ 142 = length-append (((image ++ settings) ++ ear) ++ counts) reads
+    ∙ ap (λ (n : ℕ). n + 36) four in
     ap (λ (l : List ℕ). withPart 106 reads (withPart 58 counts (withPart 44 ear l))) (next 38 image settings b first (omega arith))
     ∙ ap (λ (l : List ℕ). withPart 106 reads (withPart 58 counts l)) (next 44 (image ++ settings) ear b two (omega arith))
     ∙ ap (λ (l : List ℕ). withPart 106 reads l) (next 58 ((image ++ settings) ++ ear) counts b three (omega arith))
@@ -84,4 +87,5 @@ all-put w b image b1 b2 b3 b4 h e0 e1 e2 e3 e4 =
     let long : 38 ≡ 0 + length (imageOf (w .device)) = omega (arith, whole (w .device)) in
     let d0 : image ++ drop 38 b ≡ withPart 0 (imageOf (w .device)) b = ap₂ (λ (l : List ℕ) (n : ℕ). l ++ drop n b) e0 long in
     let d1 : b1 ≡ withPart 38 settings (withPart 0 (imageOf (w .device)) b) = e1 ∙ ap (λ (l : List ℕ). withPart 38 settings l) d0 in
-    e4 ∙ ap (λ (l : List ℕ). withPart 106 reads l) (e3 ∙ ap (λ (l : List ℕ). withPart 58 counts l) (e2 ∙ ap (λ (l : List ℕ). withPart 44 ear l) d1)) ∙ all-laid w b h
+    e4 ∙ ap (λ (l : List ℕ). withPart 106 reads l) (e3 ∙ ap (λ (l : List ℕ). withPart 58 counts l) (e2 ∙ ap (λ (l : List ℕ). withPart 44 ear l) d1))
+    ∙ all-laid w b h

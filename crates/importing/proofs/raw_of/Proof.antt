@@ -27,7 +27,14 @@ returns-5 c = simp (← c .raw-with5 .ensures, c .before .before .e5 .given .1)
 
 returns-6 : tie.Need-returns-6
 unfolding rawOf
-returns-6 c = simp (← c .raw-with6 .ensures, ← c .before .worth-of3 .ensures .0, ← c .before .before .worth-of2 .ensures .0, ← c .before .before .before .worth-of .ensures .0, c .before .before .before .before .before .e6 .given .1)
+returns-6 c =
+    simp (
+      ← c .raw-with6 .ensures,
+      ← c .before .worth-of3 .ensures .0,
+      ← c .before .before .worth-of2 .ensures .0,
+      ← c .before .before .before .worth-of .ensures .0,
+      c .before .before .before .before .before .e6 .given .1,
+    )
 
 returns-7 : tie.Need-returns-7
 unfolding rawOf

@@ -10,12 +10,6 @@ use borrow.Author.Needs.{needs}
 use Rattle.packed_orders.proofs.list_packed.Statement.{statement}
 use Rattle.packed_orders.proofs.list_packed.Tie as tie
 
-list-orders-requires : tie.Need-list-orders-requires
-list-orders-requires c κs = search needs
-
-long-of-requires : tie.Need-long-of-requires
-long-of-requires c κs = search needs
-
 mul-result : tie.Need-mul-result
 mul-result c =
     let few = subst (λ (r : Listed). r .count ≤ 924) (sym (c .before .before .before .list-orders .ensures .0)) (listed-few _ _ _ _) in
@@ -26,9 +20,6 @@ add-result c =
     let few = subst (λ (r : Listed). r .count ≤ 924) (sym (c .before .before .before .list-orders .ensures .0)) (listed-few _ _ _ _) in
     omega (arith, few)
 
-same-length : tie.Need-same-length
-same-length c = search needs
-
 returns : tie.Need-returns
 returns c =
     let got = c .before .before .before .list-orders .ensures in
@@ -36,5 +27,4 @@ returns c =
 
 pub list-packed-spec : {M : Type 1} → statement M
 list-packed-spec =
-    tie.close
-    (tie.spec list-orders-requires long-of-requires mul-result add-result same-length returns)
+    tie.close (tie.spec (λ c κs. search needs) (λ c κs. search needs) mul-result add-result (λ c. search needs) returns)

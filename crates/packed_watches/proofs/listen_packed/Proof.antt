@@ -13,21 +13,12 @@ use Rattle.packed_watches.proofs.Few.{count-fits, at-once-few}
 use Rattle.packed_watches.proofs.listen_packed.Statement.{statement}
 use Rattle.packed_watches.proofs.listen_packed.Tie as tie
 
-count-at-once-requires : tie.Need-count-at-once-requires
-count-at-once-requires c κs = search needs
-
 slice-aggregate-listen-watch : tie.Need-slice-aggregate-listen-watch
 slice-aggregate-listen-watch c =
     let xs = c .before .before .before .before .args .samples .now in
     let n = c .before .count-at-once .result in
     let fits : n ≤ length xs = omega (arith, c .before .count-at-once .ensures, count-fits (length xs)) in
     sym (length-take-le n xs fits)
-
-listen-watch-requires : tie.Need-listen-watch-requires
-listen-watch-requires c κs = search needs
-
-long-of-requires : tie.Need-long-of-requires
-long-of-requires c κs = search needs
 
 mul-result : tie.Need-mul-result
 mul-result c =
@@ -47,9 +38,6 @@ add-result c =
     let few = subst (λ (r : Heeded). r .taken ≤ mostAtOnce) (sym told) (at-once-few xs (start .watch .now)) in
     omega (arith, few)
 
-same-length : tie.Need-same-length
-same-length c = search needs
-
 returns : tie.Need-returns
 returns c =
     let count = c .before .before .before .before .before .before in
@@ -64,11 +52,10 @@ pub listen-packed-spec : {M : Type 1} → statement M
 listen-packed-spec =
     tie.close
     (tie.spec
-    count-at-once-requires
+    (λ c κs. search needs)
     slice-aggregate-listen-watch
-    listen-watch-requires
-    long-of-requires
+    (λ c κs. search needs) (λ c κs. search needs)
     mul-result
     add-result
-    same-length
+    (λ c. search needs)
     returns)

@@ -11,17 +11,8 @@ use Rattle.watchimage.proofs.Kept.{fresh-long}
 use Rattle.watchimage.proofs.fresh_watch.Statement.{statement}
 use Rattle.watchimage.proofs.fresh_watch.Tie as tie
 
-fresh-number-requires : tie.Need-fresh-number-requires
-fresh-number-requires c κs = search needs
-
-kind-of-requires : tie.Need-kind-of-requires
-kind-of-requires c κs = search needs
-
 lay-fresh-requires : tie.Need-lay-fresh-requires
 lay-fresh-requires c κs = fresh-long _ _ _ _ (sym (c .before .before .before .fresh-number .ensures) ∙ c .before .before .if1 .taken)
-
-same-length : tie.Need-same-length
-same-length c = search needs
 
 returns : tie.Need-returns
 unfolding freshAfter
@@ -31,9 +22,6 @@ returns c =
     let start = from .before .before .before .before .before .args in
     let made = ap (λ (k : Kind). laid (beginning k (settingsOf (start .address) (start .every) (start .below)))) (from .kind-of .ensures) in
     (sym good, simp (eq-eqb _ _ good) (c .before .before .lay-fresh .ensures ∙ made))
-
-same-length-2 : tie.Need-same-length-2
-same-length-2 c = search needs
 
 returns-2 : tie.Need-returns-2
 unfolding freshAfter
@@ -45,10 +33,9 @@ pub fresh-watch-spec : {M : Type 1} → statement M
 fresh-watch-spec =
     tie.close
     (tie.spec
-    fresh-number-requires
-    kind-of-requires
+    (λ c κs. search needs) (λ c κs. search needs)
     lay-fresh-requires
-    same-length
+    (λ c. search needs)
     returns
-    same-length-2
+    (λ c. search needs)
     returns-2)

@@ -15,9 +15,6 @@ use Rattle.watchimage.proofs.hear.Tie as tie
 watcher-in-requires : tie.Need-watcher-in-requires
 watcher-in-requires c κs = watch-good _ (c .before .before .before .pre) .0
 
-listen-requires : tie.Need-listen-requires
-listen-requires c κs = search needs
-
 lay-requires : tie.Need-lay-requires
 lay-requires c κs =
     let start = c .before .before .before .before .before .before in
@@ -25,9 +22,6 @@ lay-requires c κs =
     let heard = c .before .listen .ensures .0 ∙ ap (listened xs) (c .before .before .watcher-in .ensures) in
     let few = subst (λ (w : Watcher). pulses (w .device .arb .switch) < 9) (sym heard) (heard-pulses xs _ (start .pre)) in
     (few, watch-good _ (start .pre) .0)
-
-same-length : tie.Need-same-length
-same-length c = search needs
 
 returns : tie.Need-returns
 returns c =
@@ -38,6 +32,4 @@ returns c =
     (done .1 ∙ ap (taken xs) read, c .before .before .lay .ensures ∙ ap laid (done .0 ∙ ap (listened xs) read))
 
 pub hear-spec : {M : Type 1} → statement M
-hear-spec =
-    tie.close
-    (tie.spec watcher-in-requires listen-requires lay-requires same-length returns)
+hear-spec = tie.close (tie.spec watcher-in-requires (λ c κs. search needs) lay-requires (λ c. search needs) returns)

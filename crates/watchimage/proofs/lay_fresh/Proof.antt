@@ -11,20 +11,14 @@ use Rattle.watchlayout.specs.Places.{laid}
 use Rattle.watchimage.proofs.lay_fresh.Statement.{statement}
 use Rattle.watchimage.proofs.lay_fresh.Tie as tie
 
-begin-requires : tie.Need-begin-requires
-begin-requires c κs = search needs
-
 lay-requires : tie.Need-lay-requires
 unfolding beginning
 lay-requires c κs =
     let few = subst (λ (w : Watcher). pulses (w .device .arb .switch) < 9) (sym (c .before .begin .ensures)) (fresh-pulses _) in
     (few, c .before .before .before .pre)
 
-same-length : tie.Need-same-length
-same-length c = search needs
-
 returns : tie.Need-returns
 returns c = c .before .before .lay .ensures ∙ ap laid (c .before .before .before .before .begin .ensures)
 
 pub lay-fresh-spec : {M : Type 1} → statement M
-lay-fresh-spec = tie.close (tie.spec begin-requires lay-requires same-length returns)
+lay-fresh-spec = tie.close (tie.spec (λ c κs. search needs) lay-requires (λ c. search needs) returns)

@@ -7,14 +7,8 @@ use Rattle.watchlayout.specs.Calls.{heeded, heededAfter}
 use Rattle.watchimage.proofs.listen_watch.Statement.{statement}
 use Rattle.watchimage.proofs.listen_watch.Tie as tie
 
-watch-number-requires : tie.Need-watch-number-requires
-watch-number-requires c κs = search needs
-
 hear-requires : tie.Need-hear-requires
 hear-requires c κs = eq-eqb _ _ (sym (c .before .before .watch-number .ensures) ∙ c .before .if1 .taken)
-
-same-length : tie.Need-same-length
-same-length c = search needs
 
 returns : tie.Need-returns
 unfolding heeded heededAfter
@@ -23,9 +17,6 @@ returns c =
     let good = eq-eqb _ _ number in
     let done = c .before .before .hear .ensures in
     (simp (number, done .0), simp good (done .1))
-
-same-length-2 : tie.Need-same-length-2
-same-length-2 c = search needs
 
 returns-2 : tie.Need-returns-2
 unfolding heeded heededAfter
@@ -36,5 +27,4 @@ returns-2 c =
 
 pub listen-watch-spec : {M : Type 1} → statement M
 listen-watch-spec =
-    tie.close
-    (tie.spec watch-number-requires hear-requires same-length returns same-length-2 returns-2)
+    tie.close (tie.spec (λ c κs. search needs) hear-requires (λ c. search needs) returns (λ c. search needs) returns-2)

@@ -5,12 +5,9 @@ use Rattle.watch.specs.Stream.{noTally}
 use Rattle.watchimage.proofs.no_tally.Statement.{statement}
 use Rattle.watchimage.proofs.no_tally.Tie as tie
 
-no-check-requires : tie.Need-no-check-requires
-no-check-requires c κs = search needs
-
 returns : tie.Need-returns
 unfolding noTally
 returns c = simp (c .no-check .ensures)
 
 pub no-tally-spec : {M : Type 1} → statement M
-no-tally-spec = tie.close (tie.spec no-check-requires returns)
+no-tally-spec = tie.close (tie.spec (λ c κs. search needs) returns)

@@ -10,15 +10,6 @@ use Rattle.watchlayout.specs.Places.{busFits}
 use Rattle.watchimage.proofs.fitting.bus_fits.Statement.{statement}
 use Rattle.watchimage.proofs.fitting.bus_fits.Tie as tie
 
-fits-requires : tie.Need-fits-requires
-fits-requires c κs = search needs
-
-add-fits : tie.Need-add-fits
-add-fits c = search needs
-
-fits-requires-2 : tie.Need-fits-requires-2
-fits-requires-2 c κs = search needs
-
 returns : tie.Need-returns
 unfolding busFits
 returns c =
@@ -28,4 +19,4 @@ returns c =
     simp (middle, and-true, c .fits3 .ensures, c .before .fits2 .ensures)
 
 pub bus-fits-spec : {M : Type 1} → statement M
-bus-fits-spec = tie.close (tie.spec fits-requires add-fits fits-requires-2 returns)
+bus-fits-spec = tie.close (tie.spec (λ c κs. search needs) (λ c. search needs) (λ c κs. search needs) returns)

@@ -7,18 +7,6 @@ use Rattle.watchlayout.specs.Places.{checkFits}
 use Rattle.watchimage.proofs.fitting.check_fits.Statement.{statement}
 use Rattle.watchimage.proofs.fitting.check_fits.Tie as tie
 
-add-fits : tie.Need-add-fits
-add-fits c = search needs
-
-fits-requires : tie.Need-fits-requires
-fits-requires c κs = search needs
-
-add-fits-2 : tie.Need-add-fits-2
-add-fits-2 c = search needs
-
-fits-requires-2 : tie.Need-fits-requires-2
-fits-requires-2 c κs = search needs
-
 returns : tie.Need-returns
 unfolding checkFits
 returns c =
@@ -27,4 +15,5 @@ returns c =
     simp (bytes-fit 8 (start .at) (start .b .now) (λ i. omega (arith, known i)), c .fits3 .ensures, c .before .fits2 .ensures)
 
 pub check-fits-spec : {M : Type 1} → statement M
-check-fits-spec = tie.close (tie.spec add-fits fits-requires add-fits-2 fits-requires-2 returns)
+check-fits-spec =
+    tie.close (tie.spec (λ c. search needs) (λ c κs. search needs) (λ c. search needs) (λ c κs. search needs) returns)

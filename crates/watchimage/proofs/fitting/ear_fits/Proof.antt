@@ -8,15 +8,6 @@ use Rattle.watchlayout.specs.Places.{earFits}
 use Rattle.watchimage.proofs.fitting.ear_fits.Statement.{statement}
 use Rattle.watchimage.proofs.fitting.ear_fits.Tie as tie
 
-fits-requires : tie.Need-fits-requires
-fits-requires c κs = search needs
-
-bus-fits-requires : tie.Need-bus-fits-requires
-bus-fits-requires c κs = search needs
-
-bus-fits-requires-2 : tie.Need-bus-fits-requires-2
-bus-fits-requires-2 c κs = search needs
-
 returns : tie.Need-returns
 unfolding earFits
 returns c =
@@ -25,4 +16,4 @@ returns c =
     simp (bytes-fit 4 46 b (λ i. omega (arith, known i)), and-true, c .bus-fits2 .ensures, c .before .bus-fits .ensures, c .before .before .fits2 .ensures)
 
 pub ear-fits-spec : {M : Type 1} → statement M
-ear-fits-spec = tie.close (tie.spec fits-requires bus-fits-requires bus-fits-requires-2 returns)
+ear-fits-spec = tie.close (tie.spec (λ c κs. search needs) (λ c κs. search needs) (λ c κs. search needs) returns)

@@ -10,16 +10,10 @@ use borrow.Author.Tests.{le-leb}
 use Rattle.watchimage.proofs.fitting.fits.Statement.{statement}
 use Rattle.watchimage.proofs.fitting.fits.Tie as tie
 
-shared-slice-read-result : tie.Need-shared-slice-read-result
-shared-slice-read-result c = search needs
-
-returns : tie.Need-returns
-returns c = search needs
-
 returns-2 : tie.Need-returns-2
 returns-2 c =
     let start = c .before .args in
     sym (ap (λ (v : ℕ). leb v (start .top)) (List·getD-eq-default (start .b .now) 0 (c .if1 .left)) ∙ le-leb 0 (start .top) (omega arith))
 
 pub fits-spec : {M : Type 1} → statement M
-fits-spec = tie.close (tie.spec shared-slice-read-result returns returns-2)
+fits-spec = tie.close (tie.spec (λ c. search needs) (λ c. search needs) returns-2)

@@ -10,18 +10,6 @@ use Rattle.watchimage.proofs.fitting.in_range.Tie as tie
 slice-aggregate-image-number : tie.Need-slice-aggregate-image-number
 slice-aggregate-image-number c = sym (image-length (c .before .before .args .b .now) (c .before .before .pre))
 
-image-number-requires : tie.Need-image-number-requires
-image-number-requires c κs = search needs
-
-settings-fit-requires : tie.Need-settings-fit-requires
-settings-fit-requires c κs = search needs
-
-ear-fits-requires : tie.Need-ear-fits-requires
-ear-fits-requires c κs = search needs
-
-tally-fits-requires : tie.Need-tally-fits-requires
-tally-fits-requires c κs = search needs
-
 returns : tie.Need-returns
 unfolding watchInRange
 returns c =
@@ -37,8 +25,5 @@ in-range-spec =
     tie.close
     (tie.spec
     slice-aggregate-image-number
-    image-number-requires
-    settings-fit-requires
-    ear-fits-requires
-    tally-fits-requires
+    (λ c κs. search needs) (λ c κs. search needs) (λ c κs. search needs) (λ c κs. search needs)
     returns)

@@ -7,9 +7,6 @@ use Rattle.watchlayout.specs.Places.{settingsFit}
 use Rattle.watchimage.proofs.fitting.settings_fit.Statement.{statement}
 use Rattle.watchimage.proofs.fitting.settings_fit.Tie as tie
 
-fits-requires : tie.Need-fits-requires
-fits-requires c κs = search needs
-
 returns : tie.Need-returns
 unfolding settingsFit
 returns c =
@@ -17,4 +14,4 @@ returns c =
     simp (bytes-fit 4 39 (c .before .before .args .b .now) (λ i. omega (arith, known i)), c .fits2 .ensures)
 
 pub settings-fit-spec : {M : Type 1} → statement M
-settings-fit-spec = tie.close (tie.spec fits-requires returns)
+settings-fit-spec = tie.close (tie.spec (λ c κs. search needs) returns)

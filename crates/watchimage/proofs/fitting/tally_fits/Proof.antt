@@ -7,15 +7,6 @@ use Rattle.watchlayout.specs.Places.{tallyFits}
 use Rattle.watchimage.proofs.fitting.tally_fits.Statement.{statement}
 use Rattle.watchimage.proofs.fitting.tally_fits.Tie as tie
 
-check-fits-requires : tie.Need-check-fits-requires
-check-fits-requires c κs = search needs
-
-check-fits-requires-2 : tie.Need-check-fits-requires-2
-check-fits-requires-2 c κs = search needs
-
-check-fits-requires-3 : tie.Need-check-fits-requires-3
-check-fits-requires-3 c κs = search needs
-
 returns : tie.Need-returns
 unfolding tallyFits
 returns c =
@@ -24,5 +15,4 @@ returns c =
     simp (bytes-fit 48 58 b (λ i. omega (arith, known i)), c .check-fits3 .ensures, c .before .check-fits2 .ensures, c .before .before .check-fits .ensures)
 
 pub tally-fits-spec : {M : Type 1} → statement M
-tally-fits-spec =
-    tie.close (tie.spec check-fits-requires check-fits-requires-2 check-fits-requires-3 returns)
+tally-fits-spec = tie.close (tie.spec (λ c κs. search needs) (λ c κs. search needs) (λ c κs. search needs) returns)

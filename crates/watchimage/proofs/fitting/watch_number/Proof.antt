@@ -6,9 +6,6 @@ use Rattle.watchlayout.specs.Calls.{watchNumber}
 use Rattle.watchimage.proofs.fitting.watch_number.Statement.{statement}
 use Rattle.watchimage.proofs.fitting.watch_number.Tie as tie
 
-in-range-requires : tie.Need-in-range-requires
-in-range-requires c κs = search needs
-
 returns : tie.Need-returns
 unfolding watchNumber
 returns c = simp (c .if2 .taken, ← c .before .in-range .ensures, eq-eqb _ _ (c .before .before .if1 .taken))
@@ -22,4 +19,4 @@ unfolding watchNumber
 returns-3 c = simp (ne-eqb _ _ (c .if1 .left))
 
 pub watch-number-spec : {M : Type 1} → statement M
-watch-number-spec = tie.close (tie.spec in-range-requires returns returns-2 returns-3)
+watch-number-spec = tie.close (tie.spec (λ c κs. search needs) returns returns-2 returns-3)

@@ -7,29 +7,11 @@ use Rattle.watchimage.proofs.Laid.{all-put}
 use Rattle.watchimage.proofs.laying.lay.Statement.{statement}
 use Rattle.watchimage.proofs.laying.lay.Tie as tie
 
-slice-relend-prefix-write-image : tie.Need-slice-relend-prefix-write-image
-slice-relend-prefix-write-image c = search needs
-
 slice-aggregate-write-image : tie.Need-slice-aggregate-write-image
 slice-aggregate-write-image c = sym (image-length (c .before .before .args .out .now) (c .before .before .pre .1))
 
 write-image-requires : tie.Need-write-image-requires
 write-image-requires c κs = (c .before .before .pre .0, image-length (c .before .before .args .out .now) (c .before .before .pre .1))
-
-put-settings-requires : tie.Need-put-settings-requires
-put-settings-requires c κs = search needs
-
-put-ear-requires : tie.Need-put-ear-requires
-put-ear-requires c κs = search needs
-
-put-counts-requires : tie.Need-put-counts-requires
-put-counts-requires c κs = search needs
-
-put-reads-requires : tie.Need-put-reads-requires
-put-reads-requires c κs = search needs
-
-same-length : tie.Need-same-length
-same-length c = search needs
 
 returns : tie.Need-returns
 returns c =
@@ -44,12 +26,8 @@ pub lay-spec : {M : Type 1} → statement M
 lay-spec =
     tie.close
     (tie.spec
-    slice-relend-prefix-write-image
+    (λ c. search needs)
     slice-aggregate-write-image
     write-image-requires
-    put-settings-requires
-    put-ear-requires
-    put-counts-requires
-    put-reads-requires
-    same-length
+    (λ c κs. search needs) (λ c κs. search needs) (λ c κs. search needs) (λ c κs. search needs) (λ c. search needs)
     returns)

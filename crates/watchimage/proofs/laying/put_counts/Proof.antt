@@ -5,27 +5,6 @@ use Rattle.watchimage.proofs.Laid.{counts-put}
 use Rattle.watchimage.proofs.laying.put_counts.Statement.{statement}
 use Rattle.watchimage.proofs.laying.put_counts.Tie as tie
 
-put-long-requires : tie.Need-put-long-requires
-put-long-requires c κs = search needs
-
-put-long-requires-2 : tie.Need-put-long-requires-2
-put-long-requires-2 c κs = search needs
-
-put-long-requires-3 : tie.Need-put-long-requires-3
-put-long-requires-3 c κs = search needs
-
-put-long-requires-4 : tie.Need-put-long-requires-4
-put-long-requires-4 c κs = search needs
-
-put-long-requires-5 : tie.Need-put-long-requires-5
-put-long-requires-5 c κs = search needs
-
-put-long-requires-6 : tie.Need-put-long-requires-6
-put-long-requires-6 c κs = search needs
-
-same-length : tie.Need-same-length
-same-length c = search needs
-
 returns : tie.Need-returns
 returns c =
     let back10 = c .before .before .before .before .before .before .before .before .before .before in
@@ -43,11 +22,6 @@ pub put-counts-spec : {M : Type 1} → statement M
 put-counts-spec =
     tie.close
     (tie.spec
-    put-long-requires
-    put-long-requires-2
-    put-long-requires-3
-    put-long-requires-4
-    put-long-requires-5
-    put-long-requires-6
-    same-length
+    (λ c κs. search needs) (λ c κs. search needs) (λ c κs. search needs) (λ c κs. search needs) (λ c κs. search needs)
+    (λ c κs. search needs) (λ c. search needs)
     returns)

@@ -5,33 +5,6 @@ use Rattle.watchlayout.specs.Places.{tallyIn}
 use Rattle.watchimage.proofs.reading.tally_in.Statement.{statement}
 use Rattle.watchimage.proofs.reading.tally_in.Tie as tie
 
-long-at-requires : tie.Need-long-at-requires
-long-at-requires c κs = search needs
-
-long-at-requires-2 : tie.Need-long-at-requires-2
-long-at-requires-2 c κs = search needs
-
-long-at-requires-3 : tie.Need-long-at-requires-3
-long-at-requires-3 c κs = search needs
-
-long-at-requires-4 : tie.Need-long-at-requires-4
-long-at-requires-4 c κs = search needs
-
-long-at-requires-5 : tie.Need-long-at-requires-5
-long-at-requires-5 c κs = search needs
-
-long-at-requires-6 : tie.Need-long-at-requires-6
-long-at-requires-6 c κs = search needs
-
-check-at-requires : tie.Need-check-at-requires
-check-at-requires c κs = search needs
-
-check-at-requires-2 : tie.Need-check-at-requires-2
-check-at-requires-2 c κs = search needs
-
-check-at-requires-3 : tie.Need-check-at-requires-3
-check-at-requires-3 c κs = search needs
-
 returns : tie.Need-returns
 unfolding tallyIn
 returns c =
@@ -51,13 +24,6 @@ pub tally-in-spec : {M : Type 1} → statement M
 tally-in-spec =
     tie.close
     (tie.spec
-    long-at-requires
-    long-at-requires-2
-    long-at-requires-3
-    long-at-requires-4
-    long-at-requires-5
-    long-at-requires-6
-    check-at-requires
-    check-at-requires-2
-    check-at-requires-3
+    (λ c κs. search needs) (λ c κs. search needs) (λ c κs. search needs) (λ c κs. search needs) (λ c κs. search needs)
+    (λ c κs. search needs) (λ c κs. search needs) (λ c κs. search needs) (λ c κs. search needs)
     returns)

@@ -7,20 +7,8 @@ use Rattle.watchlayout.specs.Places.{watcherIn}
 use Rattle.watchimage.proofs.reading.watcher_in.Statement.{statement}
 use Rattle.watchimage.proofs.reading.watcher_in.Tie as tie
 
-settings-in-requires : tie.Need-settings-in-requires
-settings-in-requires c κs = search needs
-
-ear-in-requires : tie.Need-ear-in-requires
-ear-in-requires c κs = search needs
-
 slice-aggregate-read-image : tie.Need-slice-aggregate-read-image
 slice-aggregate-read-image c = sym (image-length (c .before .before .before .before .args .b .now) (c .before .before .before .before .pre))
-
-read-image-requires : tie.Need-read-image-requires
-read-image-requires c κs = search needs
-
-tally-in-requires : tie.Need-tally-in-requires
-tally-in-requires c κs = search needs
 
 returns : tie.Need-returns
 unfolding watcherIn
@@ -36,9 +24,7 @@ pub watcher-in-spec : {M : Type 1} → statement M
 watcher-in-spec =
     tie.close
     (tie.spec
-    settings-in-requires
-    ear-in-requires
+    (λ c κs. search needs) (λ c κs. search needs)
     slice-aggregate-read-image
-    read-image-requires
-    tally-in-requires
+    (λ c κs. search needs) (λ c κs. search needs)
     returns)
