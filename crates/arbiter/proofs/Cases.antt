@@ -2,7 +2,9 @@
 -- Assumes nothing.
 use mathlib.Core.Path.{_≡_, refl, sym, ap, subst, _∙_}
 use mathlib.Core.Bool.{Bool, true, false, _&&_}
-use Rattle.arbiter.specs.Types.{ℕ, List, [], _∷_, eqb, ltb, Master, Zero, One, Ground, Sole, Turn, Nobody, Claims, Owns, Switch, Apart, Initialising, Closed, Clock, NoClock, ClockLow, ClockHigh, Device, Raw, Event, Decoded, Reads, UnknownKind, BadField, OutOfSequence, Stepped}
+use Rattle.arbiter.specs.Types.{ℕ, List, [], _∷_, eqb, ltb, Master, Zero, One, Ground, Sole, Turn, Nobody, Claims, Owns, Switch, Apart, Initialising}
+use Rattle.arbiter.specs.Types.{Closed, Clock, NoClock, ClockLow, ClockHigh, Device, Raw, Event, Decoded, Reads, UnknownKind, BadField, OutOfSequence}
+use Rattle.arbiter.specs.Types.{Stepped}
 use Rattle.arbiter.specs.Words.{sameMaster, side}
 use Rattle.arbiter.specs.Parts.{withBusConnect, withBusInit, withContr, withSwitch, withInitFail, withSide, withArb}
 use Rattle.arbiter.specs.State.{atRest}
@@ -15,7 +17,8 @@ use Rattle.arbiter.proofs.Choice.{either, split, if-true, if-false}
 
 -- ---- part 4: the owner's BUS_CONNECT is cleared, or nothing is
 
-pub cut-cases : (P : Device → Type 0) (on : Bool) (m : Master) (g : Ground) (d : Device) → P (withSide m (disconnected (side m d)) d) → P d → P (cutFrom on (Owns m g) d)
+pub cut-cases : (P : Device → Type 0) (on : Bool) (m : Master) (g : Ground) (d : Device) → P (withSide m (disconnected (side m d)) d) → P d
+    → P (cutFrom on (Owns m g) d)
 unfolding cutFrom
 cut-cases P on m g d cleared left = either P (on && eqb (d .bus .lowscl) cutTicks && (side m d) .contr .smbusdis) (λ h. cleared) (λ h. left)
 
@@ -36,7 +39,8 @@ pub new-cases : (P : Turn → Type 0) (d : Device) → P Nobody → ((m : Master
 new-cases P d none some = new-by P none some (requests Zero d) (requests One d) _ _
 
 -- and so is what comes of a claim
-pub claim-cases : (P : Turn → Type 0) (m : Master) (g : Ground) (d : Device) → P Nobody → ((m : Master) (g : Ground) → P (Claims m g)) → P (claimAfter (Claims m g) d)
+pub claim-cases : (P : Turn → Type 0) (m : Master) (g : Ground) (d : Device) → P Nobody → ((m : Master) (g : Ground) → P (Claims m g))
+    → P (claimAfter (Claims m g) d)
 claim-cases P m g d none some =
     split (requests m d)
     (λ h. subst P (sym (claimant-stays m g d h)) (some m g))
@@ -59,7 +63,8 @@ abbrev pub initEnded : Master → Bool → Device → Device
 initEnded m on d = withSide m (withContr (withBusInit false (withBusConnect on ((side m d) .contr))) (side m d)) d
 
 module _ (P : Device → Type 0) (d : Device) (plain : (w : Switch) (fail : Bool) → P (joinedBy w fail d))
-    (ended : (m : Master) (on : Bool) (w : Switch) (fail : Bool) → ((side m d) .contr .busconnect ≡ false → on ≡ false) → P (joinedBy w fail (initEnded m on d))) where
+    (ended : (m : Master) (on : Bool) (w : Switch) (fail : Bool) → ((side m d) .contr .busconnect ≡ false → on ≡ false)
+    → P (joinedBy w fail (initEnded m on d))) where
   -- grant and BUS_CONNECT have become both true of m
   joined-cases : (m : Master) → P (joined m d)
   unfolding joined

@@ -3,11 +3,13 @@
 use mathlib.Core.Path.{_≡_, refl, sym, ap, _∙_}
 use mathlib.Core.Bool.{Bool, true, false, _&&_, false≢true, and-eq-true-iff}
 use mathlib.Core.List.{List}
-use Rattle.arbiter.specs.Types.{ℕ, _+_, ltb, Master, Zero, One, Ground, Turn, Nobody, Claims, Owns, Switch, Apart, Initialising, Closed, Clock, NoClock, ClockLow, ClockHigh, Kind, Device, Raw, Event}
+use Rattle.arbiter.specs.Types.{ℕ, _+_, ltb, Master, Zero, One, Ground, Turn, Nobody, Claims, Owns, Switch, Apart, Initialising, Closed, Clock, NoClock}
+use Rattle.arbiter.specs.Types.{ClockLow, ClockHigh, Kind, Device, Raw, Event}
 use Rattle.arbiter.specs.Words.{sameMaster, partner, side}
 use Rattle.arbiter.specs.State.{ownsTurn, owns, closedFor}
 use Rattle.arbiter.specs.Effects.{effect, powerUp}
-use Rattle.arbiter.specs.Order.{switched, joined, initialised, initFailed, clocked, keptJoined, connectFrom, connect, levels, losses, cut, claim, grant, isReset, isTick, clockOf}
+use Rattle.arbiter.specs.Order.{switched, joined, initialised, initFailed, clocked, keptJoined, connectFrom, connect, levels, losses, cut, claim, grant}
+use Rattle.arbiter.specs.Order.{isReset, isTick, clockOf}
 use Rattle.arbiter.specs.Steps.{parts, step, run}
 use Rattle.arbiter.specs.Audit.{OneConnected, ApartUnowned}
 use Rattle.arbiter.proofs.Choice.{either, same-self}

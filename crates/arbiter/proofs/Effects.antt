@@ -2,7 +2,9 @@
 -- Assumes nothing.
 use mathlib.Core.Path.{_≡_, refl, sym, ap, _∙_}
 use mathlib.Core.Bool.{true≢false, false≢true, and-false}
-use Rattle.arbiter.specs.Types.{ℕ, Bool, true, false, not, _&&_, _||_, Master, Zero, One, Turn, Nobody, Claims, Owns, Port, Open, Register, Id, Contr, Status, Rt, IntStatus, IntMask, MailLow, MailHigh, Side, Bus, Device, Event, Command, Write, Read, Stop, Pair, Lines, Tick, Pulse, Reset, GeneralCall}
+use Rattle.arbiter.specs.Types.{ℕ, Bool, true, false, not, _&&_, _||_, Master, Zero, One, Turn, Nobody, Claims, Owns, Port, Open, Register, Id, Contr}
+use Rattle.arbiter.specs.Types.{Status, Rt, IntStatus, IntMask, MailLow, MailHigh, Side, Bus, Device, Event, Command, Write, Read, Stop, Pair, Lines}
+use Rattle.arbiter.specs.Types.{Tick, Pulse, Reset, GeneralCall}
 use Rattle.arbiter.specs.Rules.{rolls}
 use Rattle.arbiter.specs.Words.{if_then_else_, bit, partner, side}
 use Rattle.arbiter.specs.Parts.{withPort}
@@ -138,7 +140,8 @@ commanded-moved granted c s =
 
 read-moved : (granted : Bool) (s : Side) → Moved false false granted s (readerSide s)
 read-moved granted s =
-    either (λ (x : Side). Moved false false granted s (withPort Open x)) (s .auto) (λ h. opens granted s _ refl refl refl) (λ h. opens granted s _ refl refl refl)
+    either (λ (x : Side). Moved false false granted s (withPort Open x)) (s .auto) (λ h. opens granted s _ refl refl refl)
+    (λ h. opens granted s _ refl refl refl)
 
 -- ---- both sides
 
@@ -263,7 +266,8 @@ drives-counts g c MailHigh v b = refl
 pub effect-counts : (e : Event) (d : Device) → isReset e ≡ false → counts (effect e d) ≡ (if isTick e then counts (ticked d) else counts d)
 unfolding effect written paired wasRead lined
 effect-counts (Command k c) d h = refl
-effect-counts (Write k v) d h = ap (λ b. (b .0, b .1, d .arb .reserve, b .2, b .3)) (drives-counts (owns k d) ((side k d) .contr .busconnect) ((side k d) .pointer) v (d .bus))
+effect-counts (Write k v) d h =
+    ap (λ b. (b .0, b .1, d .arb .reserve, b .2, b .3)) (drives-counts (owns k d) ((side k d) .contr .busconnect) ((side k d) .pointer) v (d .bus))
 effect-counts (Read k) d h = refl
 effect-counts (Stop k) d h = refl
 effect-counts (Pair v0 v1) d h =

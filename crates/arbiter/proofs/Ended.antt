@@ -3,7 +3,9 @@
 use mathlib.Core.Path.{_≡_, refl, sym, ap, _∙_}
 use mathlib.Core.Bool.{Bool, true, false, not, _&&_, true≢false, false≢true, and-eq-true-iff, and-not-self}
 use borrow.Author.Tests.{not-true}
-use Rattle.arbiter.specs.Types.{ℕ, Master, Zero, One, Ground, Turn, Nobody, Claims, Owns, Register, Id, Contr, Status, Rt, IntStatus, IntMask, MailLow, MailHigh, Control, Side, Clock, Device, Event, Command, Write, Read, Stop, Pair, Lines, Tick, Pulse, Reset, GeneralCall, Stepped}
+use Rattle.arbiter.specs.Types.{ℕ, Master, Zero, One, Ground, Turn, Nobody, Claims, Owns, Register, Id, Contr, Status, Rt, IntStatus, IntMask, MailLow}
+use Rattle.arbiter.specs.Types.{MailHigh, Control, Side, Clock, Device, Event, Command, Write, Read, Stop, Pair, Lines, Tick, Pulse, Reset, GeneralCall}
+use Rattle.arbiter.specs.Types.{Stepped}
 use Rattle.arbiter.specs.Rules.{idleLimit, rolls}
 use Rattle.arbiter.specs.Words.{partner, sameMaster, side, device}
 use Rattle.arbiter.specs.Parts.{withContr, withSide}
@@ -11,7 +13,8 @@ use Rattle.arbiter.specs.State.{ownsTurn, owns}
 use Rattle.arbiter.specs.Registers.{disconnected, withdraws, controlOf, ownWritten, mailWritten, turnWritten}
 use Rattle.arbiter.specs.Events.{softReset}
 use Rattle.arbiter.specs.Effects.{writeRisen, partnerSide, holdAsked, written, paired, wasRead, lined, ticked, freshSide, wasReset, effect}
-use Rattle.arbiter.specs.Order.{isReset, isTick, clockOf, levels, runsOut, lost, lossesFrom, losses, cutFrom, cut, claimAfter, claim, granted, grantFrom, grant, connect}
+use Rattle.arbiter.specs.Order.{isReset, isTick, clockOf, levels, runsOut, lost, lossesFrom, losses, cutFrom, cut, claimAfter, claim, granted, grantFrom}
+use Rattle.arbiter.specs.Order.{grant, connect}
 use Rattle.arbiter.specs.Steps.{parts, taken, refused}
 use Rattle.arbiter.specs.Audit.{EndsDisconnected}
 use Rattle.arbiter.proofs.Choice.{either, split, if-true, if-false}
@@ -150,7 +153,8 @@ effect-off m (GeneralCall k b) d o =
 -- ---- parts 3 to 7
 
 -- a side put in place that asks no more than the one before
-pub put-off : (m k : Master) (s : Side) (d : Device) → (asksOn k d ≡ false → s .contr .busconnect ≡ false) → asksOn m d ≡ false → asksOn m (withSide k s d) ≡ false
+pub put-off : (m k : Master) (s : Side) (d : Device) → (asksOn k d ≡ false → s .contr .busconnect ≡ false) → asksOn m d ≡ false → asksOn m (withSide k s d)
+    ≡ false
 put-off Zero Zero s d f h = f h
 put-off Zero One s d f h = h
 put-off One Zero s d f h = h

@@ -2,7 +2,9 @@
 -- Assumes nothing.
 use mathlib.Core.Path.{_≡_, refl, sym, ap, ap₂, _∙_, subst}
 use mathlib.Core.Bool.{true≢false, false≢true, and-eq-true-iff, or-false}
-use Rattle.arbiter.specs.Types.{ℕ, Bool, true, false, not, _&&_, _||_, List, [], _∷_, eqb, Master, Zero, One, Ground, Sole, Priority, LastGranted, Turn, Nobody, Claims, Owns, Device, Raw, Event, Command, Write, Read, Stop, Pair, Lines, Tick, Pulse, Reset, GeneralCall, Reads, Stepped}
+use Rattle.arbiter.specs.Types.{ℕ, Bool, true, false, not, _&&_, _||_, List, [], _∷_, eqb, Master, Zero, One, Ground, Sole, Priority, LastGranted, Turn}
+use Rattle.arbiter.specs.Types.{Nobody, Claims, Owns, Device, Raw, Event, Command, Write, Read, Stop, Pair, Lines, Tick, Pulse, Reset, GeneralCall, Reads}
+use Rattle.arbiter.specs.Types.{Stepped}
 use Rattle.arbiter.specs.Words.{if_then_else_, partner, sameMaster, side}
 use Rattle.arbiter.specs.State.{atRest, ownsTurn, claimsTurn}
 use Rattle.arbiter.specs.Events.{decode, softReset}
@@ -211,7 +213,8 @@ parts-made m e d before h =
 
 -- ---- four bytes, and a run
 
-next-stays : (m : Master) (r : Raw) (d : Device) → hasClaim m d ≡ true → hasClaim m (next d r) ≡ true → turnGround ((next d r) .arb .turn) ≡ turnGround (d .arb .turn)
+next-stays : (m : Master) (r : Raw) (d : Device) → hasClaim m d ≡ true → hasClaim m (next d r) ≡ true → turnGround ((next d r) .arb .turn)
+    ≡ turnGround (d .arb .turn)
 next-stays m r d b a =
     elim (met r d) [
       | refuses x ↦ ap (λ (n : Device). turnGround (n .arb .turn)) (x .after)
@@ -314,7 +317,8 @@ neither-has One (Owns Zero g) h p = absurd (true≢false p)
 neither-has One (Owns One g) h p = absurd (true≢false h)
 
 -- A claim stays its master's as long as that requests.
-pub still-there : (p : Master) (e : Event) (d : Device) → hasTurn p (d .arb .turn) ≡ true → requests p (parts e d) ≡ true → hasTurn p ((parts e d) .arb .turn) ≡ true
+pub still-there : (p : Master) (e : Event) (d : Device) → hasTurn p (d .arb .turn) ≡ true → requests p (parts e d) ≡ true → hasTurn p ((parts e d) .arb .turn)
+    ≡ true
 unfolding parts
 still-there p e d before q = claimed-by (hasTurn p) (awarded-has p) e x ∙ go (left e d)
   where

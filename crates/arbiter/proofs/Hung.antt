@@ -39,7 +39,8 @@ counted-least limit n k true h =
 module _ (limit : ℕ) (low : Device → ℕ) (ends : Raw → Device → Bool)
     (law : (r : Raw) (d : Device) → Still (d .bus) → low (next d r) ≡ (if ends r d then 0 else countedTo limit (tick r d) (low d))) where
   -- Through a stretch with as many ticks as the limit wants, the count comes to its limit.
-  pub reaches : (rs : List Raw) (d : Device) → Still (d .bus) → low d ≤ limit → never ends d rs ≡ true → limit ≤ low d + ticksIn d rs → low (runFrom d rs) ≡ limit
+  pub reaches : (rs : List Raw) (d : Device) → Still (d .bus) → low d ≤ limit → never ends d rs ≡ true → limit ≤ low d + ticksIn d rs → low (runFrom d rs)
+      ≡ limit
   unfolding runFrom ticksIn
   reaches [] d s top un long = omega arith
   reaches (r ∷ rs) d s top un long =
@@ -65,7 +66,13 @@ module _ (limit : ℕ) (low : Device → ℕ) (ends : Raw → Device → Bool)
   lately [] d s = all refl (omega arith)
   lately (r ∷ rs) d s =
       elim (lately rs (next d r) (next-still r d s)) [
-        | part f ↦ part (record { before = r ∷ f .before; since = f .since; whole = ap (λ (l : List Raw). r ∷ l) (f .whole); unbroken = f .unbroken; long = f .long })
+        | part f ↦ part (record {
+          before = r ∷ f .before;
+          since = f .since;
+          whole = ap (λ (l : List Raw). r ∷ l) (f .whole);
+          unbroken = f .unbroken;
+          long = f .long;
+        })
         | all un long ↦
             split (ends r d)
             (λ h. let c : low (next d r) ≡ 0 = law r d s ∙ if-true _ _ h in
@@ -84,7 +91,8 @@ unfolding runFrom
 count-top limit low ends law [] d s top = top
 count-top limit low ends law (r ∷ rs) d s top =
     count-top limit low ends law rs (next d r) (next-still r d s)
-    (subst (λ (n : ℕ). n ≤ limit) (sym (law r d s)) (either (λ (n : ℕ). n ≤ limit) (ends r d) (λ h. omega arith) (λ h. counted-top limit (low d) (tick r d) top)))
+    (subst (λ (n : ℕ). n ≤ limit) (sym (law r d s))
+    (either (λ (n : ℕ). n ≤ limit) (ends r d) (λ h. omega arith) (λ h. counted-top limit (low d) (tick r d) top)))
 
 -- At power-up both lines are high and both counts 0.
 fresh-still : (k : Kind) → Still ((powerUp k) .bus)
@@ -92,13 +100,20 @@ unfolding powerUp
 fresh-still k = (λ h. refl, λ h. refl, λ h. refl)
 
 module _ (limit : ℕ) (low : Device → ℕ) (ends : Raw → Device → Bool)
-    (law : (r : Raw) (d : Device) → Still (d .bus) → low (next d r) ≡ (if ends r d then 0 else countedTo limit (tick r d) (low d))) (fresh : (k : Kind) → low (powerUp k) ≡ 0) where
+    (law : (r : Raw) (d : Device) → Still (d .bus) → low (next d r) ≡ (if ends r d then 0 else countedTo limit (tick r d) (low d)))
+    (fresh : (k : Kind) → low (powerUp k) ≡ 0) where
   -- The count is at its limit exactly where the run ends in such a stretch.
   pub stuck : (k : Kind) (rs : List Raw) → low (run k rs) ≡ limit → Stretch ends limit k rs
   unfolding run runFrom
   stuck k rs h =
       elim (lately limit low ends law rs (powerUp k) (fresh-still k)) [
-        | part f ↦ record { before = f .before; since = f .since; whole = f .whole; unbroken = f .unbroken; long = subst (λ (n : ℕ). n ≤ ticksIn (run k (f .before)) (f .since)) h (f .long) }
+        | part f ↦ record {
+          before = f .before;
+          since = f .since;
+          whole = f .whole;
+          unbroken = f .unbroken;
+          long = subst (λ (n : ℕ). n ≤ ticksIn (run k (f .before)) (f .since)) h (f .long);
+        }
         | all un long ↦ record { before = []; since = rs; whole = refl; unbroken = un; long = let none = fresh k in omega arith }
       ]
 
@@ -111,7 +126,8 @@ module _ (limit : ℕ) (low : Device → ℕ) (ends : Raw → Device → Bool)
       let enough : limit ≤ ticksIn d (s .since) = s .long in
       ap (λ (l : List Raw). low (run k l)) (s .whole)
       ∙ ap low (from-append (s .before) (s .since) (powerUp k))
-      ∙ reaches limit low ends law (s .since) d still (count-top limit low ends law (s .before) (powerUp k) (fresh-still k) (omega arith)) (s .unbroken) (omega arith)
+      ∙ reaches limit low ends law (s .since) d still (count-top limit low ends law (s .before) (powerUp k) (fresh-still k) (omega arith)) (s .unbroken)
+      (omega arith)
 
 -- ---- BUS_HUNG
 

@@ -41,7 +41,8 @@ idle-found r d ok idle low =
       | refuses x ↦
           (ap (λ (n : Device). n .bus .idle) (x .middle)
           ∙ sym (add-zero (d .bus .idle))
-          ∙ sym (ap₂ (λ (a b : Bool). if a then d .bus .idle + worth 1 b else 0) (ap (λ (n : Device). isIdle (n .bus)) (x .middle) ∙ idle) (x .none λ f y. isTick f)))
+          ∙ sym (ap₂ (λ (a b : Bool). if a then d .bus .idle + worth 1 b else 0) (ap (λ (n : Device). isIdle (n .bus)) (x .middle) ∙ idle)
+          (x .none λ f y. isTick f)))
       | takes e x ↦
           (let b : Device = mid e d in
           ap (λ (n : Device). n .bus .idle) (x .middle)
@@ -58,7 +59,8 @@ calm false false sda h = absurd (false≢true h)
 calm false true false h = absurd (false≢true h)
 calm false true true h = refl
 
-tick-idle : (limit : ℕ) (b : Bus) → b .hold ≡ 0 → isIdle b ≡ true → isIdle (settledBus (busyAfter false b (tickedBus limit b)) (sclChanged b (tickedBus limit b)) (tickedBus limit b)) ≡ true
+tick-idle : (limit : ℕ) (b : Bus) → b .hold ≡ 0 → isIdle b ≡ true
+    → isIdle (settledBus (busyAfter false b (tickedBus limit b)) (sclChanged b (tickedBus limit b)) (tickedBus limit b)) ≡ true
 tick-idle limit b z idle =
     let scl : Bool = sclHigh b in
     let sda : Bool = sdaHigh b in

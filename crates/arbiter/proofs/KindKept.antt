@@ -1,12 +1,14 @@
 -- Every step keeps the kind of part, so that a run of a kind is of that kind. And what else is needed of a kind's rules: its idle limit is not 0.
 -- Assumes nothing.
 use mathlib.Core.Path.{_≡_, refl, ap, _∙_}
-use Rattle.arbiter.specs.Types.{ℕ, Bool, true, false, List, eqb, Turn, Nobody, Claims, Owns, Kind, Pca9641, Tpt29641, Clock, Device, Raw, Event, Command, Write, Read, Stop, Pair, Lines, Tick, Pulse, Reset, GeneralCall, Decoded, Reads, UnknownKind, BadField}
+use Rattle.arbiter.specs.Types.{ℕ, Bool, true, false, List, eqb, Turn, Nobody, Claims, Owns, Kind, Pca9641, Tpt29641, Clock, Device, Raw, Event, Command}
+use Rattle.arbiter.specs.Types.{Write, Read, Stop, Pair, Lines, Tick, Pulse, Reset, GeneralCall, Decoded, Reads, UnknownKind, BadField}
 use Rattle.arbiter.specs.Rules.{rulesOf, limitOf, idleLimit}
 use Rattle.arbiter.specs.Words.{side}
 use Rattle.arbiter.specs.Events.{decode, inSequence, softReset}
 use Rattle.arbiter.specs.Effects.{written, paired, wasRead, lined, ticked, wasReset, powerUp, effect}
-use Rattle.arbiter.specs.Order.{isReset, isTick, clockOf, runsOut, levels, lost, lossesFrom, losses, cutFrom, cut, claim, granted, grantFrom, grant, connect}
+use Rattle.arbiter.specs.Order.{isReset, isTick, clockOf, runsOut, levels, lost, lossesFrom, losses, cutFrom, cut, claim, granted, grantFrom, grant}
+use Rattle.arbiter.specs.Order.{connect}
 use Rattle.arbiter.specs.Steps.{parts, run}
 use Rattle.arbiter.specs.AuditWords.{next, levelledBy, levelled}
 use Rattle.arbiter.specs.Audit.{KeepsKind, RunsOfKind}

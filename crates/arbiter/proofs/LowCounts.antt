@@ -4,7 +4,8 @@ use mathlib.Core.Path.{_≡_, refl, sym, ap, ap₂, _∙_, subst}
 use mathlib.Core.Bool.{true≢false, false≢true, and-false, or-false}
 use native.Mathlib.Omega.{arith}
 use borrow.Author.Tests.{eq-eqb, eqb-true}
-use Rattle.arbiter.specs.Types.{ℕ, _-_, Bool, true, false, not, _&&_, _||_, eqb, Bus, Device, Raw, Event, Command, Write, Read, Stop, Pair, Lines, Tick, Pulse, Reset, GeneralCall}
+use Rattle.arbiter.specs.Types.{ℕ, _-_, Bool, true, false, not, _&&_, _||_, eqb, Bus, Device, Raw, Event, Command, Write, Read, Stop, Pair, Lines, Tick}
+use Rattle.arbiter.specs.Types.{Pulse, Reset, GeneralCall}
 use Rattle.arbiter.specs.Words.{if_then_else_}
 use Rattle.arbiter.specs.State.{sclHigh, sdaHigh, sclHungLimit, sdaHungLimit}
 use Rattle.arbiter.specs.Events.{softReset}
@@ -113,7 +114,8 @@ next-still r d s = step-keeps (λ (x : Device). Still (x .bus)) (λ e x h. parts
 -- One law for either line: `low` is its count, and `ends` says of the levels before and after an event that its stretch is over.
 module _ (limit : ℕ) (low : Device → ℕ) (ends : Bus → Bus → Bool)
     (taken-back : (e : Event) (d : Device) → isReset e ≡ true → low (parts e d) ≡ 0)
-    (counted : (e : Event) (d : Device) → isReset e ≡ false → low (parts e d) ≡ (if ends (d .bus) ((parts e d) .bus) then 0 else countedTo limit (isTick e) (low d)))
+    (counted : (e : Event) (d : Device) → isReset e ≡ false → low (parts e d)
+    ≡ (if ends (d .bus) ((parts e d) .bus) then 0 else countedTo limit (isTick e) (low d)))
     (stays : (d : Device) → Still (d .bus) → low d ≡ (if ends (d .bus) (d .bus) then 0 else low d)) where
   -- what the count is after an event of which it is known whether it is a reset and a tick, and which device it leaves
   abbrev Counted : Device → Bool → Bool → Device → Type 0
@@ -125,7 +127,8 @@ module _ (limit : ℕ) (low : Device → ℕ) (ends : Bus → Bus → Bool)
         | refuses x ↦
             subst (Counted d (reset r d) (tick r d)) (sym (x .after))
             (stays d s
-            ∙ ap₂ (λ (a t : Bool). if a || ends (d .bus) (d .bus) then 0 else countedTo limit t (low d)) (sym (x .none λ f y. isReset f)) (sym (x .none λ f y. isTick f)))
+            ∙ ap₂ (λ (a t : Bool). if a || ends (d .bus) (d .bus) then 0 else countedTo limit t (low d)) (sym (x .none λ f y. isReset f))
+            (sym (x .none λ f y. isTick f)))
         | takes e x ↦
             subst (Counted d (reset r d) (tick r d)) (sym (x .after))
             (subst (λ (t : Bool). Counted d (reset r d) t (parts e d)) (sym (x .same λ f y. isTick f))
@@ -140,7 +143,8 @@ kept-low : (high : Bool) (n : ℕ) → (high ≡ true → n ≡ 0) → n ≡ (if
 kept-low true n h = h refl
 kept-low false n h = refl
 
-pub scl-next : (r : Raw) (d : Device) → Still (d .bus) → (next d r) .bus .lowscl ≡ (if endsLowScl r d then 0 else countedTo sclHungLimit (tick r d) (d .bus .lowscl))
+pub scl-next : (r : Raw) (d : Device) → Still (d .bus) → (next d r) .bus .lowscl
+    ≡ (if endsLowScl r d then 0 else countedTo sclHungLimit (tick r d) (d .bus .lowscl))
 scl-next =
     low-next sclHungLimit (λ (d : Device). d .bus .lowscl) (λ (before after : Bus). sclHigh after) (λ e d h. reset-parts e d h .0) scl-parts
     (λ d s. kept-low (sclHigh (d .bus)) (d .bus .lowscl) (s .0))
@@ -150,12 +154,16 @@ changed-moves : (before after : Bus) → sclChanged before after ≡ not (sameLe
 changed-moves before after =
     split (sclHigh before) (λ p. split (sclHigh after) (λ q. simp (p, q)) (λ q. simp (p, q))) (λ p. split (sclHigh after) (λ q. simp (p, q)) (λ q. simp (p, q)))
 
-pub sda-next : (r : Raw) (d : Device) → Still (d .bus) → (next d r) .bus .lowsda ≡ (if endsLowSda r d then 0 else countedTo sdaHungLimit (tick r d) (d .bus .lowsda))
+pub sda-next : (r : Raw) (d : Device) → Still (d .bus) → (next d r) .bus .lowsda
+    ≡ (if endsLowSda r d then 0 else countedTo sdaHungLimit (tick r d) (d .bus .lowsda))
 sda-next r d s =
-    low-next sdaHungLimit (λ (d : Device). d .bus .lowsda) (λ (before after : Bus). sdaHigh after || sclChanged before after) (λ e d h. reset-parts e d h .1) sda-parts
+    low-next sdaHungLimit (λ (d : Device). d .bus .lowsda) (λ (before after : Bus). sdaHigh after || sclChanged before after) (λ e d h. reset-parts e d h .1)
+    sda-parts
     (λ d s. kept-low (sdaHigh (d .bus)) (d .bus .lowsda) (s .1)
-    ∙ ap (λ (over : Bool). if over then 0 else d .bus .lowsda) (sym (ap (λ (c : Bool). sdaHigh (d .bus) || c) (scl-stays (d .bus)) ∙ or-false (sdaHigh (d .bus))))) r d s
-    ∙ ap (λ (moved : Bool). if reset r d || (sdaHigh ((next d r) .bus) || moved) then 0 else countedTo sdaHungLimit (tick r d) (d .bus .lowsda)) (changed-moves (d .bus) ((next d r) .bus))
+    ∙ ap (λ (over : Bool). if over then 0 else d .bus .lowsda)
+    (sym (ap (λ (c : Bool). sdaHigh (d .bus) || c) (scl-stays (d .bus)) ∙ or-false (sdaHigh (d .bus))))) r d s
+    ∙ ap (λ (moved : Bool). if reset r d || (sdaHigh ((next d r) .bus) || moved) then 0 else countedTo sdaHungLimit (tick r d) (d .bus .lowsda))
+    (changed-moves (d .bus) ((next d r) .bus))
 
 -- ---- where SCL falls, its count starts, and no tick does that
 

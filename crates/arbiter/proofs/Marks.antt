@@ -7,7 +7,8 @@ use Rattle.arbiter.specs.Straps.{addressOf}
 use Rattle.arbiter.specs.Registers.{contrByte, statusByte, registerByte, isAsserted, ownWritten, mailWritten, drivesWritten, turnWritten}
 use Rattle.arbiter.specs.Events.{decode, inSequence, acknowledged, outcome}
 use Rattle.arbiter.specs.Effects.{commanded, written, paired, wasRead, lined, ticked, freshSide, wasReset, powerUp, effect}
-use Rattle.arbiter.specs.Order.{levels, lost, lossesFrom, losses, cutFrom, cut, winner, claim, granted, grantFrom, grant, joined, clocked, keptJoined, connectFrom, connect}
+use Rattle.arbiter.specs.Order.{levels, lost, lossesFrom, losses, cutFrom, cut, winner, claim, granted, grantFrom, grant, joined, clocked, keptJoined}
+use Rattle.arbiter.specs.Order.{connectFrom, connect}
 use Rattle.arbiter.specs.Steps.{parts, ownerByte, linesByte, byteRead, refused, taken, stepEvent, stepDecoded, step, runFrom, answersFrom, run}
 use Rattle.arbiter.specs.Traces.{rawsIn, readKind, readCounted, readStrapped, readTrace}
 use Rattle.arbiter.specs.Listing.{listingOf, listing}

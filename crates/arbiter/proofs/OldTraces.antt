@@ -7,11 +7,13 @@ use lib.ListN.{length-append, length-drop, List·getD-append}
 use lib.Seq.{drop-append-le, getD-append-add, getD-append-seam}
 use borrow.Author.Tests.{eqb-true, not-false, ltb-false, lt-ltb}
 use Prim.Native.Nat.{_≤_, _<_}
-use Rattle.arbiter.specs.Types.{ℕ, _+_, _*_, not, List, [], _∷_, _++_, eqb, ltb, length, drop, Pca9641, Raw, Strapped, Address, Unlisted, TraceCut, Accepted, Refused}
+use Rattle.arbiter.specs.Types.{ℕ, _+_, _*_, not, List, [], _∷_, _++_, eqb, ltb, length, drop, Pca9641, Raw, Strapped, Address, Unlisted, TraceCut}
+use Rattle.arbiter.specs.Types.{Accepted, Refused}
 use Rattle.arbiter.specs.Straps.{addressOf}
 use Rattle.arbiter.specs.Effects.{powerUp}
 use Rattle.arbiter.specs.Steps.{answersFrom}
-use Rattle.arbiter.specs.Traces.{pinCount, pinBytes, headBytes, eventBytes, mostEvents, eventsEnd, wholeBytes, kindCount, kindNumber, kindSection, kindAt, byteAt, pinsIn, countIn, rawsIn, eventsIn, readKind, readTrace}
+use Rattle.arbiter.specs.Traces.{pinCount, pinBytes, headBytes, eventBytes, mostEvents, eventsEnd, wholeBytes, kindCount, kindNumber, kindSection, kindAt}
+use Rattle.arbiter.specs.Traces.{byteAt, pinsIn, countIn, rawsIn, eventsIn, readKind, readTrace}
 use Rattle.arbiter.specs.OldTraces.{oldCounted, oldStrapped, oldNumber, converted, ConvertedAccepted, OldRefused}
 use Rattle.arbiter.proofs.Choice.{passed}
 use Rattle.arbiter.proofs.Traces.{reads-on, accepts, raws-before}

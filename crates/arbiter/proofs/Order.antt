@@ -3,7 +3,8 @@
 use mathlib.Core.Path.{_≡_, refl, sym, ap, _∙_, subst}
 use mathlib.Core.Bool.{true≢false, false≢true, and-eq-true-iff}
 use borrow.Author.Tests.{eqb-true}
-use Rattle.arbiter.specs.Types.{ℕ, Bool, true, false, _&&_, eqb, Master, Zero, One, Ground, Turn, Nobody, Claims, Owns, Port, Side, Bus, Kind, Device, Clock, Event}
+use Rattle.arbiter.specs.Types.{ℕ, Bool, true, false, _&&_, eqb, Master, Zero, One, Ground, Turn, Nobody, Claims, Owns, Port, Side, Bus, Kind, Device}
+use Rattle.arbiter.specs.Types.{Clock, Event}
 use Rattle.arbiter.specs.Words.{if_then_else_, side}
 use Rattle.arbiter.specs.Parts.{withTurn, withSide, withArb}
 use Rattle.arbiter.specs.State.{atRest}
@@ -194,7 +195,8 @@ pub owner-same : (k m : Master) {g j : Ground} → Owns k g ≡ Owns m j → k �
 owner-same k m h = cc
 
 -- and a claimant owns after part 6 only by a new grant.
-grant-fresh : (m : Master) {j : Ground} (t : Turn) (d : Device) → owned t ≡ false → (grantFrom t (turned t d)) .arb .turn ≡ Owns m j → Fresh m (grantFrom t (turned t d))
+grant-fresh : (m : Master) {j : Ground} (t : Turn) (d : Device) → owned t ≡ false → (grantFrom t (turned t d)) .arb .turn ≡ Owns m j
+    → Fresh m (grantFrom t (turned t d))
 unfolding grantFrom granted
 grant-fresh m Nobody d u h = absurd (false≢true (ap owned h))
 grant-fresh m {j} (Claims k g) d u h = go (atRest ((side k d) .port) && eqb (d .bus .hold) 0) refl h

@@ -14,7 +14,8 @@ use Rattle.arbiter.specs.Steps.{parts}
 use Rattle.arbiter.specs.AuditWords.{requests, resting, letsGo}
 use Rattle.arbiter.proofs.Choice.{either, split, if-true, if-false, same-not}
 use Rattle.arbiter.proofs.Effects.{effect-side, ownerLetsGo, effect-turn, effect-counts}
-use Rattle.arbiter.proofs.Order.{still, side-kept, owned, awarded, after, after-sides, after-owned, losses-unowned, after-turn, Fresh, after-fresh, owner-same}
+use Rattle.arbiter.proofs.Order.{still, side-kept, owned, awarded, after, after-sides, after-owned, losses-unowned, after-turn, Fresh, after-fresh}
+use Rattle.arbiter.proofs.Order.{owner-same}
 
 -- the device after parts 1 and 2 of e's step, where part 3 looks for a loss
 abbrev pub mid : Event → Device → Device
@@ -214,7 +215,8 @@ module _ (p : Master) {g : Ground} (e : Event) (d : Device) (ok : isReset e ≡ 
 -- ---- where an owner comes from
 
 -- Part 3 leaves an owner only if it owned before and has not lost.
-unlost-owner : (m : Master) {j : Ground} (t : Turn) (d : Device) → d .arb .turn ≡ t → (lossesFrom t d) .arb .turn ≡ Owns m j → (d .arb .turn ≡ Owns m j) × (expired m d ≡ false)
+unlost-owner : (m : Master) {j : Ground} (t : Turn) (d : Device) → d .arb .turn ≡ t → (lossesFrom t d) .arb .turn ≡ Owns m j → (d .arb .turn ≡ Owns m j)
+    × (expired m d ≡ false)
 unfolding lossesFrom lost
 unlost-owner m Nobody d t h = absurd (false≢true (ap owned (sym t ∙ h)))
 unlost-owner m (Claims k g) d t h = absurd (false≢true (ap owned (sym t ∙ h)))

@@ -2,7 +2,8 @@
 -- Assumes nothing.
 use mathlib.Core.Path.{_≡_, refl, sym, ap, _∙_, subst}
 use mathlib.Core.Bool.{false≢true}
-use Rattle.arbiter.specs.Types.{Bool, true, false, _&&_, Device, Raw, Event, Command, Write, Read, Stop, Pair, Lines, Tick, Pulse, Reset, GeneralCall, Decoded, Reads, Stepped}
+use Rattle.arbiter.specs.Types.{Bool, true, false, _&&_, Device, Raw, Event, Command, Write, Read, Stop, Pair, Lines, Tick, Pulse, Reset, GeneralCall}
+use Rattle.arbiter.specs.Types.{Decoded, Reads, Stepped}
 use Rattle.arbiter.specs.Words.{if_then_else_}
 use Rattle.arbiter.specs.Events.{decode, inSequence}
 use Rattle.arbiter.specs.Order.{isReset, isTick}

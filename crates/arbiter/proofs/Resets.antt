@@ -2,7 +2,8 @@
 -- Assumes nothing.
 use mathlib.Core.Path.{_≡_, refl, sym, ap, _∙_}
 use mathlib.Core.Bool.{false≢true}
-use Rattle.arbiter.specs.Types.{ℕ, Bool, true, false, _||_, Master, Zero, One, Turn, Nobody, Device, Event, Command, Write, Read, Stop, Pair, Lines, Tick, Pulse, Reset, GeneralCall}
+use Rattle.arbiter.specs.Types.{ℕ, Bool, true, false, _||_, Master, Zero, One, Turn, Nobody, Device, Event, Command, Write, Read, Stop, Pair, Lines, Tick}
+use Rattle.arbiter.specs.Types.{Pulse, Reset, GeneralCall}
 use Rattle.arbiter.specs.Words.{if_then_else_, side}
 use Rattle.arbiter.specs.State.{ownsTurn, owns}
 use Rattle.arbiter.specs.Effects.{freshSide, holdAsked, wasReset, effect}

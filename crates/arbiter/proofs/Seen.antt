@@ -4,7 +4,8 @@ use Prim.Native.Nat.{_<_}
 use native.Mathlib.Omega.{arith}
 use mathlib.Core.Path.{_≡_, refl, sym, ap, ap₂, _∙_}
 use mathlib.Core.Bool.{Bool, true, false, not, _&&_, _||_, Bool·beq, false≢true, and-eq-true-iff, and-true, and-false}
-use Rattle.arbiter.specs.Types.{ℕ, _+_, _*_, eqb, ltb, Master, Zero, One, Ground, Sole, Priority, LastGranted, Turn, Nobody, Claims, Owns, Contr, Status, Control, Side, Bus, Switch, Apart, Initialising, Closed, Arbitration, Device, Raw, Stepped}
+use Rattle.arbiter.specs.Types.{ℕ, _+_, _*_, eqb, ltb, Master, Zero, One, Ground, Sole, Priority, LastGranted, Turn, Nobody, Claims, Owns, Contr, Status}
+use Rattle.arbiter.specs.Types.{Control, Side, Bus, Switch, Apart, Initialising, Closed, Arbitration, Device, Raw, Stepped}
 use Rattle.arbiter.specs.Words.{bit, worth, byteOf, sameMaster, partner, side}
 use Rattle.arbiter.specs.State.{ownsTurn, owns, closedFor, isInitialising, sclHigh, sdaHigh, busHung}
 use Rattle.arbiter.specs.Registers.{contrByte, statusByte, registerByte, readsAt}

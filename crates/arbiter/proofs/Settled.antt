@@ -2,14 +2,18 @@
 -- Assumes nothing.
 use mathlib.Core.Path.{_≡_, refl, sym, ap, ap₂, subst, _∙_}
 use mathlib.Core.Bool.{Bool, true, false, not, _&&_, _||_, false≢true, and-eq-true-iff, and-false, or-false}
-use Rattle.arbiter.specs.Types.{ℕ, List, eqb, Master, Zero, One, Ground, Sole, Turn, Nobody, Claims, Owns, Side, Bus, Switch, Apart, Initialising, Closed, Clock, NoClock, Kind, Device, Raw, Event}
+use Rattle.arbiter.specs.Types.{ℕ, List, eqb, Master, Zero, One, Ground, Sole, Turn, Nobody, Claims, Owns, Side, Bus, Switch, Apart, Initialising, Closed}
+use Rattle.arbiter.specs.Types.{Clock, NoClock, Kind, Device, Raw, Event}
 use Rattle.arbiter.specs.Rules.{limitOf, idleLimit}
 use Rattle.arbiter.specs.Words.{if_then_else_, sameMaster, side}
-use Rattle.arbiter.specs.Parts.{withBusConnect, withBusInit, withContr, withDrives, withIdle, withTurn, withSwitch, withInitFail, withSide, withBus, withArb}
+use Rattle.arbiter.specs.Parts.{withBusConnect, withBusInit, withContr, withDrives, withIdle, withTurn, withSwitch, withInitFail, withSide, withBus}
+use Rattle.arbiter.specs.Parts.{withArb}
 use Rattle.arbiter.specs.State.{ownsTurn, owns, atRest, sclHigh, sdaHigh, isIdle}
 use Rattle.arbiter.specs.Registers.{released}
 use Rattle.arbiter.specs.Effects.{freshSide, powerUp, effect}
-use Rattle.arbiter.specs.Order.{isReset, isTick, clockOf, busyAfter, sclChanged, settledBus, levels, runsOut, lost, lossesFrom, losses, cutFrom, cut, claimBy, winner, groundOf, newClaim, claimAfter, claim, granted, grantFrom, grant, switched, joined, clocked, keptJoined, connectFrom, connect}
+use Rattle.arbiter.specs.Order.{isReset, isTick, clockOf, busyAfter, sclChanged, settledBus, levels, runsOut, lost, lossesFrom, losses, cutFrom, cut}
+use Rattle.arbiter.specs.Order.{claimBy, winner, groundOf, newClaim, claimAfter, claim, granted, grantFrom, grant, switched, joined, clocked, keptJoined}
+use Rattle.arbiter.specs.Order.{connectFrom, connect}
 use Rattle.arbiter.specs.Steps.{parts, run}
 use Rattle.arbiter.specs.AuditWords.{requests}
 use Rattle.arbiter.specs.Audit.{RefusedUnchanged, partsAgain, AllSettled}
@@ -100,14 +104,17 @@ module _ (x y : Device) (p : bare x ≡ bare y) where
   ready-by : Ready x → Ready y
   ready-by (kept, claimed, waits) = (
     kept-by kept,
-    sym (claim-bare (y .arb .turn) y) ∙ ap (λ (d : Device). claimAfter (d .arb .turn) d) (sym p) ∙ claim-bare (x .arb .turn) x ∙ claimed ∙ ap (λ (d : Device). d .arb .turn) p,
+    sym (claim-bare (y .arb .turn) y) ∙ ap (λ (d : Device). claimAfter (d .arb .turn) d) (sym p) ∙ claim-bare (x .arb .turn) x ∙ claimed
+        ∙ ap (λ (d : Device). d .arb .turn) p,
     sym (due-bare (y .arb .turn) y) ∙ ap (λ (d : Device). isDue (d .arb .turn) d) (sym p) ∙ due-bare (x .arb .turn) x ∙ waits,
   )
 
 -- one side put in place of another that is the same but for those
 side-bare : (m : Master) (s : Side) (d : Device) → bareSide s ≡ bareSide (side m d) → bare (withSide m s d) ≡ bare d
-side-bare Zero s d h = λ i. record { side0 = h i; side1 = bareSide (d .side1); bus = d .bus; arb = withInitFail false (withSwitch Apart (d .arb)); kind = d .kind }
-side-bare One s d h = λ i. record { side0 = bareSide (d .side0); side1 = h i; bus = d .bus; arb = withInitFail false (withSwitch Apart (d .arb)); kind = d .kind }
+side-bare Zero s d h =
+    λ i. record { side0 = h i; side1 = bareSide (d .side1); bus = d .bus; arb = withInitFail false (withSwitch Apart (d .arb)); kind = d .kind }
+side-bare One s d h =
+    λ i. record { side0 = bareSide (d .side0); side1 = h i; bus = d .bus; arb = withInitFail false (withSwitch Apart (d .arb)); kind = d .kind }
 
 -- part 4 clears BUS_CONNECT and nothing else
 cut-bare : (on : Bool) (t : Turn) (d : Device) → bare (cutFrom on t d) ≡ bare d
@@ -170,7 +177,10 @@ losses-kept Nobody d e still = (still, ap (λ (t : Turn). loses t d) e)
 losses-kept (Claims m g) d e still = (still, ap (λ (t : Turn). loses t d) e)
 losses-kept (Owns m g) d e still =
     either Kept (runsOut (idleLimit d) (side m d) (d .arb .reserve) (d .bus))
-    (λ h. (subst Still (sym (idle-released (d .bus) (out-idle (idleLimit d) (limit-some (d .kind)) (side m d) (d .arb .reserve) (d .bus) still h))) still, refl))
+    (λ h. (
+      subst Still (sym (idle-released (d .bus) (out-idle (idleLimit d) (limit-some (d .kind)) (side m d) (d .arb .reserve) (d .bus) still h))) still,
+      refl,
+    ))
     (λ h. (still, ap (λ (t : Turn). loses t d) e ∙ h))
 
 -- ---- part 5: who claims stays the claimant, and a new claimant has nothing to lose
@@ -234,7 +244,8 @@ fresh-still b still = (still .0, still .1, λ h. refl)
 -- a reserve count of RT is 0 only for RT 00h, and an idle count of 0 is below the limit
 fresh-keeps : (limit : ℕ) → eqb 0 limit ≡ false → (s : Side) (b : Bus) → runsOut limit s (s .rt) (withIdle 0 b) ≡ false
 fresh-keeps limit some s b =
-    either (λ (x : Bool). x ≡ false) (eqb (s .rt) 0) (λ z. ap (λ (x : Bool). s .contr .idletimer && x) some ∙ and-false (s .contr .idletimer)) (λ z. ap (λ (n : Bool). n && isIdle b) z)
+    either (λ (x : Bool). x ≡ false) (eqb (s .rt) 0) (λ z. ap (λ (x : Bool). s .contr .idletimer && x) some ∙ and-false (s .contr .idletimer))
+    (λ z. ap (λ (n : Bool). n && isIdle b) z)
 
 -- so a fresh owner does not lose at once, and an owner is the claimant, with no grant due
 granted-ready : (m : Master) (g : Ground) (d : Device) → Still (d .bus) → Ready (granted m g d)

@@ -5,7 +5,8 @@ use mathlib.Core.Path.{_≡_, refl, sym, ap, _∙_, subst}
 use mathlib.Core.Bool.{true≢false, false≢true, and-eq-true-iff, and-false}
 use mathlib.Core.Logic.{⊎-elim}
 use native.Mathlib.Nat.{sub-zero}
-use Rattle.arbiter.specs.Types.{ℕ, _-_, Bool, true, false, not, _&&_, _||_, List, eqb, Master, Ground, Nobody, Owns, Control, Side, Kind, Device, Raw, Event}
+use Rattle.arbiter.specs.Types.{ℕ, _-_, Bool, true, false, not, _&&_, _||_, List, eqb, Master, Ground, Nobody, Owns, Control, Side, Kind, Device, Raw}
+use Rattle.arbiter.specs.Types.{Event}
 use Rattle.arbiter.specs.Rules.{limitOf, idleLimit}
 use Rattle.arbiter.specs.Words.{if_then_else_, worth, side}
 use Rattle.arbiter.specs.Parts.{withContr, withRt}
@@ -35,14 +36,23 @@ pub record Owner (m : Master) (d : Device) : Type 0 where
 -- What part 3 asks is read off what `still` names.
 expired-still : (m : Master) (n d : Device) → still n ≡ still d → expired m n ≡ expired m d
 expired-still m n d e =
-    ap (λ k. runsOut (idleLimit n) (asked (k .1) (k .2)) (n .arb .reserve) (n .bus)) (side-kept m n d (still-sides n d e)) ∙ ap (λ s. runsOut (limitOf (s .5)) (side m d) (s .3) (s .2)) e
+    ap (λ k. runsOut (idleLimit n) (asked (k .1) (k .2)) (n .arb .reserve) (n .bus)) (side-kept m n d (still-sides n d e))
+    ∙ ap (λ s. runsOut (limitOf (s .5)) (side m d) (s .3) (s .2)) e
   where
     -- m's side with such an idle timer and such an RT
     asked : Bool → ℕ → Side
     asked timer rt =
         let c : Control = (side m d) .contr in
         withRt rt
-        (withContr (record { priority = c .priority; smbusdis = c .smbusdis; idletimer = timer; swrst = c .swrst; businit = c .businit; busconnect = c .busconnect; lockreq = c .lockreq }) (side m d))
+        (withContr (record {
+          priority = c .priority;
+          smbusdis = c .smbusdis;
+          idletimer = timer;
+          swrst = c .swrst;
+          businit = c .businit;
+          busconnect = c .busconnect;
+          lockreq = c .lockreq;
+        }) (side m d))
 
 -- A new grant has not run out.
 fresh-owner : (m : Master) {g : Ground} (d : Device) → d .arb .turn ≡ Owns m g → Fresh m d → Owner m d
@@ -54,7 +64,8 @@ fresh-owner m {g} d t f =
       turn = t;
       hold = f .hold;
       unlost =
-          split (eqb rt 0) (λ z. if-true _ _ z ∙ ap (λ (n : ℕ). timer && eqb n (idleLimit d)) (f .idle) ∙ ap (λ (b : Bool). timer && b) (limit-some (d .kind)) ∙ and-false timer)
+          split (eqb rt 0) (λ z. if-true _ _ z ∙ ap (λ (n : ℕ). timer && eqb n (idleLimit d)) (f .idle) ∙ ap (λ (b : Bool). timer && b) (limit-some (d .kind))
+          ∙ and-false timer)
           (λ z. if-false _ _ z ∙ ap (λ (n : ℕ). eqb n 0 && isIdle (d .bus)) (f .reserve) ∙ ap (λ (b : Bool). b && isIdle (d .bus)) z);
     }
 

@@ -6,7 +6,8 @@ use borrow.Author.Tests.{le-ltb, eq-eqb}
 use Prim.Native.Nat.{_≤_}
 use Rattle.arbiter.specs.Types.{ℕ, zero, suc, _+_, _*_, List, [], _∷_, _++_, true, length, Kind, Pca9641, Tpt29641, Raw, Address, Accepted}
 use Rattle.arbiter.specs.Straps.{addressOf}
-use Rattle.arbiter.specs.Traces.{pinCount, pinBytes, headBytes, eventBytes, mostEvents, eventsEnd, wholeBytes, kindCount, kindNumber, isKind, kindOf, kindAt, byteAt, pinsIn, countIn, rawsIn, readKind, readCounted, readStrapped, readTrace}
+use Rattle.arbiter.specs.Traces.{pinCount, pinBytes, headBytes, eventBytes, mostEvents, eventsEnd, wholeBytes, kindCount, kindNumber, isKind, kindOf}
+use Rattle.arbiter.specs.Traces.{kindAt, byteAt, pinsIn, countIn, rawsIn, readKind, readCounted, readStrapped, readTrace}
 
 -- ---- a trace is accepted if all its sections are there
 
@@ -19,7 +20,8 @@ pub kind-back : (k : Kind) → kindOf (kindNumber k) ≡ k
 kind-back Pca9641 = refl
 kind-back Tpt29641 = refl
 
-read-as : (address n : ℕ) (t : List ℕ) (room : ℕ) (k : Kind) → length t ≡ wholeBytes n → byteAt (eventsEnd n) t ≡ kindCount → kindAt n t ≡ kindNumber k → eventBytes * n ≤ room → readKind address n t room ≡ Accepted address n k
+read-as : (address n : ℕ) (t : List ℕ) (room : ℕ) (k : Kind) → length t ≡ wholeBytes n → byteAt (eventsEnd n) t ≡ kindCount → kindAt n t ≡ kindNumber k
+    → eventBytes * n ≤ room → readKind address n t room ≡ Accepted address n k
 unfolding readKind
 read-as address n t room k whole count kind fits =
     simp (
@@ -33,7 +35,8 @@ read-as address n t room k whole count kind fits =
       kind-back k,
     )
 
-module _ (t : List ℕ) (room address n : ℕ) (first : byteAt 0 t ≡ pinCount) (listed : addressOf (pinsIn t) ≡ Address address) (count : countIn t ≡ n) (few : n ≤ mostEvents) where
+module _ (t : List ℕ) (room address n : ℕ) (first : byteAt 0 t ≡ pinCount) (listed : addressOf (pinsIn t) ≡ Address address) (count : countIn t ≡ n)
+    (few : n ≤ mostEvents) where
   -- up to its events
   pub reads-on : eventsEnd n ≤ length t → readTrace t room ≡ readKind address n t room
   unfolding readTrace readStrapped readCounted
@@ -49,7 +52,8 @@ module _ (t : List ℕ) (room address n : ℕ) (first : byteAt 0 t ≡ pinCount)
         le-ltb (length t) (eventsEnd n) long,
       )
 
-  pub accepts : (k : Kind) → length t ≡ wholeBytes n → byteAt (eventsEnd n) t ≡ kindCount → kindAt n t ≡ kindNumber k → eventBytes * n ≤ room → readTrace t room ≡ Accepted address n k
+  pub accepts : (k : Kind) → length t ≡ wholeBytes n → byteAt (eventsEnd n) t ≡ kindCount → kindAt n t ≡ kindNumber k → eventBytes * n ≤ room → readTrace t room
+      ≡ Accepted address n k
   accepts k whole counted kind fits = reads-on (omega arith) ∙ read-as address n t room k whole counted kind fits
 
 -- ---- events are what they were, whatever follows them

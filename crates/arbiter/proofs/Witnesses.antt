@@ -4,18 +4,24 @@
 use mathlib.Core.Path.{_≡_, refl, ap, _∙_}
 use mathlib.Core.Bool.{Bool, true, false, not, _&&_, false≢true, and-eq-true-iff}
 use borrow.Author.Tests.{ltb-true, leb-true, eqb-true, not-true}
-use Rattle.arbiter.specs.Types.{ℕ, _+_, List, [], _∷_, _++_, eqb, Master, Zero, One, Claims, Apart, Kind, Pca9641, Tpt29641, Device, Raw, Event, Command, Write, Read, Stop, Pair, Lines, Tick, Pulse, Reset, GeneralCall, Decoded, Reads, UnknownKind, BadField}
+use Rattle.arbiter.specs.Types.{ℕ, _+_, List, [], _∷_, _++_, eqb, Master, Zero, One, Claims, Apart, Kind, Pca9641, Tpt29641, Device, Raw, Event, Command}
+use Rattle.arbiter.specs.Types.{Write, Read, Stop, Pair, Lines, Tick, Pulse, Reset, GeneralCall, Decoded, Reads, UnknownKind, BadField}
 use Rattle.arbiter.specs.Rules.{rulesOf, limitOf}
 use Rattle.arbiter.specs.Words.{byteOf, partner, sameMaster}
 use Rattle.arbiter.specs.Registers.{contrByte, statusByte, registerByte, isAsserted, ownWritten, mailWritten, drivesWritten, turnWritten}
 use Rattle.arbiter.specs.Events.{decode, inSequence, acknowledged, outcome}
 use Rattle.arbiter.specs.Effects.{commanded, written, paired, wasRead, lined, ticked, freshSide, wasReset, powerUp, effect}
-use Rattle.arbiter.specs.Order.{levels, lost, lossesFrom, losses, cutFrom, cut, winner, claim, granted, grantFrom, grant, joined, clocked, keptJoined, connectFrom, connect}
+use Rattle.arbiter.specs.Order.{levels, lost, lossesFrom, losses, cutFrom, cut, winner, claim, granted, grantFrom, grant, joined, clocked, keptJoined}
+use Rattle.arbiter.specs.Order.{connectFrom, connect}
 use Rattle.arbiter.specs.Steps.{parts, ownerByte, linesByte, byteRead, refused, taken, stepEvent, stepDecoded, step, runFrom, run}
-use Rattle.arbiter.specs.AuditWords.{next, reserveOf, idleTimerOn, isStopOf, acceptedAs, resting, reset, withdrawalOf, isAccepted, levelled, ticksIn, never, throughout}
+use Rattle.arbiter.specs.AuditWords.{next, reserveOf, idleTimerOn, isStopOf, acceptedAs, resting, reset, withdrawalOf, isAccepted, levelled, ticksIn}
+use Rattle.arbiter.specs.AuditWords.{never, throughout}
 use Rattle.arbiter.specs.State.{owns, isIdle, claims}
-use Rattle.arbiter.specs.Audit.{OneConnected, ApartUnowned, ResetEnds, ReserveLasts, ReserveEnds, ReserveExact, PartnerNext, PartnerInTime, PartnerInTimeThroughout, HeldUntilLetGo, IdleTimerExact, IdleTimerEnds, RefusedUnchanged}
-use Rattle.arbiter.specs.Witnesses.{oneConnected, apartUnowned, resetEnds, reserveLasts, reserveEnds, reserveExact, exactIdle, exactBusy, nextAtRest, nextAtStop, partnerInTime, partnerInTimeThroughout, heldUntilLetGo, idleTimerExact, idleTimerEnds, refusedUnchanged, allMet, witnessesOf, WitnessesMeet}
+use Rattle.arbiter.specs.Audit.{OneConnected, ApartUnowned, ResetEnds, ReserveLasts, ReserveEnds, ReserveExact, PartnerNext, PartnerInTime}
+use Rattle.arbiter.specs.Audit.{PartnerInTimeThroughout, HeldUntilLetGo, IdleTimerExact, IdleTimerEnds, RefusedUnchanged}
+use Rattle.arbiter.specs.Witnesses.{oneConnected, apartUnowned, resetEnds, reserveLasts, reserveEnds, reserveExact, exactIdle, exactBusy, nextAtRest}
+use Rattle.arbiter.specs.Witnesses.{nextAtStop, partnerInTime, partnerInTimeThroughout, heldUntilLetGo, idleTimerExact, idleTimerEnds, refusedUnchanged}
+use Rattle.arbiter.specs.Witnesses.{allMet, witnessesOf, WitnessesMeet}
 
 pub witnesses-meet : WitnessesMeet
 unfolding rulesOf byteOf contrByte statusByte registerByte isAsserted ownWritten mailWritten drivesWritten turnWritten
@@ -82,7 +88,8 @@ pub exact-busy-met : ReserveExact → (k : Kind) (m : Master) (rs : List Raw) (r
     → owns m (next (runFrom (next (run k rs) r) later) e) ≡ true
 exact-busy-met told k m rs r later e (busy, premises) = exact-told told k m rs r later e premises ∙ busy
 
-pub next-at-rest-met : PartnerNext → (k : Kind) (m : Master) (rs : List Raw) (r : Raw) → Holds (nextAtRest k m rs r) → owns (partner m) (next (run k rs) r) ≡ true
+pub next-at-rest-met : PartnerNext → (k : Kind) (m : Master) (rs : List Raw) (r : Raw) → Holds (nextAtRest k m rs r) → owns (partner m) (next (run k rs) r)
+    ≡ true
 next-at-rest-met told k m rs r (rest, (ended, (resets, (asks, _)))) = told k m rs r ended (not-true (reset r (run k rs)) resets) asks .0 rest
 
 -- four bytes that are accepted as p's STOP read as p's STOP
@@ -117,7 +124,8 @@ next-at-stop-met told k m rs r later t (busy, (resets, (gone, (stops, (stop, (en
     let is-next = told k m rs r ended (not-true (reset r (run k rs)) reset-not) asks .1 (not-true (resting p d) busy) later resets gone stops in
     (is-next .0, is-next .1 t (decoded-stop p (decode t) (runFrom d later) stop))
 
-pub partner-in-time-met : PartnerInTime → (k : Kind) (m : Master) (rs : List Raw) (r : Raw) (later : List Raw) (t : Raw) → Holds (partnerInTime k m rs r later t)
+pub partner-in-time-met : PartnerInTime → (k : Kind) (m : Master) (rs : List Raw) (r : Raw) (later : List Raw) (t : Raw)
+    → Holds (partnerInTime k m rs r later t)
     → owns (partner m) (next (runFrom (next (run k rs) r) later) t) ≡ true
 partner-in-time-met told k m rs r later t (taken, (ticks, (now, (resets, (gone, (asks, (idle, (rest, _)))))))) =
     let d : Device = next (run k rs) r in
@@ -140,7 +148,8 @@ idle-timer-exact-met told k m rs r (owner, (none, (reset-not, (gone-not, _)))) =
     let d : Device = run k rs in
     told k m rs r owner (eqb-true (reserveOf m d) 0 none) (not-true (reset r d) reset-not) (not-true (withdrawalOf m r d) gone-not)
 
-pub idle-timer-ends-met : IdleTimerEnds → (k : Kind) (m : Master) (rs : List Raw) (r : Raw) (later : List Raw) (t : Raw) → Holds (idleTimerEnds k m rs r later t)
+pub idle-timer-ends-met : IdleTimerEnds → (k : Kind) (m : Master) (rs : List Raw) (r : Raw) (later : List Raw) (t : Raw)
+    → Holds (idleTimerEnds k m rs r later t)
     → let w : Device = runFrom (next (run k rs) r) later in (owns m w ≡ true) × (owns m (next w t) ≡ false)
 idle-timer-ends-met told k m rs r later t (taken, (none, (resets, (gone, (idle, (ticks, (now, (last, _)))))))) =
     let d : Device = next (run k rs) r in

@@ -27,7 +27,8 @@ use Rattle.arbitration.specs.Cleared.{groundIn, contrUnless}
 
 -- ---- one side
 
-pub lost-side : (on : Bool) (s : Side) → withInts (raised lostInt on (s .ints)) (withContr (contrUnless on on (s .contr)) s) ≡ (if on then disconnected (loser s) else s)
+pub lost-side : (on : Bool) (s : Side) → withInts (raised lostInt on (s .ints)) (withContr (contrUnless on on (s .contr)) s)
+    ≡ (if on then disconnected (loser s) else s)
 lost-side true s = refl
 lost-side false s = unraised s
 
@@ -43,7 +44,8 @@ lossesWith lost0 lost1 d =
     (if lost0 || lost1 then released (d .bus) else d .bus)
     (withTurn (if lost0 || lost1 then Nobody else d .arb .turn) (d .arb)) d
 
-losses-from : (t : Turn) (d : Device) → lossesWith (ownsTurn Zero t && runsOut (idleLimit d) (d .side0) (d .arb .reserve) (d .bus)) (ownsTurn One t && runsOut (idleLimit d) (d .side1) (d .arb .reserve) (d .bus)) d ≡ lossesFrom t d
+losses-from : (t : Turn) (d : Device) → lossesWith (ownsTurn Zero t && runsOut (idleLimit d) (d .side0) (d .arb .reserve) (d .bus))
+    (ownsTurn One t && runsOut (idleLimit d) (d .side1) (d .arb .reserve) (d .bus)) d ≡ lossesFrom t d
 unfolding lossesFrom lost
 losses-from Nobody d = refl
 losses-from (Claims m g) d = refl
@@ -58,7 +60,8 @@ losses-from (Owns One g) d = go (runsOut (idleLimit d) (d .side1) (d .arb .reser
     go true = refl
     go false = refl
 
-pub losses-law : (d : Device) → lossesWith (ownsTurn Zero (d .arb .turn) && runsOut (idleLimit d) (d .side0) (d .arb .reserve) (d .bus)) (ownsTurn One (d .arb .turn) && runsOut (idleLimit d) (d .side1) (d .arb .reserve) (d .bus)) d ≡ lossesFrom (d .arb .turn) d
+pub losses-law : (d : Device) → lossesWith (ownsTurn Zero (d .arb .turn) && runsOut (idleLimit d) (d .side0) (d .arb .reserve) (d .bus))
+    (ownsTurn One (d .arb .turn) && runsOut (idleLimit d) (d .side1) (d .arb .reserve) (d .bus)) d ≡ lossesFrom (d .arb .turn) d
 losses-law d = losses-from (d .arb .turn) d
 
 -- ---- the cut
@@ -67,7 +70,9 @@ abbrev cutWith : Bool → Bool → Device → Device
 cutWith cut0 cut1 d =
     deviceWith (if cut0 then disconnected (d .side0) else d .side0) (if cut1 then disconnected (d .side1) else d .side1) (d .bus) (d .arb) d
 
-cut-from : (tick : Bool) (t : Turn) (d : Device) → cutWith (ownsTurn Zero t && (tick && eqb (d .bus .lowscl) cutTicks && d .side0 .contr .smbusdis)) (ownsTurn One t && (tick && eqb (d .bus .lowscl) cutTicks && d .side1 .contr .smbusdis)) d ≡ cutFrom tick t d
+cut-from : (tick : Bool) (t : Turn) (d : Device)
+    → cutWith (ownsTurn Zero t && (tick && eqb (d .bus .lowscl) cutTicks && d .side0 .contr .smbusdis))
+    (ownsTurn One t && (tick && eqb (d .bus .lowscl) cutTicks && d .side1 .contr .smbusdis)) d ≡ cutFrom tick t d
 unfolding cutFrom
 cut-from tick Nobody d = refl
 cut-from tick (Claims m g) d = refl
@@ -82,12 +87,16 @@ cut-from tick (Owns One g) d = go (tick && eqb (d .bus .lowscl) cutTicks && d .s
     go true = refl
     go false = refl
 
-pub cut-law : (tick : Bool) (d : Device) → cutWith (ownsTurn Zero (d .arb .turn) && (tick && eqb (d .bus .lowscl) cutTicks && d .side0 .contr .smbusdis)) (ownsTurn One (d .arb .turn) && (tick && eqb (d .bus .lowscl) cutTicks && d .side1 .contr .smbusdis)) d ≡ cutFrom tick (d .arb .turn) d
+pub cut-law : (tick : Bool) (d : Device)
+    → cutWith (ownsTurn Zero (d .arb .turn) && (tick && eqb (d .bus .lowscl) cutTicks && d .side0 .contr .smbusdis))
+    (ownsTurn One (d .arb .turn) && (tick && eqb (d .bus .lowscl) cutTicks && d .side1 .contr .smbusdis)) d ≡ cutFrom tick (d .arb .turn) d
 cut-law tick d = cut-from tick (d .arb .turn) d
 
 -- ---- the grant
 
-pub granted-arb : (on : Bool) (m : Master) (g : Ground) (rt : ℕ) (a : Arbitration) → arbWith (if on then Was m else a .last) (a .initfail) (a .switch) (if on then rt else a .reserve) (if on then Owns m g else a .turn) ≡ (if on then grantedArb m g rt a else a)
+pub granted-arb : (on : Bool) (m : Master) (g : Ground) (rt : ℕ) (a : Arbitration)
+    → arbWith (if on then Was m else a .last) (a .initfail) (a .switch) (if on then rt else a .reserve) (if on then Owns m g else a .turn)
+    ≡ (if on then grantedArb m g rt a else a)
 granted-arb true m g rt a = refl
 granted-arb false m g rt a = refl
 
@@ -103,20 +112,26 @@ ungranted g d =
     ap (λ (s : Side). deviceWith s (withInts (bitOr (d .side1 .ints) 0) (d .side1)) (d .bus) (d .arb) d) (unraised (d .side0))
     ∙ ap (λ (s : Side). deviceWith (d .side0) s (d .bus) (d .arb) d) (unraised (d .side1))
 
-grant-from : (t : Turn) (d : Device) → grantWith (groundIn t) (claimsTurn Zero t && (atRest (d .side0 .port) && eqb (d .bus .hold) 0)) (claimsTurn One t && (atRest (d .side1 .port) && eqb (d .bus .hold) 0)) d ≡ grantFrom t d
+grant-from : (t : Turn) (d : Device) → grantWith (groundIn t) (claimsTurn Zero t && (atRest (d .side0 .port) && eqb (d .bus .hold) 0))
+    (claimsTurn One t && (atRest (d .side1 .port) && eqb (d .bus .hold) 0)) d ≡ grantFrom t d
 unfolding grantFrom granted
 grant-from Nobody d = ungranted Sole d
 grant-from (Owns m g) d = ungranted g d
 grant-from (Claims Zero g) d = go (atRest (d .side0 .port) && eqb (d .bus .hold) 0)
   where
     go : (on : Bool) → grantWith g on false d ≡ (if on then granted Zero g d else d)
-    go true = ap (λ (s : Side). deviceWith (withInts (raised grantedInt true (d .side0 .ints)) (d .side0)) s (withIdle 0 (d .bus)) (grantedArb Zero g (d .side0 .rt) (d .arb)) d) (unraised (d .side1))
+    go true =
+        ap (λ (s : Side). deviceWith (withInts (raised grantedInt true (d .side0 .ints)) (d .side0)) s (withIdle 0 (d .bus))
+        (grantedArb Zero g (d .side0 .rt) (d .arb)) d) (unraised (d .side1))
     go false = ungranted g d
 grant-from (Claims One g) d = go (atRest (d .side1 .port) && eqb (d .bus .hold) 0)
   where
     go : (on : Bool) → grantWith g false on d ≡ (if on then granted One g d else d)
-    go true = ap (λ (s : Side). deviceWith s (withInts (raised grantedInt true (d .side1 .ints)) (d .side1)) (withIdle 0 (d .bus)) (grantedArb One g (d .side1 .rt) (d .arb)) d) (unraised (d .side0))
+    go true =
+        ap (λ (s : Side). deviceWith s (withInts (raised grantedInt true (d .side1 .ints)) (d .side1)) (withIdle 0 (d .bus))
+        (grantedArb One g (d .side1 .rt) (d .arb)) d) (unraised (d .side0))
     go false = ungranted g d
 
-pub grant-law : (d : Device) → grantWith (groundIn (d .arb .turn)) (claimsTurn Zero (d .arb .turn) && (atRest (d .side0 .port) && eqb (d .bus .hold) 0)) (claimsTurn One (d .arb .turn) && (atRest (d .side1 .port) && eqb (d .bus .hold) 0)) d ≡ grantFrom (d .arb .turn) d
+pub grant-law : (d : Device) → grantWith (groundIn (d .arb .turn)) (claimsTurn Zero (d .arb .turn) && (atRest (d .side0 .port) && eqb (d .bus .hold) 0))
+    (claimsTurn One (d .arb .turn) && (atRest (d .side1 .port) && eqb (d .bus .hold) 0)) d ≡ grantFrom (d .arb .turn) d
 grant-law d = grant-from (d .arb .turn) d

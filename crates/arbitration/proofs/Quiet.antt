@@ -6,7 +6,8 @@ use Rattle.arbiter.specs.Rules.{idleLimit}
 use Rattle.arbiter.specs.Words.{side}
 use Rattle.arbiter.specs.Parts.{withTurn, withArb, withSide}
 use Rattle.arbiter.specs.Registers.{disconnected}
-use Rattle.arbiter.specs.Order.{runsOut, lost, lossesFrom, losses, cutFrom, cut, winner, groundOf, claimBy, newClaim, claimAfter, claim, granted, grantFrom, grant}
+use Rattle.arbiter.specs.Order.{runsOut, lost, lossesFrom, losses, cutFrom, cut, winner, groundOf, claimBy, newClaim, claimAfter, claim, granted, grantFrom}
+use Rattle.arbiter.specs.Order.{grant}
 use Rattle.arbiter.specs.declared.Master.{Master}
 use Rattle.arbiter.specs.declared.Ground.{Ground}
 use Rattle.arbiter.specs.declared.Turn.{Turn}

@@ -9,7 +9,8 @@ use Rattle.audit.proofs.Released.{unowned-released, connected-released}
 use Rattle.audit.proofs.IdleAnywhere.{idle-timer-from-anywhere, idle-timer-to-partner}
 use Rattle.audit.proofs.Overtaking.{overtaken-once}
 use Rattle.audit.proofs.WorstWait.{worst-wait-within, worst-wait-within-unheld, worst-wait, worst-wait-unheld, worst-wait-late}
-use Rattle.audit.proofs.SettingsKept.{rt-kept, bits-kept, mask-kept, settings-kept, rt-stored, bits-written, mask-written, settings-reset, rt-kept-throughout, bits-kept-throughout}
+use Rattle.audit.proofs.SettingsKept.{rt-kept, bits-kept, mask-kept, settings-kept, rt-stored, bits-written, mask-written, settings-reset}
+use Rattle.audit.proofs.SettingsKept.{rt-kept-throughout, bits-kept-throughout}
 use Rattle.audit.proofs.WaitAsSet.{reserves-kept, reserves-as-set, both-reserve, wait-as-set}
 use Rattle.audit.proofs.MoreWitnesses.{more-witnesses-meet}
 use Rattle.audit.proofs.WaitWitnesses.{wait-witnesses-meet}

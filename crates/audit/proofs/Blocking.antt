@@ -2,7 +2,8 @@
 -- Assumes nothing.
 use mathlib.Core.Path.{_≡_, refl, sym, ap, _∙_, subst}
 use mathlib.Core.Bool.{true≢false, false≢true}
-use Rattle.ranges.specs.Names.{Bool, true, false, not, _&&_, List, [], _∷_, eqb, Master, Zero, One, Ground, Sole, Turn, Nobody, Claims, Owns, Device, Raw, Event, Command, Write, Read, Stop, Pair, Lines, Tick, Pulse, Reset, GeneralCall}
+use Rattle.ranges.specs.Names.{Bool, true, false, not, _&&_, List, [], _∷_, eqb, Master, Zero, One, Ground, Sole, Turn, Nobody, Claims, Owns, Device, Raw}
+use Rattle.ranges.specs.Names.{Event, Command, Write, Read, Stop, Pair, Lines, Tick, Pulse, Reset, GeneralCall}
 use Rattle.arbiter.specs.Rules.{idleLimit}
 use Rattle.arbiter.specs.Words.{if_then_else_, partner, side}
 use Rattle.arbiter.specs.State.{ownsTurn, claimsTurn, isIdle}

@@ -2,7 +2,9 @@
 -- Assumes nothing.
 use mathlib.Core.Path.{_≡_, refl, sym, ap, ap₂, _∙_}
 use mathlib.Core.Bool.{true≢false, false≢true, and-eq-true-iff, and-true, and-false, Bool·not-not}
-use Rattle.ranges.specs.Names.{ℕ, Bool, true, false, not, _&&_, List, [], _∷_, eqb, Master, Zero, One, Ground, Turn, Nobody, Owns, Register, Id, Contr, Status, Rt, IntStatus, IntMask, MailLow, MailHigh, Switch, Apart, Initialising, Closed, Clock, Side, Device, Raw, Event, Command, Write, Read, Stop, Pair, Lines, Tick, Pulse, Reset, GeneralCall}
+use Rattle.ranges.specs.Names.{ℕ, Bool, true, false, not, _&&_, List, [], _∷_, eqb, Master, Zero, One, Ground, Turn, Nobody, Owns, Register, Id, Contr, Status}
+use Rattle.ranges.specs.Names.{Rt, IntStatus, IntMask, MailLow, MailHigh, Switch, Apart, Initialising, Closed, Clock, Side, Device, Raw, Event, Command, Write}
+use Rattle.ranges.specs.Names.{Read, Stop, Pair, Lines, Tick, Pulse, Reset, GeneralCall}
 use Rattle.arbiter.specs.Rules.{rolls}
 use Rattle.arbiter.specs.Words.{if_then_else_, bit, partner, side}
 use Rattle.arbiter.specs.State.{owns, closedFor, connected}

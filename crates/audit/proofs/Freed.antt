@@ -6,13 +6,15 @@ use mathlib.Core.Bool.{false≢true, and-eq-true-iff}
 use native.Mathlib.Nat.{sub-zero, not-suc-le-zero}
 use native.Mathlib.Omega.{arith}
 use borrow.Author.Tests.{eq-eqb}
-use Rattle.ranges.specs.Names.{ℕ, _-_, Bool, true, false, _&&_, _||_, List, [], _∷_, eqb, Master, Zero, One, Claims, Owns, Apart, Clock, Bus, Device, Raw, Event, Command, Write, Read, Stop, Pair, Lines, Tick, Pulse, Reset, GeneralCall}
+use Rattle.ranges.specs.Names.{ℕ, _-_, Bool, true, false, _&&_, _||_, List, [], _∷_, eqb, Master, Zero, One, Claims, Owns, Apart, Clock, Bus, Device, Raw}
+use Rattle.ranges.specs.Names.{Event, Command, Write, Read, Stop, Pair, Lines, Tick, Pulse, Reset, GeneralCall}
 use Rattle.arbiter.specs.Words.{if_then_else_, worth, of, side}
 use Rattle.arbiter.specs.State.{owns, claims, isIdle, sclHigh, sdaHigh}
 use Rattle.arbiter.specs.Events.{decode, inSequence, softReset}
 use Rattle.arbiter.specs.Registers.{ownWritten, mailWritten, drivesWritten, turnWritten}
 use Rattle.arbiter.specs.Effects.{commanded, written, freshSide, freshBus, freshArb, ticked, wasReset, holdTicks, effect}
-use Rattle.arbiter.specs.Order.{isReset, isTick, clockOf, sclChanged, levels, lossesFrom, losses, cutFrom, cut, claim, granted, grantFrom, grant, connectFrom, connect}
+use Rattle.arbiter.specs.Order.{isReset, isTick, clockOf, sclChanged, levels, lossesFrom, losses, cutFrom, cut, claim, granted, grantFrom, grant, connectFrom}
+use Rattle.arbiter.specs.Order.{connect}
 use Rattle.arbiter.specs.Steps.{parts, refused, taken, stepEvent, stepDecoded, step, runFrom, run}
 use Rattle.arbiter.specs.AuditWords.{next, requests, resting, reset, tick, ticksIn, never}
 use Rattle.arbiter.specs.Marks.{generalCall, sets}

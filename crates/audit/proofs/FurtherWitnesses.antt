@@ -7,7 +7,8 @@ use mathlib.Core.Bool.{false≢true, and-eq-true-iff}
 use mathlib.Core.List.{append-assoc}
 use native.Mathlib.Omega.{arith}
 use borrow.Author.Tests.{ltb-true, leb-true, eqb-true, not-true}
-use Rattle.ranges.specs.Names.{ℕ, _+_, _*_, Bool, true, false, not, _&&_, List, [], _∷_, _++_, eqb, ltb, Master, Kind, Pca9641, Tpt29641, Device, Raw, Pair, Reads}
+use Rattle.ranges.specs.Names.{ℕ, _+_, _*_, Bool, true, false, not, _&&_, List, [], _∷_, _++_, eqb, ltb, Master, Kind, Pca9641, Tpt29641, Device, Raw, Pair}
+use Rattle.ranges.specs.Names.{Reads}
 use Rattle.arbiter.specs.declared.Strapped.{Strapped}
 use Rattle.arbiter.specs.declared.Strapped.the-variants.{Address, Unlisted}
 use Rattle.arbiter.specs.declared.TraceRead.the-variants.{Accepted, Refused}
@@ -19,7 +20,8 @@ use Rattle.arbiter.specs.State.{busHung}
 use Rattle.arbiter.specs.Registers.{contrByte, statusByte, registerByte, isAsserted, ownWritten, mailWritten, drivesWritten, turnWritten}
 use Rattle.arbiter.specs.Events.{decode, inSequence, acknowledged, outcome}
 use Rattle.arbiter.specs.Effects.{commanded, written, paired, wasRead, lined, ticked, freshSide, wasReset, powerUp, effect}
-use Rattle.arbiter.specs.Order.{levels, lost, lossesFrom, losses, cutFrom, cut, winner, claim, granted, grantFrom, grant, joined, clocked, keptJoined, connectFrom, connect}
+use Rattle.arbiter.specs.Order.{levels, lost, lossesFrom, losses, cutFrom, cut, winner, claim, granted, grantFrom, grant, joined, clocked, keptJoined}
+use Rattle.arbiter.specs.Order.{connectFrom, connect}
 use Rattle.arbiter.specs.Steps.{parts, ownerByte, linesByte, byteRead, refused, taken, stepEvent, stepDecoded, step, runFrom, run}
 use Rattle.arbiter.specs.AuditWords.{next, tick, ticksIn, never, throughout}
 use Rattle.arbiter.specs.Grounds.{groundShown, chosenBy, GroundOfChoice, GroundStays, ContestIsPair}
@@ -29,7 +31,8 @@ use Rattle.arbiter.specs.Traces.{eventBytes, pinsIn, countIn, readTrace}
 use Rattle.arbiter.specs.OldTraces.{oldNumber, converted, ConvertedAccepted, OldRefused}
 use Rattle.arbiter.specs.Marks.{lines}
 use Rattle.arbiter.specs.Witnesses.{allMet}
-use Rattle.audit.specs.FurtherWitnesses.{groundOfChoice, groundStays, contestIsPair, isAddress, convertedAccepted, oldRefused, groundRows, oldRows, FurtherWitnessesMeet, SlowClockRuns}
+use Rattle.audit.specs.FurtherWitnesses.{groundOfChoice, groundStays, contestIsPair, isAddress, convertedAccepted, oldRefused, groundRows, oldRows}
+use Rattle.audit.specs.FurtherWitnesses.{FurtherWitnessesMeet, SlowClockRuns}
 use Rattle.arbiter.proofs.Choice.{split, if-false}
 use Rattle.arbiter.proofs.Witnesses.{Holds}
 
@@ -113,7 +116,8 @@ steady-runs : (k : Kind) (rs : List Raw) → steady 0 (powerUp k) rs ≡ true �
 unfolding run
 steady-runs k rs h before since after whole long =
     split (never sclMoves (run k before) since)
-    (λ still. let from = steady-later 0 (powerUp k) before (since ++ after) (subst (λ (es : List Raw). steady 0 (powerUp k) es ≡ true) (whole ∙ append-assoc before since after) h) in
+    (λ still. let from = steady-later 0 (powerUp k) before (since ++ after)
+    (subst (λ (es : List Raw). steady 0 (powerUp k) es ≡ true) (whole ∙ append-assoc before since after) h) in
     let few : from .0 + ticksIn (run k before) since < 500 = steady-short (from .0) (run k before) since after (from .1) still in
     absurd (omega arith))
     (λ moves. moves)

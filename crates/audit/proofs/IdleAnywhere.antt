@@ -7,7 +7,8 @@ use mathlib.Core.Logic.{_⊎_, inl, inr, ⊎-elim}
 use native.Mathlib.Nat.{eq-or-lt-of-le}
 use native.Mathlib.Omega.{arith}
 use borrow.Author.Tests.{eq-eqb, ltb-true}
-use Rattle.ranges.specs.Names.{ℕ, _+_, _-_, Bool, true, false, not, _&&_, _||_, List, [], _∷_, eqb, ltb, Master, Turn, Nobody, Claims, Owns, Bus, Kind, Device, Raw, Event}
+use Rattle.ranges.specs.Names.{ℕ, _+_, _-_, Bool, true, false, not, _&&_, _||_, List, [], _∷_, eqb, ltb, Master, Turn, Nobody, Claims, Owns, Bus, Kind, Device}
+use Rattle.ranges.specs.Names.{Raw, Event}
 use Rattle.arbiter.specs.Rules.{limitOf, idleLimit}
 use Rattle.arbiter.specs.Words.{if_then_else_, worth, partner}
 use Rattle.arbiter.specs.State.{owns, claims, isIdle}

@@ -12,15 +12,20 @@ use Rattle.arbiter.specs.State.{owns, claims, connected, isIdle, busHung}
 use Rattle.arbiter.specs.Registers.{ownWritten, mailWritten, drivesWritten, turnWritten}
 use Rattle.arbiter.specs.Events.{decode, inSequence}
 use Rattle.arbiter.specs.Effects.{commanded, written, paired, wasRead, lined, ticked, freshSide, wasReset, powerUp, effect}
-use Rattle.arbiter.specs.Order.{levels, lost, lossesFrom, losses, cutFrom, cut, winner, claim, granted, grantFrom, grant, joined, clocked, keptJoined, connectFrom, connect}
+use Rattle.arbiter.specs.Order.{levels, lost, lossesFrom, losses, cutFrom, cut, winner, claim, granted, grantFrom, grant, joined, clocked, keptJoined}
+use Rattle.arbiter.specs.Order.{connectFrom, connect}
 use Rattle.arbiter.specs.Steps.{parts, refused, taken, stepEvent, stepDecoded, step, runFrom, run}
 use Rattle.arbiter.specs.AuditWords.{next, resting, reserveOf, reset, withdrawalOf, grantTaken, ticksIn, never, throughout}
 use Rattle.arbiter.specs.Audit.{IsNext}
-use Rattle.audit.specs.Blocking.{timesIn, ClaimantBlocks, ClaimantYields, LostIdle, StalledHolderKeeps, IdleTimerFromAnywhere, IdleTimerToPartner, OvertakenOnce}
+use Rattle.audit.specs.Blocking.{timesIn, ClaimantBlocks, ClaimantYields, LostIdle, StalledHolderKeeps, IdleTimerFromAnywhere, IdleTimerToPartner}
+use Rattle.audit.specs.Blocking.{OvertakenOnce}
 use Rattle.audit.specs.Freed.{heldReset, ResetFrees, ResetRemedies, ResetUnheld, ResetHolds}
 use Rattle.audit.specs.Connection.{disconnectionOf, cutOf, ConnectionExact, StaysConnected, TransferLasts, UnownedReleased, ConnectedReleased}
 use Rattle.arbiter.specs.Witnesses.{setsContr}
-use Rattle.audit.specs.MoreWitnesses.{claimantBlocks, claimantYields, yieldsAtRest, yieldsOpen, lostIdle, stalledHolder, hungHolder, idleTimerAnywhere, idleTimerToPartner, overtaken, resetFrees, resetRemedies, resetUnheld, resetHolds, connectionKept, connectionLeft, connectionCut, staysConnected, transferLasts, unownedReleased, connectedReleased, softResetOf, blockingRows, freedRows, connectionRows, MoreWitnessesMeet}
+use Rattle.audit.specs.MoreWitnesses.{claimantBlocks, claimantYields, yieldsAtRest, yieldsOpen, lostIdle, stalledHolder, hungHolder, idleTimerAnywhere}
+use Rattle.audit.specs.MoreWitnesses.{idleTimerToPartner, overtaken, resetFrees, resetRemedies, resetUnheld, resetHolds, connectionKept, connectionLeft}
+use Rattle.audit.specs.MoreWitnesses.{connectionCut, staysConnected, transferLasts, unownedReleased, connectedReleased, softResetOf, blockingRows}
+use Rattle.audit.specs.MoreWitnesses.{freedRows, connectionRows, MoreWitnessesMeet}
 use Rattle.arbiter.proofs.Witnesses.{Holds}
 
 pub more-witnesses-meet : MoreWitnessesMeet

@@ -7,7 +7,8 @@ use mathlib.Core.Bool.{true≢false, and-eq-true-iff, and-true}
 use native.Mathlib.Nat.{sub-zero}
 use native.Mathlib.Omega.{arith}
 use borrow.Author.Tests.{eq-eqb, ne-eqb, eqb-true, eqb-false, ltb-true}
-use Rattle.ranges.specs.Names.{ℕ, _+_, _-_, Bool, true, false, not, _&&_, _||_, eqb, ltb, Master, Ground, Sole, Turn, Nobody, Claims, Owns, Bus, Device, Raw, Event, Tick}
+use Rattle.ranges.specs.Names.{ℕ, _+_, _-_, Bool, true, false, not, _&&_, _||_, eqb, ltb, Master, Ground, Sole, Turn, Nobody, Claims, Owns, Bus, Device, Raw}
+use Rattle.ranges.specs.Names.{Event, Tick}
 use Rattle.arbiter.specs.Words.{if_then_else_, worth, partner}
 use Rattle.arbiter.specs.State.{ownsTurn, owns, claimsTurn, claims, atRest}
 use Rattle.arbiter.specs.Effects.{ticked, effect}

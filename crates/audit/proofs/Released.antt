@@ -2,7 +2,8 @@
 -- Assumes nothing.
 use mathlib.Core.Path.{_≡_, refl, sym, ap, ap₂, _∙_, subst}
 use mathlib.Core.Bool.{Bool, true, false, not, _||_, true≢false, false≢true}
-use Rattle.ranges.specs.Names.{ℕ, List, Master, Zero, One, Ground, Turn, Nobody, Claims, Owns, Register, Id, Contr, Status, Rt, IntStatus, IntMask, MailLow, MailHigh, Side, Bus, Clock, Kind, Device, Raw, Event, Command, Write, Read, Stop, Pair, Lines, Tick, Pulse, Reset, GeneralCall}
+use Rattle.ranges.specs.Names.{ℕ, List, Master, Zero, One, Ground, Turn, Nobody, Claims, Owns, Register, Id, Contr, Status, Rt, IntStatus, IntMask, MailLow}
+use Rattle.ranges.specs.Names.{MailHigh, Side, Bus, Clock, Kind, Device, Raw, Event, Command, Write, Read, Stop, Pair, Lines, Tick, Pulse, Reset, GeneralCall}
 use Rattle.arbiter.specs.Rules.{rolls}
 use Rattle.arbiter.specs.Words.{if_then_else_, bit, partner, side}
 use Rattle.arbiter.specs.Parts.{withDrives}

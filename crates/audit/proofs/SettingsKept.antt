@@ -3,7 +3,9 @@
 use mathlib.Core.Path.{_≡_, refl, sym, ap, ap₂, _∙_}
 use mathlib.Core.Bool.{true≢false, false≢true, and-eq-true-iff}
 use borrow.Author.Tests.{eq-eqb, eqb-true}
-use Rattle.ranges.specs.Names.{ℕ, _%_, Bool, true, false, not, _&&_, List, [], _∷_, eqb, Master, Zero, One, Turn, Nobody, Claims, Owns, Register, Id, Contr, Status, Rt, IntStatus, IntMask, MailLow, MailHigh, Side, Switch, Clock, Device, Raw, Event, Command, Write, Read, Stop, Pair, Lines, Tick, Pulse, Reset, GeneralCall}
+use Rattle.ranges.specs.Names.{ℕ, _%_, Bool, true, false, not, _&&_, List, [], _∷_, eqb, Master, Zero, One, Turn, Nobody, Claims, Owns, Register, Id, Contr}
+use Rattle.ranges.specs.Names.{Status, Rt, IntStatus, IntMask, MailLow, MailHigh, Side, Switch, Clock, Device, Raw, Event, Command, Write, Read, Stop, Pair}
+use Rattle.ranges.specs.Names.{Lines, Tick, Pulse, Reset, GeneralCall}
 use Rattle.arbiter.specs.Rules.{rolls, idleLimit}
 use Rattle.arbiter.specs.Words.{if_then_else_, partner, side}
 use Rattle.arbiter.specs.State.{owns}
@@ -13,7 +15,9 @@ use Rattle.arbiter.specs.Effects.{commanded, writeRisen, readerSide, written, p
 use Rattle.arbiter.specs.Order.{isReset, isTick, clockOf, runsOut, levels, lost, lossesFrom, losses, cutFrom, cut, claim, granted, grantFrom, grant, connect}
 use Rattle.arbiter.specs.Steps.{parts, runFrom}
 use Rattle.arbiter.specs.AuditWords.{next, reserveOf, isContr, reset, never, throughout}
-use Rattle.audit.specs.SettingsKept.{lastingBits, bitsOf, maskOf, isRt, isIntMask, writesAt, byteBy, writesToContr, writesToMask, stores, storesRt, rtIs, RtKept, BitsKept, MaskKept, SettingsKept, RtStored, BitsWritten, MaskWritten, SettingsReset, RtKeptThroughout, BitsKeptThroughout}
+use Rattle.audit.specs.SettingsKept.{lastingBits, bitsOf, maskOf, isRt, isIntMask, writesAt, byteBy, writesToContr, writesToMask, stores, storesRt, rtIs}
+use Rattle.audit.specs.SettingsKept.{RtKept, BitsKept, MaskKept, SettingsKept, RtStored, BitsWritten, MaskWritten, SettingsReset, RtKeptThroughout}
+use Rattle.audit.specs.SettingsKept.{BitsKeptThroughout}
 use Rattle.arbiter.proofs.Choice.{either, if-true, if-false, of-either}
 use Rattle.arbiter.proofs.Cases.{cut-cases, grant-cases, joinedBy, initEnded, connect-cases}
 use Rattle.arbiter.proofs.Raws.{refuses, takes, met}
@@ -59,7 +63,9 @@ risen-set rolls s = either (λ (x : Side). set x ≡ set s) (s .auto) (λ h. ref
 own-held : (g : Bool) (r : Register) (v : ℕ) (s : Side) → Held (isRt r && not g) (isContr r) (isIntMask r) v s (ownWritten g r v s)
 unfolding ownWritten
 own-held g Id v s = held refl
-own-held g Contr v s = either (Held false true false v s) (withdraws g v) (λ w. record { rt = refl; bits = refl; mask = refl }) (λ w. record { rt = refl; bits = refl; mask = refl })
+own-held g Contr v s =
+    either (Held false true false v s) (withdraws g v) (λ w. record { rt = refl; bits = refl; mask = refl })
+    (λ w. record { rt = refl; bits = refl; mask = refl })
 own-held g Status v s = held refl
 own-held true Rt v s = held refl
 own-held false Rt v s = record { rt = refl; bits = refl; mask = refl }
@@ -89,7 +95,8 @@ unfolding effect written paired wasRead lined ticked
 effect-held m (Command k c) d h =
     of-either (λ (j : Master) (same : Bool) (x y : Side). Held false false false 0 x y) m k d _ _ (held (commanded-set c (side k d))) (held refl)
 effect-held m (Write k v) d h =
-    of-either (λ (j : Master) (same : Bool) (x y : Side). Held ((same && isRt (x .pointer)) && not (owns j d)) (same && isContr (x .pointer)) (same && isIntMask (x .pointer)) v x y) m k d _ _
+    of-either (λ (j : Master) (same : Bool) (x y : Side). Held ((same && isRt (x .pointer)) && not (owns j d)) (same && isContr (x .pointer))
+    (same && isIntMask (x .pointer)) v x y) m k d _ _
     (writer-held (rolls d) (owns k d) v (side k d)) (held (mail-set ((side k d) .pointer) v (side (partner k) d)))
 effect-held m (Read k) d h =
     of-either (λ (j : Master) (same : Bool) (x y : Side). Held false false false 0 x y) m k d _ _ (held (read-set (side k d))) (held refl)
@@ -125,7 +132,8 @@ effect-reset m (Lines scl sda intin) d h = absurd (false≢true h)
 effect-reset m Tick d h = absurd (false≢true h)
 effect-reset m (Pulse sda) d h = absurd (false≢true h)
 effect-reset m Reset d h = reset-set m 0 d
-effect-reset m (GeneralCall k b) d h = ap (λ (n : Device). set (side m n)) (if-true (wasReset (holdAsked (side k d)) d) d h) ∙ reset-set m (holdAsked (side k d)) d
+effect-reset m (GeneralCall k b) d h =
+    ap (λ (n : Device). set (side m n)) (if-true (wasReset (holdAsked (side k d)) d) d h) ∙ reset-set m (holdAsked (side k d)) d
 
 -- ---- parts 2 to 7
 
@@ -264,7 +272,8 @@ bits-written m d r v h =
     elim (met r d) [
       | refuses x ↦ absurd (false≢true (sym (x .none λ f y. writesAt isContr m f y && eqb (byteBy m f) v) ∙ h))
       | takes e x ↦
-          (let both = and-eq-true-iff (writesAt isContr m e d) (eqb (byteBy m e) v) .0 (sym (x .same λ f y. writesAt isContr m f y && eqb (byteBy m f) v) ∙ h) in
+          (let both = and-eq-true-iff (writesAt isContr m e d) (eqb (byteBy m e) v) .0
+          (sym (x .same λ f y. writesAt isContr m f y && eqb (byteBy m f) v) ∙ h) in
           ap (bitsOf m) (x .after)
           ∙ parts-held m e d (byte-no-reset isContr m e d (both .0)) .bits
           ∙ if-true (lastingBits (controlOf (byteBy m e))) (bitsOf m d) (both .0)
@@ -276,7 +285,8 @@ mask-written m d r v h =
     elim (met r d) [
       | refuses x ↦ absurd (false≢true (sym (x .none λ f y. writesAt isIntMask m f y && eqb (byteBy m f) v) ∙ h))
       | takes e x ↦
-          (let both = and-eq-true-iff (writesAt isIntMask m e d) (eqb (byteBy m e) v) .0 (sym (x .same λ f y. writesAt isIntMask m f y && eqb (byteBy m f) v) ∙ h) in
+          (let both = and-eq-true-iff (writesAt isIntMask m e d) (eqb (byteBy m e) v) .0
+          (sym (x .same λ f y. writesAt isIntMask m f y && eqb (byteBy m f) v) ∙ h) in
           ap (maskOf m) (x .after)
           ∙ parts-held m e d (byte-no-reset isIntMask m e d (both .0)) .mask
           ∙ if-true (byteBy m e % 128) (maskOf m d) (both .0)

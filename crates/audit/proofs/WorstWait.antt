@@ -7,14 +7,16 @@ use mathlib.Core.Logic.{_⊎_, inl, inr, ⊎-elim}
 use native.Mathlib.Nat.{sub-zero}
 use native.Mathlib.Omega.{arith}
 use borrow.Author.Tests.{eq-eqb, ne-eqb, ltb-true}
-use Rattle.ranges.specs.Names.{ℕ, _+_, _-_, Bool, true, false, not, _&&_, List, [], _∷_, eqb, ltb, Master, Zero, One, Ground, Turn, Nobody, Claims, Owns, Kind, Device, Raw}
+use Rattle.ranges.specs.Names.{ℕ, _+_, _-_, Bool, true, false, not, _&&_, List, [], _∷_, eqb, ltb, Master, Zero, One, Ground, Turn, Nobody, Claims, Owns, Kind}
+use Rattle.ranges.specs.Names.{Device, Raw}
 use Rattle.arbiter.specs.Words.{worth, partner}
 use Rattle.arbiter.specs.State.{owns, isIdle}
 use Rattle.arbiter.specs.Effects.{powerUp}
 use Rattle.arbiter.specs.Order.{claimBy, newClaim, claimAfter}
 use Rattle.arbiter.specs.Steps.{runFrom, run}
 use Rattle.arbiter.specs.AuditWords.{next, requests, resting, reserveOf, reset, tick, ticksIn, never, throughout}
-use Rattle.audit.specs.WorstWait.{reservesWithin, delayed, stopsAfter, WaitIsOverWithin, WorstWaitWithin, WorstWaitWithinUnheld, WorstWait, WorstWaitUnheld, WorstWaitLate}
+use Rattle.audit.specs.WorstWait.{reservesWithin, delayed, stopsAfter, WaitIsOverWithin, WorstWaitWithin, WorstWaitWithinUnheld, WorstWait}
+use Rattle.audit.specs.WorstWait.{WorstWaitUnheld, WorstWaitLate}
 use Rattle.arbiter.proofs.Choice.{either, split, if-false, owns-turn, turn-owns}
 use Rattle.arbiter.proofs.Cases.{step-keeps}
 use Rattle.arbiter.proofs.Runs.{never-comes, now, hence}
@@ -75,7 +77,8 @@ next-ready r d s = step-keeps Ready (λ e x h. parts-ready e x) d r s
 
 stand : (m : Master) (most more n b : ℕ) (rs : List Raw) (d : Device) → Owned d → Ready d
     → throughout (requests (partner m)) d rs ≡ true → never reset d rs ≡ true
-    → throughout (reservesWithin most m) d rs ≡ true → stopsAfter m more n d rs ≡ true → Place m most more n b d → Stands m most more (b - ticksIn d rs) (runFrom d rs)
+    → throughout (reservesWithin most m) d rs ≡ true → stopsAfter m more n d rs ≡ true → Place m most more n b d
+    → Stands m most more (b - ticksIn d rs) (runFrom d rs)
 unfolding runFrom ticksIn stopsAfter
 stand m most more n b [] d i s q nr w late p =
     record { owned-then = i; ready-then = s; count = n; place = subst (λ (k : ℕ). Place m most more n k d) (sym (sub-zero b)) p }
@@ -98,7 +101,8 @@ at-end holds [] d h = now holds [] d h
 at-end holds (r ∷ rs) d h = at-end holds rs (next d r) (hence holds r rs d h)
 
 -- With nothing left before it, the bus idle and its port at rest, p owns.
-pub nothing-left : (m : Master) (most more n b : ℕ) (d : Device) → 1 ≤ most → b ≡ 0 → Owned d → Ready d → reservesWithin most m d ≡ true → isIdle (d .bus) ≡ true
+pub nothing-left : (m : Master) (most more n b : ℕ) (d : Device) → 1 ≤ most → b ≡ 0 → Owned d → Ready d → reservesWithin most m d ≡ true → isIdle (d .bus)
+    ≡ true
     → resting (partner m) d ≡ true → Place m most more n b d → owns (partner m) d ≡ true
 nothing-left m most more n b d some z i s w idle rest (mine g t) = turn-owns (partner m) (d .arb .turn) t
 nothing-left m most more n b d some z i s w idle rest (first g t h) =

@@ -12,6 +12,8 @@ use Rattle.arbiter.specs.declared.Outcome.the-variants.{Done}
 use Rattle.arbiter.specs.declared.Device.{Device}
 use Rattle.effects.specs.Effect.{did, effectOf}
 
-pub read-law : (m : Master) (d : Device) → did (device m (readerSide (side m d)) (senderSide (empties (side m d)) (side (partner m) d)) (d .bus) (d .arb) d) (outcomeNumber Done) (readsAt ((side m d) .pointer) m d) ≡ effectOf (Read m) d
+pub read-law : (m : Master) (d : Device)
+    → did (device m (readerSide (side m d)) (senderSide (empties (side m d)) (side (partner m) d)) (d .bus) (d .arb) d) (outcomeNumber Done)
+    (readsAt ((side m d) .pointer) m d) ≡ effectOf (Read m) d
 unfolding effectOf inSequence acknowledged outcome effect wasRead byteRead
 read-law m d = refl

@@ -45,7 +45,8 @@ pub put-bytes-once : OneLeft (λ κ s. now (s .0)) put-bytes.Post
 put-bytes-once κ a x y s t p q = (refl, once p q)
 
 -- of the part of a trace that is handed back: what is read there
-pub events-in-once : (κ : Lfts 1) (a : Args signature κ) (x y : Res signature κ) (s t : AtExit ended κ) → events-in.Post κ a x s → events-in.Post κ a y t → now x ≡ now y
+pub events-in-once : (κ : Lfts 1) (a : Args signature κ) (x y : Res signature κ) (s t : AtExit ended κ) → events-in.Post κ a x s → events-in.Post κ a y t
+    → now x ≡ now y
 events-in-once κ a x y s t p q = once p q
 
 pub event-at-once : OneResult event-at.Post

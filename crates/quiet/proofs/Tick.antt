@@ -124,7 +124,8 @@ module _ (limit : ℕ) (b : Bus) (held : eqb (b .hold - 1) 0 ≡ eqb (b .hold) 0
 
 -- ---- all parts, and the answer
 
-module _ (d : Device) (held : eqb (d .bus .hold - 1) 0 ≡ eqb (d .bus .hold) 0) (still : Still (d .bus)) (hung : busHung (tickedBus (idleLimit d) (d .bus)) ≡ busHung (d .bus))
+module _ (d : Device) (held : eqb (d .bus .hold - 1) 0 ≡ eqb (d .bus .hold) 0) (still : Still (d .bus))
+    (hung : busHung (tickedBus (idleLimit d) (d .bus)) ≡ busHung (d .bus))
     (idles : Idles (d .arb .turn) (ticked d)) where
   levels-same : levels false (d .bus) (ticked d) ≡ ticked d
   unfolding levels ticked
@@ -150,4 +151,5 @@ module _ (d : Device) (held : eqb (d .bus .hold - 1) 0 ≡ eqb (d .bus .hold) 0)
 
   pub quiet-tick : step d tick ≡ record { device = ticked d; answer = answer 0 0 d }
   unfolding step stepDecoded stepEvent taken byteRead decode inSequence outcome acknowledged
-  quiet-tick = ap (λ (x : Device). record { device = x; answer = answer 0 0 x }) parts-same ∙ ap (λ (a : Answer). record { device = ticked d; answer = a }) answer-same
+  quiet-tick =
+      ap (λ (x : Device). record { device = x; answer = answer 0 0 x }) parts-same ∙ ap (λ (a : Answer). record { device = ticked d; answer = a }) answer-same

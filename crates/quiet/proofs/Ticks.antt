@@ -29,7 +29,8 @@ use Rattle.arbitration.specs.Quiet.{noLoss, noCut, noClaim, noGrant}
 use Rattle.fields.specs.Apart.{isApart}
 use Rattle.connection.specs.Quiet.{switchStays}
 use Rattle.quiet.specs.Counts.{least, risen, countedBus, withCounts, afterTicks}
-use Rattle.quiet.specs.Quiet.{holdLeft, sclLeft, sdaLeft, idleLeft, ownerLeft, turnLeft, isStill, isCalm, countsLeft, quietTicks, tick, Quiet, ticks, Same, QuietTogether}
+use Rattle.quiet.specs.Quiet.{holdLeft, sclLeft, sdaLeft, idleLeft, ownerLeft, turnLeft, isStill, isCalm, countsLeft, quietTicks, tick, Quiet, ticks}
+use Rattle.quiet.specs.Quiet.{Same, QuietTogether}
 use Rattle.quiet.proofs.Counts.{least-first, least-second, risen-more, risen-none, hold-kept, scl-uncut, scl-hung, sda-hung, idle-unexpired}
 use Rattle.quiet.proofs.Tick.{Idles, quiet-tick}
 
@@ -59,8 +60,14 @@ left-of j d o l =
     let n : ℕ = least s a in
     let all : quietTicks d ≡ least m n = if-true (countsLeft d) 0 h in
     let x : least m n ≤ m = least-first m n in
-    let y : least m n ≤ n = least-second m n in
-    (p .0, p .1, omega (arith, least-first (holdLeft (b .hold)) t), omega (arith, least-second (holdLeft (b .hold)) t), omega (arith, least-first s a), omega (arith, least-second s a)))
+    let y : least m n ≤ n = least-second m n in (
+      p .0,
+      p .1,
+      omega (arith, least-first (holdLeft (b .hold)) t),
+      omega (arith, least-second (holdLeft (b .hold)) t),
+      omega (arith, least-first s a),
+      omega (arith, least-second s a),
+    ))
     (λ h. let none : quietTicks d ≡ 0 = if-false (countsLeft d) 0 h in absurd (omega arith))
 
 -- a still bus, by its tests
@@ -83,7 +90,8 @@ still-of b h =
 -- the bus of `afterTicks`
 abbrev busAfter : ℕ → ℕ → Bus → Bus
 busAfter limit j b =
-    countedBus (b .hold - j) (risen limit (isIdle b) j (b .idle)) (risen sclHungLimit (not (sclHigh b)) j (b .lowscl)) (risen sdaHungLimit (not (sdaHigh b)) j (b .lowsda)) b
+    countedBus (b .hold - j) (risen limit (isIdle b) j (b .idle)) (risen sclHungLimit (not (sclHigh b)) j (b .lowscl))
+    (risen sdaHungLimit (not (sdaHigh b)) j (b .lowsda)) b
 
 scl-at : (limit j : ℕ) (b : Bus) → eqb (b .hold - j) 0 ≡ eqb (b .hold) 0 → sclHigh (busAfter limit j b) ≡ sclHigh b
 scl-at limit j b held = ap (λ (x : Bool). b .outscl && b .drivescl && x) held
@@ -113,7 +121,8 @@ after-more : (j : ℕ) (d : Device) → eqb (d .bus .hold - j) 0 ≡ eqb (d .bus
 unfolding ticked afterTicks withCounts
 after-more j d held =
     let reserve : d .arb .reserve - j - 1 ≡ d .arb .reserve - (j + 1) = omega arith in
-    ap₂ (λ (x : Bus) (n : ℕ). record { side0 = d .side0; side1 = d .side1; bus = x; arb = withReserve n (d .arb); kind = d .kind }) (bus-more (idleLimit d) j (d .bus) held) reserve
+    ap₂ (λ (x : Bus) (n : ℕ). record { side0 = d .side0; side1 = d .side1; bus = x; arb = withReserve n (d .arb); kind = d .kind })
+    (bus-more (idleLimit d) j (d .bus) held) reserve
 
 -- a count that does not run stays at 0
 stays : (up : Bool) (top j n : ℕ) → (up ≡ false → n ≡ 0) → up ≡ false → risen top up j n ≡ 0
@@ -144,12 +153,14 @@ module _ (k : Kind) (j : ℕ) (s : Side) (reserve : ℕ) (b : Bus) (o : 1 ≤ j)
   on-idle true e true f l = idle-unexpired (limitOf k) (s .contr .idletimer) j (b .idle) o l
   on-idle true e false f l = ap (λ (x : Bool). x && true) (ne-eqb (reserve - j) 0 (λ q. omega arith))
   on-idle false e true f l =
-      ap (λ (n : ℕ). s .contr .idletimer && eqb n (limitOf k)) (still .2 e) ∙ ap (λ (x : Bool). s .contr .idletimer && x) (limit-some k) ∙ and-false (s .contr .idletimer)
+      ap (λ (n : ℕ). s .contr .idletimer && eqb n (limitOf k)) (still .2 e) ∙ ap (λ (x : Bool). s .contr .idletimer && x) (limit-some k)
+      ∙ and-false (s .contr .idletimer)
   on-idle false e false f l = and-false (eqb (reserve - j) 0)
 
   unlost : j ≤ ownerLeft (limitOf k) s reserve b → runsOut (limitOf k) s (reserve - j) (busAfter (limitOf k) j b) ≡ false
   unlost l =
-      ap (λ (x : Bool). if eqb (s .rt) 0 then s .contr .idletimer && eqb (risen (limitOf k) (isIdle b) j (b .idle)) (limitOf k) else eqb (reserve - j) 0 && x) (idle-at (limitOf k) j b held)
+      ap (λ (x : Bool). if eqb (s .rt) 0 then s .contr .idletimer && eqb (risen (limitOf k) (isIdle b) j (b .idle)) (limitOf k) else eqb (reserve - j) 0 && x)
+      (idle-at (limitOf k) j b held)
       ∙ on-idle (isIdle b) refl (eqb (s .rt) 0) refl l
 
 module _ (j : ℕ) (d : Device) (o : 1 ≤ j) (left : Left j d) where
@@ -253,7 +264,13 @@ after-none d =
     let idle = risen-none (idleLimit d) (isIdle b) (b .idle) in
     let lowscl = risen-none sclHungLimit (not (sclHigh b)) (b .lowscl) in
     let lowsda = risen-none sdaHungLimit (not (sdaHigh b)) (b .lowsda) in
-    λ i. record { side0 = d .side0; side1 = d .side1; bus = countedBus (hold i) (idle i) (lowscl i) (lowsda i) b; arb = withReserve (reserve i) (d .arb); kind = d .kind }
+    λ i. record {
+      side0 = d .side0;
+      side1 = d .side1;
+      bus = countedBus (hold i) (idle i) (lowscl i) (lowsda i) b;
+      arb = withReserve (reserve i) (d .arb);
+      kind = d .kind;
+    }
 
 pub ticks-after : (n i : ℕ) (d : Device) → i + n ≤ quietTicks d → ticks n (afterTicks i d) ≡ afterTicks (i + n) d
 unfolding ticks runFrom

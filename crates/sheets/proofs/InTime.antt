@@ -10,7 +10,8 @@ use Rattle.arbiter.specs.Words.{worth}
 use Rattle.arbiter.specs.Registers.{ownWritten, mailWritten, drivesWritten, turnWritten}
 use Rattle.arbiter.specs.Events.{decode, inSequence}
 use Rattle.arbiter.specs.Effects.{commanded, written, ticked, freshSide, powerUp, effect}
-use Rattle.arbiter.specs.Order.{isReset, isTick, levels, lost, lossesFrom, losses, cutFrom, cut, winner, claim, granted, grantFrom, grant, joined, connectFrom, connect}
+use Rattle.arbiter.specs.Order.{isReset, isTick, levels, lost, lossesFrom, losses, cutFrom, cut, winner, claim, granted, grantFrom, grant, joined, connectFrom}
+use Rattle.arbiter.specs.Order.{connect}
 use Rattle.arbiter.specs.Steps.{parts, refused, taken, stepEvent, stepDecoded, step, runFrom, run}
 use Rattle.arbiter.specs.AuditWords.{next, reserveOf, letsGo, accepted, reset, tick, withdrawalOf, grantTaken, ticksIn, never}
 use Rattle.arbiter.specs.Marks.{command, write, stop}

@@ -13,13 +13,15 @@ use Rattle.sheets.specs.declared.Checked.{Checked}
 use Rattle.sheets.specs.declared.Checked.the-variants.{Sound, Faulty}
 use Rattle.sheets.specs.declared.Place.{Place}
 use Rattle.sheets.specs.declared.Place.the-variants.{Board, House, Refused}
-use Rattle.sheets.specs.Sheets.{sheetBytes, boxPlace, ticked, isBox, countsRight, boxesRight, checkSheet, andThen, checkPair, placeAt, boxOn, onceChecked, placeOf}
+use Rattle.sheets.specs.Sheets.{sheetBytes, boxPlace, ticked, isBox, countsRight, boxesRight, checkSheet, andThen, checkPair, placeAt, boxOn, onceChecked}
+use Rattle.sheets.specs.Sheets.{placeOf}
 use Rattle.sheets.specs.Sheets.{faultNumber, checkedNumber, placeNumber, firstRefusal, sheetNumber, pairNumber, boxNumber, lookUpNumber}
 
 -- ---- a sheet, and a pair
 
 checked-number : (short counts boxes long : Bool) →
-    checkedNumber (if short then Faulty TooShort else if not counts then Faulty WrongCount else if not boxes then Faulty BadBox else if long then Faulty BytesAfterEnd else Sound)
+    checkedNumber (if short then Faulty TooShort else if not counts then Faulty WrongCount else if not boxes then Faulty BadBox else if long
+    then Faulty BytesAfterEnd else Sound)
     ≡ (if short then 5 else if not counts then 10 else if not boxes then 3 else if long then 7 else 0)
 checked-number true counts boxes long = refl
 checked-number false false boxes long = refl
@@ -72,7 +74,8 @@ box-number section controller board house =
     let place : ℕ = boxPlace section controller in
     found-number (isBox section controller) (ticked place board) (ticked place house) place
 
-place-number : (section controller : ℕ) (board house : List ℕ) → placeNumber (placeOf section controller board house) ≡ lookUpNumber section controller board house
+place-number : (section controller : ℕ) (board house : List ℕ) → placeNumber (placeOf section controller board house)
+    ≡ lookUpNumber section controller board house
 unfolding placeOf lookUpNumber
 place-number section controller board house = once-number (checkPair board house) (boxOn section controller board house) ∙ simp (pair-number, box-number)
 

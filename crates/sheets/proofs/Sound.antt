@@ -16,7 +16,8 @@ use Rattle.sheets.specs.declared.Checked.{Checked}
 use Rattle.sheets.specs.declared.Checked.the-variants.{Sound, Faulty}
 use Rattle.sheets.specs.declared.Place.{Place}
 use Rattle.sheets.specs.declared.Place.the-variants.{Board, House, Refused}
-use Rattle.sheets.specs.Sheets.{sheetBytes, boxPlace, ticked, countsRight, boxesRight, checkSheet, andThen, checkPair, placeAt, isBox, boxOn, onceChecked, placeOf}
+use Rattle.sheets.specs.Sheets.{sheetBytes, boxPlace, ticked, countsRight, boxesRight, checkSheet, andThen, checkPair, placeAt, isBox, boxOn, onceChecked}
+use Rattle.sheets.specs.Sheets.{placeOf}
 
 -- ---- a sound sheet has passed every test
 

@@ -13,7 +13,8 @@ use Rattle.arbiter.specs.State.{sclHigh, sdaHigh, isIdle}
 use Rattle.arbiter.specs.Registers.{ownWritten, mailWritten, drivesWritten, turnWritten}
 use Rattle.arbiter.specs.Events.{decode, inSequence, acknowledged, outcome}
 use Rattle.arbiter.specs.Effects.{commanded, written, freshSide, wasReset, powerUp, effect}
-use Rattle.arbiter.specs.Order.{busyAfter, levels, runsOut, lost, lossesFrom, losses, cutFrom, cut, claim, granted, grantFrom, grant, switched, keptJoined, connectFrom, connect}
+use Rattle.arbiter.specs.Order.{busyAfter, levels, runsOut, lost, lossesFrom, losses, cutFrom, cut, claim, granted, grantFrom, grant, switched, keptJoined}
+use Rattle.arbiter.specs.Order.{connectFrom, connect}
 use Rattle.arbiter.specs.Steps.{parts, taken, stepEvent, stepDecoded, step, runFrom, answersFrom}
 use Rattle.arbiter.specs.Marks.{command, write, stop}
 use Rattle.arbiter.specs.declared.Master.the-variants.{Zero, One}
@@ -102,7 +103,8 @@ and-false false = refl
 pub unexpired : (k : Kind) (s : Side) (n : ℕ) (b : Bus) → n ≡ s .rt → b .idle ≡ 0 → runsOut (limitOf k) s n b ≡ false
 unexpired k s n b whole none =
     either (λ (x : Bool). x ≡ false) (eqb (s .rt) 0)
-    (λ _. ap (λ (c : ℕ). s .contr .idletimer && eqb c (limitOf k)) none ∙ ap (λ (t : Bool). s .contr .idletimer && t) (limit-some k) ∙ and-false (s .contr .idletimer))
+    (λ _. ap (λ (c : ℕ). s .contr .idletimer && eqb c (limitOf k)) none ∙ ap (λ (t : Bool). s .contr .idletimer && t) (limit-some k)
+    ∙ and-false (s .contr .idletimer))
     (λ no. ap (λ (c : ℕ). eqb c 0 && isIdle b) whole ∙ ap (λ (t : Bool). t && isIdle b) no)
 
 abbrev pub owned : Turn → Device → Device
@@ -114,7 +116,8 @@ pub parts-owned : (d : Device) → d .arb .reserve ≡ d .side0 .rt → d .bus .
 unfolding losses lossesFrom cut cutFrom claim grant grantFrom connect connectFrom
 parts-owned d whole none off =
     let x : Device = owned (Owns Zero Sole) d in
-    ap (λ (l : Device). connect NoClock (grant (claim (cut false l)))) (if-false (lost Zero x) x (unexpired (d .kind) (d .side0) (d .arb .reserve) (d .bus) whole none))
+    ap (λ (l : Device). connect NoClock (grant (claim (cut false l))))
+    (if-false (lost Zero x) x (unexpired (d .kind) (d .side0) (d .arb .reserve) (d .bus) whole none))
     ∙ if-false (keptJoined NoClock Zero (d .arb .switch) x) (switched Apart x) off
 
 -- ---- master 1's events

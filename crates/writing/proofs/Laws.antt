@@ -7,7 +7,8 @@ use lib.Dec.{eqb}
 use lib.Bits.{or-zero-r}
 use Rattle.arbiter.specs.Words.{if_then_else_, bit}
 use Rattle.arbiter.specs.Parts.{withBusConnect, withContr, withRt, withInts, withMask, withPointer, withMail}
-use Rattle.arbiter.specs.Registers.{registerNumber, testInt, mailFullInt, raised, withdraws, controlOf, cleared, disconnected, ownWritten, mailWritten, drivesWritten, turnWritten}
+use Rattle.arbiter.specs.Registers.{registerNumber, testInt, mailFullInt, raised, withdraws, controlOf, cleared, disconnected, ownWritten, mailWritten}
+use Rattle.arbiter.specs.Registers.{drivesWritten, turnWritten}
 use Rattle.arbiter.specs.Effects.{afterWrite, writeRisen}
 use Rattle.arbiter.specs.declared.Register.{Register}
 use Rattle.arbiter.specs.declared.Register.the-variants.{Id, Contr, Status, Rt, IntStatus, IntMask, MailLow, MailHigh}
@@ -21,7 +22,9 @@ use Rattle.writing.specs.Written.{contrWritten, intsWritten, mailAfter}
 
 -- ---- CONTR: BUS_CONNECT goes with the grant
 
-pub control-law : (w : Bool) (v : ℕ) → record { priority = bit 7 v; smbusdis = bit 6 v; idletimer = bit 5 v; swrst = bit 4 v; businit = bit 3 v; busconnect = not w && bit 2 v; lockreq = bit 0 v } ≡ (if w then withBusConnect false (controlOf v) else controlOf v)
+pub control-law : (w : Bool) (v : ℕ) → record
+    { priority = bit 7 v; smbusdis = bit 6 v; idletimer = bit 5 v; swrst = bit 4 v; businit = bit 3 v; busconnect = not w && bit 2 v; lockreq = bit 0 v }
+    ≡ (if w then withBusConnect false (controlOf v) else controlOf v)
 control-law true v = refl
 control-law false v = refl
 
@@ -66,7 +69,8 @@ unfolding ownWritten
 own-alone granted Id v s = refl
 own-alone granted Contr v s = go (withdraws granted v)
   where
-    go : (w : Bool) → withContr (if w then withBusConnect false (controlOf v) else controlOf v) s ≡ (if w then disconnected (withContr (controlOf v) s) else withContr (controlOf v) s)
+    go : (w : Bool) → withContr (if w then withBusConnect false (controlOf v) else controlOf v) s
+        ≡ (if w then disconnected (withContr (controlOf v) s) else withContr (controlOf v) s)
     go true = refl
     go false = refl
 own-alone granted Status v s = refl
@@ -77,7 +81,8 @@ own-alone granted IntMask v s = refl
 own-alone granted MailLow v s = refl
 own-alone granted MailHigh v s = refl
 
-literal-alone : (rolls granted : Bool) (r : Register) (v : ℕ) (s : Side) → writerLiteral rolls granted r v s ≡ withPointer (risenPointer rolls s) (ownAlone granted r v s)
+literal-alone : (rolls granted : Bool) (r : Register) (v : ℕ) (s : Side) → writerLiteral rolls granted r v s
+    ≡ withPointer (risenPointer rolls s) (ownAlone granted r v s)
 literal-alone rolls granted Id v s = ap (withPointer (risenPointer rolls s)) (unraised s)
 literal-alone rolls granted Contr v s = ap (λ (t : Side). withPointer (risenPointer rolls s) (withContr (contrWritten granted v) t)) (unraised s)
 literal-alone rolls granted Status v s = refl
@@ -88,7 +93,8 @@ literal-alone rolls granted MailLow v s = ap (withPointer (risenPointer rolls s)
 literal-alone rolls granted MailHigh v s = ap (withPointer (risenPointer rolls s)) (unraised s)
 
 -- pointer and auto-increment are not the byte's business
-risen-alone : (rolls granted : Bool) (r : Register) (v : ℕ) (s : Side) → withPointer (risenPointer rolls s) (ownAlone granted r v s) ≡ writeRisen rolls (ownAlone granted r v s)
+risen-alone : (rolls granted : Bool) (r : Register) (v : ℕ) (s : Side) → withPointer (risenPointer rolls s) (ownAlone granted r v s)
+    ≡ writeRisen rolls (ownAlone granted r v s)
 risen-alone rolls granted Id v s = risen rolls s
 risen-alone rolls granted Contr v s = risen rolls (ownAlone granted Contr v s)
 risen-alone rolls granted Status v s = risen rolls (ownAlone granted Status v s)
@@ -107,7 +113,8 @@ abbrev mailLiteral : Register → ℕ → Side → Side
 mailLiteral r v s =
     withInts (raised mailFullInt (eqb (registerNumber r) 7 && not (s .mail .full)) (s .ints)) (withMail (mailAfter (registerNumber r) v (s .mail)) s)
 
-mail-boxed : (r : Register) (v lo hi : ℕ) (full : Bool) (s : Side) → mailLiteral r v (withMail (record { low = lo; high = hi; full = full }) s) ≡ mailWritten r v (withMail (record { low = lo; high = hi; full = full }) s)
+mail-boxed : (r : Register) (v lo hi : ℕ) (full : Bool) (s : Side) → mailLiteral r v (withMail (record { low = lo; high = hi; full = full }) s)
+    ≡ mailWritten r v (withMail (record { low = lo; high = hi; full = full }) s)
 unfolding mailWritten
 mail-boxed Id v lo hi full s = unraised (withMail (record { low = lo; high = hi; full = full }) s)
 mail-boxed Contr v lo hi full s = unraised (withMail (record { low = lo; high = hi; full = full }) s)
@@ -129,7 +136,18 @@ abbrev drivesLiteral : Bool → Bool → Register → ℕ → Bus → Bus
 drivesLiteral granted connect r v b =
     let frees : Bool = eqb (registerNumber r) 1 && (granted && (bit 2 v || not (bit 0 v))) in
     let sets : Bool = eqb (registerNumber r) 2 && (granted && not connect) in
-    record { outscl = b .outscl; outsda = b .outsda; intin = b .intin; drivescl = frees || (if sets then bit 6 v else b .drivescl); drivesda = frees || (if sets then bit 7 v else b .drivesda); busy = b .busy; hold = b .hold; idle = b .idle; lowscl = b .lowscl; lowsda = b .lowsda }
+    record {
+      outscl = b .outscl;
+      outsda = b .outsda;
+      intin = b .intin;
+      drivescl = frees || (if sets then bit 6 v else b .drivescl);
+      drivesda = frees || (if sets then bit 7 v else b .drivesda);
+      busy = b .busy;
+      hold = b .hold;
+      idle = b .idle;
+      lowscl = b .lowscl;
+      lowsda = b .lowsda;
+    }
 
 pub drives-law : (granted connect : Bool) (r : Register) (v : ℕ) (b : Bus) → drivesLiteral granted connect r v b ≡ drivesWritten granted connect r v b
 unfolding drivesWritten
@@ -144,7 +162,8 @@ drives-law granted connect IntMask v b = refl
 drives-law granted connect MailLow v b = refl
 drives-law granted connect MailHigh v b = refl
 
-pub turn-law : (granted : Bool) (r : Register) (v : ℕ) (t : Turn) → (if eqb (registerNumber r) 1 && (granted && not (bit 0 v)) then Nobody else t) ≡ turnWritten granted r v t
+pub turn-law : (granted : Bool) (r : Register) (v : ℕ) (t : Turn) → (if eqb (registerNumber r) 1 && (granted && not (bit 0 v)) then Nobody else t)
+    ≡ turnWritten granted r v t
 unfolding turnWritten
 turn-law granted Id v t = refl
 turn-law granted Contr v t = refl

@@ -11,7 +11,8 @@ use Rattle.effects.proofs.on_general_call.Tie as tie
 
 returns : tie.Need-returns
 unfolding effectOf wasRead lined ticked effect byteRead inSequence acknowledged outcome
-returns c = simp (c .did-so .ensures, c .before .outcome-number .ensures, ← c .before .before .soft-reset .ensures, eq-eqb _ _ (c .before .before .before .if1 .taken))
+returns c =
+    simp (c .did-so .ensures, c .before .outcome-number .ensures, ← c .before .before .soft-reset .ensures, eq-eqb _ _ (c .before .before .before .if1 .taken))
 
 returns-2 : tie.Need-returns-2
 unfolding effectOf wasRead lined ticked effect byteRead inSequence acknowledged outcome

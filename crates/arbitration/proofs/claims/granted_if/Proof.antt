@@ -16,7 +16,9 @@ returns c =
       c .before .before .before .before .before .pick-last .ensures,
       c .before .before .before .before .before .before .last-of .ensures,
     )
-    (granted-arb (c .before .before .before .before .before .before .before .args .on) (c .before .before .before .before .before .before .before .args .m) (c .before .before .before .before .before .before .before .args .g) (c .before .before .before .before .before .before .before .args .rt) (c .before .before .before .before .before .before .before .args .a))
+    (granted-arb (c .before .before .before .before .before .before .before .args .on) (c .before .before .before .before .before .before .before .args .m)
+    (c .before .before .before .before .before .before .before .args .g) (c .before .before .before .before .before .before .before .args .rt)
+    (c .before .before .before .before .before .before .before .args .a))
 
 pub granted-if-spec : {M : Type 1} → statement M
 granted-if-spec =

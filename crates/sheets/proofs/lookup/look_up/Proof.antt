@@ -23,17 +23,20 @@ part-result-end-2 c = omega (arith, in-house _ _ _ _ _ (sym (c .before .before .
 returns : tie.Need-returns
 returns c =
     let given = c .before .before .before .before .before .before .before .args in
-    of-board _ (given .board .now) (given .house .now) (given .board .ptr) (given .house .ptr) _ (sym (c .before .before .before .before .place-of .ensures .0) ∙ c .before .before .at .given .1)
+    of-board _ (given .board .now) (given .house .now) (given .board .ptr) (given .house .ptr) _
+    (sym (c .before .before .before .before .place-of .ensures .0) ∙ c .before .before .at .given .1)
 
 returns-2 : tie.Need-returns-2
 returns-2 c =
     let given = c .before .before .before .before .before .before .before .args in
-    of-house _ (given .board .now) (given .house .now) (given .board .ptr) (given .house .ptr) _ (sym (c .before .before .before .before .place-of .ensures .0) ∙ c .before .before .at2 .given .1)
+    of-house _ (given .board .now) (given .house .now) (given .board .ptr) (given .house .ptr) _
+    (sym (c .before .before .before .before .place-of .ensures .0) ∙ c .before .before .at2 .given .1)
 
 returns-3 : tie.Need-returns-3
 returns-3 c =
     let given = c .before .before .before .before .before .before .args in
-    of-none _ (given .board .now) (given .house .now) (given .board .ptr) (given .house .ptr) _ (sym (c .before .before .before .place-of .ensures .0) ∙ c .before .enum-told .given .1)
+    of-none _ (given .board .now) (given .house .now) (given .board .ptr) (given .house .ptr) _
+    (sym (c .before .before .before .place-of .ensures .0) ∙ c .before .enum-told .given .1)
 
 pub look-up-spec : {M : Type 1} → statement M
 look-up-spec =

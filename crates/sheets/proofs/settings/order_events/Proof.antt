@@ -11,7 +11,8 @@ put-order-requires c κs = given-passed _ _ _ _ (sym (c .before .before .before 
 
 returns : tie.Need-returns
 returns c =
-    let left = given-left _ _ _ _ (sym (c .before .before .before .before .before .before .before .read-order .ensures) ∙ c .before .before .before .before .before .read .given .1) in
+    let left = given-left _ _ _ _ (sym (c .before .before .before .before .before .before .before .read-order .ensures)
+    ∙ c .before .before .before .before .before .read .given .1) in
     (left .0, c .before .before .put-order .ensures ∙ left .1)
 
 returns-2 : tie.Need-returns-2

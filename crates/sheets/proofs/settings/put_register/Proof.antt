@@ -7,7 +7,8 @@ use Rattle.sheets.proofs.settings.put_register.Tie as tie
 
 returns : tie.Need-returns
 returns c =
-    register-stored _ _ _ _ _ (c .before .before .before .before .before .before .before .before .before .before .put-event .ensures) (c .before .before .before .before .before .before .put-event2 .ensures)
+    let back10 = c .before .before .before .before .before .before .before .before .before .before in
+    register-stored _ _ _ _ _ (back10 .put-event .ensures) (c .before .before .before .before .before .before .put-event2 .ensures)
     (c .before .before .put-event3 .ensures)
 
 pub put-register-spec : {M : Type 1} → statement M
