@@ -38,7 +38,8 @@ use Rattle.arbiter.specs.Traces.{kindOf}
 use Rattle.arbiter.proofs.Choice.{same-self, not-true}
 use Rattle.quiet.specs.Counts.{countedBus, withCounts}
 use Rattle.quiet.specs.Quiet.{Same}
-use Rattle.advance.specs.Changes.{agree, samePort, sameRegister, sameGround, sameTurn, sameLast, sameSwitch, sameControl, sameMail, sameSide, sameLines, sameArb, sameKind, sameButCounts, sameShown, changes, bare, Unchanged}
+use Rattle.advance.specs.Changes.{agree, samePort, sameRegister, sameGround, sameTurn, sameLast, sameSwitch, sameControl, sameMail, sameSide, sameLines}
+use Rattle.advance.specs.Changes.{sameArb, sameKind, sameButCounts, sameShown, changes, bare, Unchanged}
 
 -- ---- what agrees is equal
 
@@ -263,7 +264,8 @@ switch-self (Closed m) = same-self m
 
 control-self : (c : Control) → sameControl c c ≡ true
 control-self c =
-    and (and (and (and (and (and (agree-self (c .priority)) (agree-self (c .smbusdis))) (agree-self (c .idletimer))) (agree-self (c .swrst))) (agree-self (c .businit))) (agree-self (c .busconnect)))
+    and (and (and (and (and (and (agree-self (c .priority)) (agree-self (c .smbusdis))) (agree-self (c .idletimer))) (agree-self (c .swrst)))
+    (agree-self (c .businit))) (agree-self (c .busconnect)))
     (agree-self (c .lockreq))
 
 side-self : (s : Side) → sameSide s s ≡ true
@@ -306,7 +308,8 @@ pub unchanged : Unchanged
 unfolding changes
 unchanged before after = (
   λ h.
-      let p = both (sameButCounts before after) (sameShown (before .bus) (after .bus)) (not-false (sameButCounts before after && sameShown (before .bus) (after .bus)) h) in
+      let p = both (sameButCounts before after) (sameShown (before .bus) (after .bus))
+      (not-false (sameButCounts before after && sameShown (before .bus) (after .bus)) h) in
       (bare-eq before after (p .0), shown-eq before after (p .1)),
   λ e s.
       ap not (and (bare-same before after e) (shown-same before after s)),

@@ -58,7 +58,8 @@ module _ (d : Device) (held : eqb (d .bus .hold - 1) 0 ≡ eqb (d .bus .hold) 0)
   left-ticked : left (ticked d) ≡ (if eqb (b .hold) 0 then leftOf (isIdle b) (sclHigh b) (sdaHigh b) toLose (ltb (c .lowscl) cutTicks) (busHung c) else 3)
   unfolding ticked
   left-ticked =
-      λ i. if held i then leftOf (idle-same (idleLimit d) b held rests i) (level-same (idleLimit d) b held rests i) (sdaHigh b) toLose (ltb (c .lowscl) cutTicks) (busHung c) else 3
+      λ i. if held i then leftOf (idle-same (idleLimit d) b held rests i) (level-same (idleLimit d) b held rests i) (sdaHigh b) toLose
+      (ltb (c .lowscl) cutTicks) (busHung c) else 3
 
   -- where BUS_HUNG stays, nothing has changed
   hung-same : busHung c ≡ busHung b → changes d (ticked d) ≡ false
@@ -68,7 +69,8 @@ module _ (d : Device) (held : eqb (d .bus .hold - 1) 0 ≡ eqb (d .bus .hold) 0)
   no-more : left (ticked d) ≤ left d
   no-more =
       let cuts = uncut-before (not (sclHigh b)) (b .lowscl) in
-      let stays = of-stays (isIdle b) (sclHigh b) (sdaHigh b) toLose (ltb (b .lowscl) cutTicks) (ltb (c .lowscl) cutTicks) (busHung b) (busHung c) cuts (hung-stays (idleLimit d) b) in
+      let stays = of-stays (isIdle b) (sclHigh b) (sdaHigh b) toLose (ltb (b .lowscl) cutTicks) (ltb (c .lowscl) cutTicks) (busHung b) (busHung c) cuts
+      (hung-stays (idleLimit d) b) in
       split (eqb (b .hold) 0)
       (λ z. omega (arith, stays, left-ticked ∙ if-true _ 3 z, if-true (leftOn toLose b) 3 z))
       (λ z. omega (arith, left-ticked ∙ if-false _ 3 z, if-false (leftOn toLose b) 3 z))

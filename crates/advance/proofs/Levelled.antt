@@ -73,7 +73,8 @@ module _ (limit : ℕ) (b : Bus) (held : eqb (b .hold - 1) 0 ≡ eqb (b .hold) 0
 
   busy-kept : busyAfter false b c ≡ b .busy
   busy-kept =
-      ap (λ (s : Bool). (b .busy || sclHigh b && s && sdaHigh b && not (sdaHigh b)) && not (sclHigh b && s && not (sdaHigh b) && sdaHigh b)) high ∙ busy-same (b .busy) (sclHigh b) (sdaHigh b)
+      ap (λ (s : Bool). (b .busy || sclHigh b && s && sdaHigh b && not (sdaHigh b)) && not (sclHigh b && s && not (sdaHigh b) && sdaHigh b)) high
+      ∙ busy-same (b .busy) (sclHigh b) (sdaHigh b)
 
   scl-kept : sclChanged b c ≡ false
   scl-kept = ap (λ (s : Bool). sclHigh b && not s || not (sclHigh b) && s) high ∙ scl-same (sclHigh b)

@@ -33,7 +33,8 @@ use Rattle.advance.proofs.Levelled.{mid-ticked}
 -- ---- the partner
 
 -- It is next if it asks, and after it nobody, for m does not ask.
-heir-losing : (m : Master) (r0 r1 rest : Bool) → of m r0 r1 ≡ false → losing (if of m r1 r0 then heir rest (partner m) Sole else Nobody) r0 r1 ≤ worth 1 (of m r1 r0)
+heir-losing : (m : Master) (r0 r1 rest : Bool) → of m r0 r1 ≡ false
+    → losing (if of m r1 r0 then heir rest (partner m) Sole else Nobody) r0 r1 ≤ worth 1 (of m r1 r0)
 heir-losing Zero true r1 rest h = absurd (true≢false h)
 heir-losing Zero false true true h = omega arith
 heir-losing Zero false true false h = omega arith
@@ -99,7 +100,8 @@ module _ (m : Master) {g : Ground} (d : Device) (t : d .arb .turn ≡ Owns m g) 
       let l : ℕ = losing (n .arb .turn) (requests Zero n) (requests One n) in
       if-true (leftOn l (n .bus)) 3 z ∙ ap (λ (y : Bool). leftOf y (sclHigh (n .bus)) (sdaHigh (n .bus)) l (ltb (n .bus .lowscl) cutTicks) (busHung (n .bus))) i
 
-  pub loss-falls : eqb (d .bus .hold - 1) 0 ≡ eqb (d .bus .hold) 0 → Still (d .bus) → eqb (d .bus .hold) 0 ≡ true → Over m (parts Tick d) → left (parts Tick d) + 1 ≤ left d
+  pub loss-falls : eqb (d .bus .hold - 1) 0 ≡ eqb (d .bus .hold) 0 → Still (d .bus) → eqb (d .bus .hold) 0 ≡ true → Over m (parts Tick d)
+      → left (parts Tick d) + 1 ≤ left d
   loss-falls held rests z over =
       let n : Device = parts Tick d in
       let after : left n ≡ losing (n .arb .turn) (requests Zero n) (requests One n) = left-idle n (eq-eqb (n .bus .hold) 0 (over .hold)) idle-after in

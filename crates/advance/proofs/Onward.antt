@@ -112,7 +112,8 @@ jump-kept j w p q l =
     let after : ticks j d ≡ afterTicks j d = quiet-together d j q .0 in
     let all : ticks (w .left) d ≡ ticks n (afterTicks j d) = ap (λ (x : ℕ). ticks x d) (sym e) ∙ ticks-more j n d ∙ ap (ticks n) after in
     let none : changing j d ≡ 0 = changing-quiet j d q in
-    let sum : changing (w .left) d ≡ changing j d + changing n (afterTicks j d) = ap (λ (x : ℕ). changing x d) (sym e) ∙ changing-more j n d ∙ ap (λ (x : Device). changing j d + changing n x) after in
+    let sum : changing (w .left) d ≡ changing j d + changing n (afterTicks j d) = ap (λ (x : ℕ). changing x d) (sym e) ∙ changing-more j n d
+    ∙ ap (λ (x : Device). changing j d + changing n x) after in
     (sym all, omega arith, omega arith, omega arith)
 
 pub onward-kept : (w : Way) → 0 < w .left → Kept w (onward w)

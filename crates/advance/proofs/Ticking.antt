@@ -58,13 +58,15 @@ either-holds false false c e f g h = absurd (false≢true h)
 
 pub hung-stays : (limit : ℕ) (b : Bus) → busHung b ≡ true → busHung (tickedBus limit b) ≡ true
 hung-stays limit b h =
-    either-holds (eqb (b .lowscl) sclHungLimit) (eqb (b .lowsda) sdaHungLimit) _ _ (counted-full sclHungLimit (not (sclHigh b)) (b .lowscl)) (counted-full sdaHungLimit (not (sdaHigh b)) (b .lowsda)) h
+    either-holds (eqb (b .lowscl) sclHungLimit) (eqb (b .lowsda) sdaHungLimit) _ _ (counted-full sclHungLimit (not (sclHigh b)) (b .lowscl))
+    (counted-full sdaHungLimit (not (sdaHigh b)) (b .lowsda)) h
 
 -- With both lines high no low count moves.
 pub hung-high : (limit : ℕ) (b : Bus) → sclHigh b && sdaHigh b ≡ true → busHung (tickedBus limit b) ≡ busHung b
 hung-high limit b h =
     let high = and-eq-true-iff (sclHigh b) (sdaHigh b) .0 h in
-    ap₂ (λ (s a : Bool). eqb (countedTo sclHungLimit (not s) (b .lowscl)) sclHungLimit || eqb (countedTo sdaHungLimit (not a) (b .lowsda)) sdaHungLimit) (high .0) (high .1)
+    ap₂ (λ (s a : Bool). eqb (countedTo sclHungLimit (not s) (b .lowscl)) sclHungLimit || eqb (countedTo sdaHungLimit (not a) (b .lowsda)) sdaHungLimit)
+    (high .0) (high .1)
 
 -- ---- the levels
 

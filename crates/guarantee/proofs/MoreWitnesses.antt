@@ -6,7 +6,8 @@ use Rattle.arbiter.specs.Words.{byteOf}
 use Rattle.arbiter.specs.Registers.{contrByte, statusByte, registerByte, isAsserted, ownWritten, mailWritten, drivesWritten, turnWritten}
 use Rattle.arbiter.specs.Events.{decode, inSequence, acknowledged, outcome}
 use Rattle.arbiter.specs.Effects.{commanded, written, paired, wasRead, lined, ticked, freshSide, wasReset, powerUp, effect}
-use Rattle.arbiter.specs.Order.{levels, lost, lossesFrom, losses, cutFrom, cut, winner, claim, granted, grantFrom, grant, joined, clocked, keptJoined, connectFrom, connect}
+use Rattle.arbiter.specs.Order.{levels, lost, lossesFrom, losses, cutFrom, cut, winner, claim, granted, grantFrom, grant, joined, clocked, keptJoined}
+use Rattle.arbiter.specs.Order.{connectFrom, connect}
 use Rattle.arbiter.specs.Steps.{parts, ownerByte, linesByte, byteRead, refused, taken, stepEvent, stepDecoded, step, runFrom, run}
 use Rattle.arbiter.specs.AuditWords.{ticksIn, never, throughout}
 use Rattle.arbiter.specs.Traces.{rawsIn}
@@ -14,7 +15,8 @@ use Rattle.arbiter.specs.declared.Master.the-variants.{Zero, One}
 use Rattle.arbiter.specs.declared.Kind.the-variants.{Pca9641, Tpt29641}
 use Rattle.audit.specs.WorstWait.{stopsAfter}
 use Rattle.sheets.specs.Sheets.{countsRight, boxRight, flagRight, boxesRight, checkSheet, checkPair}
-use Rattle.sheets.specs.Settings.{tickedOnEither, isComplete, valueAt, settingOf, orderOf, controlByte, orderEvents, readComplete, readOrder, orderedOf, bufferOf, ordered, orderedBuffer}
+use Rattle.sheets.specs.Settings.{tickedOnEither, isComplete, valueAt, settingOf, orderOf, controlByte, orderEvents, readComplete, readOrder, orderedOf}
+use Rattle.sheets.specs.Settings.{bufferOf, ordered, orderedBuffer}
 use Rattle.sheets.specs.Waits.{waitBehind, waitOn, waitOf}
 use Rattle.guarantee.specs.MoreWitnesses.{moreWitnesses, MoreWitnessesMeet}
 

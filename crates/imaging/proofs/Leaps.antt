@@ -133,7 +133,8 @@ Tells r a b = (r ≡ true → a ≡ b) × (a ≡ b → r ≡ true)
 to-end : (l : List ℕ) → take (length l - 21) (drop 21 l) ≡ drop 21 l
 to-end l = ap (λ (n : ℕ). take n (drop 21 l)) (sym (length-drop 21 l)) ∙ take-length (drop 21 l)
 
-told-to-end : (b c : List ℕ) (rest : Bool) → Tells rest (take (length b - 21) (drop 21 b)) (take (length c - 21) (drop 21 c)) → Tells rest (drop 21 b) (drop 21 c)
+told-to-end : (b c : List ℕ) (rest : Bool) → Tells rest (take (length b - 21) (drop 21 b)) (take (length c - 21) (drop 21 c))
+    → Tells rest (drop 21 b) (drop 21 c)
 told-to-end b c rest r = (λ t. sym (to-end b) ∙ r .0 t ∙ to-end c, λ e. r .1 (to-end b ∙ e ∙ sym (to-end c)))
 
 pub alike : (b c : List ℕ) (first rest : Bool) → isImage b ≡ true → isImage c ≡ true → Tells first (take 14 b) (take 14 c)

@@ -33,7 +33,11 @@ ended-is-step e d h seq l =
     let number = outcomeNumber (outcome e d) in
     ap (λ (b : Bool). if b then taken e d else refused (outcomeNumber OutOfSequence) d) seq
     ∙ ap (λ (x : Device). record { device = x; answer = answer number (byteRead e d) x }) (alone .0)
-    ∙ (λ i. record { device = itsEnd e d; answer = kept number (byteRead e d) (alone .1 i) (either-byte (keepsLines e d) (linesByte d) (linesByte (itsEnd e d)) (alone .2) i) })
+    ∙ (λ i. record {
+      device = itsEnd e d;
+      answer = kept number (byteRead e d) (alone .1 i)
+          (either-byte (keepsLines e d) (linesByte d) (linesByte (itsEnd e d)) (alone .2) i);
+    })
 
 -- ---- an answer shows the device after its step
 

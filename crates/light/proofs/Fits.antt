@@ -105,52 +105,67 @@ module _ (d : Device) (x p : Side) where
   quiet-fits : (m : Master) (t : Turn) → Fits m t (side m d) x → Alike (side (partner m) d) p → quietFrom t false d ≡ true → quietFrom t false (after m) ≡ true
   quiet-fits Zero Nobody f a h =
       let q = tests Nobody d h in
-      whole Nobody (after Zero) (q .0) refl (none-asks (d .side0 .contr .lockreq) (d .side1 .contr .lockreq) (x .contr .lockreq) (p .contr .lockreq) f (λ e. requests (d .side1) p (a .1) ∙ e) (q .2)) refl refl
+      whole Nobody (after Zero) (q .0) refl (none-asks (d .side0 .contr .lockreq) (d .side1 .contr .lockreq) (x .contr .lockreq) (p .contr .lockreq) f
+      (λ e. requests (d .side1) p (a .1) ∙ e) (q .2)) refl refl
   quiet-fits One Nobody f a h =
       let q = tests Nobody d h in
-      whole Nobody (after One) (q .0) refl (none-asks (d .side0 .contr .lockreq) (d .side1 .contr .lockreq) (p .contr .lockreq) (x .contr .lockreq) (λ e. requests (d .side0) p (a .1) ∙ e) f (q .2)) refl refl
+      whole Nobody (after One) (q .0) refl (none-asks (d .side0 .contr .lockreq) (d .side1 .contr .lockreq) (p .contr .lockreq) (x .contr .lockreq)
+      (λ e. requests (d .side0) p (a .1) ∙ e) f (q .2)) refl refl
   quiet-fits Zero (Claims Zero g) f a h =
       let q = tests (Claims Zero g) d h in
-      whole (Claims Zero g) (after Zero) (q .0) (waits (atRest (d .side0 .port)) (atRest (x .port)) (eqb (d .bus .hold) 0) (f refl .1) (q .1)) (f refl .0 (q .2)) refl refl
+      whole (Claims Zero g) (after Zero) (q .0) (waits (atRest (d .side0 .port)) (atRest (x .port)) (eqb (d .bus .hold) 0) (f refl .1) (q .1))
+      (f refl .0 (q .2)) refl refl
   quiet-fits One (Claims One g) f a h =
       let q = tests (Claims One g) d h in
-      whole (Claims One g) (after One) (q .0) (waits (atRest (d .side1 .port)) (atRest (x .port)) (eqb (d .bus .hold) 0) (f refl .1) (q .1)) (f refl .0 (q .2)) refl refl
+      whole (Claims One g) (after One) (q .0) (waits (atRest (d .side1 .port)) (atRest (x .port)) (eqb (d .bus .hold) 0) (f refl .1) (q .1)) (f refl .0 (q .2))
+      refl refl
   quiet-fits Zero (Claims One g) f a h =
       let q = tests (Claims One g) d h in
-      whole (Claims One g) (after Zero) (q .0) (waits (atRest (d .side1 .port)) (atRest (p .port)) (eqb (d .bus .hold) 0) (λ e. sym (a .2) ∙ e) (q .1)) (requests (d .side1) p (a .1) ∙ q .2) refl refl
+      whole (Claims One g) (after Zero) (q .0) (waits (atRest (d .side1 .port)) (atRest (p .port)) (eqb (d .bus .hold) 0) (λ e. sym (a .2) ∙ e) (q .1))
+      (requests (d .side1) p (a .1) ∙ q .2) refl refl
   quiet-fits One (Claims Zero g) f a h =
       let q = tests (Claims Zero g) d h in
-      whole (Claims Zero g) (after One) (q .0) (waits (atRest (d .side0 .port)) (atRest (p .port)) (eqb (d .bus .hold) 0) (λ e. sym (a .2) ∙ e) (q .1)) (requests (d .side0) p (a .1) ∙ q .2) refl refl
+      whole (Claims Zero g) (after One) (q .0) (waits (atRest (d .side0 .port)) (atRest (p .port)) (eqb (d .bus .hold) 0) (λ e. sym (a .2) ∙ e) (q .1))
+      (requests (d .side0) p (a .1) ∙ q .2) refl refl
   quiet-fits Zero (Owns Zero g) f a h =
       let q = tests (Owns Zero g) d h in
-      whole (Owns Zero g) (after Zero) (linked-on d Zero (d .side0) x (f refl .1) (q .0)) refl refl refl (keeps (idleLimit d) (d .arb .reserve) (d .bus) (d .side0) x (f refl .0) (f refl .1) (q .4))
+      whole (Owns Zero g) (after Zero) (linked-on d Zero (d .side0) x (f refl .1) (q .0)) refl refl refl
+      (keeps (idleLimit d) (d .arb .reserve) (d .bus) (d .side0) x (f refl .0) (f refl .1) (q .4))
   quiet-fits One (Owns One g) f a h =
       let q = tests (Owns One g) d h in
-      whole (Owns One g) (after One) (linked-on d One (d .side1) x (f refl .1) (q .0)) refl refl refl (keeps (idleLimit d) (d .arb .reserve) (d .bus) (d .side1) x (f refl .0) (f refl .1) (q .4))
+      whole (Owns One g) (after One) (linked-on d One (d .side1) x (f refl .1) (q .0)) refl refl refl
+      (keeps (idleLimit d) (d .arb .reserve) (d .bus) (d .side1) x (f refl .0) (f refl .1) (q .4))
   quiet-fits Zero (Owns One g) f a h =
       let q = tests (Owns One g) d h in
-      whole (Owns One g) (after Zero) (linked-on d One (d .side1) p (a .1) (q .0)) refl refl refl (keeps (idleLimit d) (d .arb .reserve) (d .bus) (d .side1) p (a .0) (a .1) (q .4))
+      whole (Owns One g) (after Zero) (linked-on d One (d .side1) p (a .1) (q .0)) refl refl refl
+      (keeps (idleLimit d) (d .arb .reserve) (d .bus) (d .side1) p (a .0) (a .1) (q .4))
   quiet-fits One (Owns Zero g) f a h =
       let q = tests (Owns Zero g) d h in
-      whole (Owns Zero g) (after One) (linked-on d Zero (d .side0) p (a .1) (q .0)) refl refl refl (keeps (idleLimit d) (d .arb .reserve) (d .bus) (d .side0) p (a .0) (a .1) (q .4))
+      whole (Owns Zero g) (after One) (linked-on d Zero (d .side0) p (a .1) (q .0)) refl refl refl
+      (keeps (idleLimit d) (d .arb .reserve) (d .bus) (d .side0) p (a .0) (a .1) (q .4))
 
   -- both sides fit
   quiet-both : (t : Turn) → Fits Zero t (d .side0) x → Fits One t (d .side1) p → quietFrom t false d ≡ true → quietFrom t false (after Zero) ≡ true
   quiet-both Nobody f a h =
       let q = tests Nobody d h in
-      whole Nobody (after Zero) (q .0) refl (none-asks (d .side0 .contr .lockreq) (d .side1 .contr .lockreq) (x .contr .lockreq) (p .contr .lockreq) f a (q .2)) refl refl
+      whole Nobody (after Zero) (q .0) refl (none-asks (d .side0 .contr .lockreq) (d .side1 .contr .lockreq) (x .contr .lockreq) (p .contr .lockreq) f a (q .2))
+      refl refl
   quiet-both (Claims Zero g) f a h =
       let q = tests (Claims Zero g) d h in
-      whole (Claims Zero g) (after Zero) (q .0) (waits (atRest (d .side0 .port)) (atRest (x .port)) (eqb (d .bus .hold) 0) (f refl .1) (q .1)) (f refl .0 (q .2)) refl refl
+      whole (Claims Zero g) (after Zero) (q .0) (waits (atRest (d .side0 .port)) (atRest (x .port)) (eqb (d .bus .hold) 0) (f refl .1) (q .1))
+      (f refl .0 (q .2)) refl refl
   quiet-both (Claims One g) f a h =
       let q = tests (Claims One g) d h in
-      whole (Claims One g) (after Zero) (q .0) (waits (atRest (d .side1 .port)) (atRest (p .port)) (eqb (d .bus .hold) 0) (a refl .1) (q .1)) (a refl .0 (q .2)) refl refl
+      whole (Claims One g) (after Zero) (q .0) (waits (atRest (d .side1 .port)) (atRest (p .port)) (eqb (d .bus .hold) 0) (a refl .1) (q .1)) (a refl .0 (q .2))
+      refl refl
   quiet-both (Owns Zero g) f a h =
       let q = tests (Owns Zero g) d h in
-      whole (Owns Zero g) (after Zero) (linked-on d Zero (d .side0) x (f refl .1) (q .0)) refl refl refl (keeps (idleLimit d) (d .arb .reserve) (d .bus) (d .side0) x (f refl .0) (f refl .1) (q .4))
+      whole (Owns Zero g) (after Zero) (linked-on d Zero (d .side0) x (f refl .1) (q .0)) refl refl refl
+      (keeps (idleLimit d) (d .arb .reserve) (d .bus) (d .side0) x (f refl .0) (f refl .1) (q .4))
   quiet-both (Owns One g) f a h =
       let q = tests (Owns One g) d h in
-      whole (Owns One g) (after Zero) (linked-on d One (d .side1) p (a refl .1) (q .0)) refl refl refl (keeps (idleLimit d) (d .arb .reserve) (d .bus) (d .side1) p (a refl .0) (a refl .1) (q .4))
+      whole (Owns One g) (after Zero) (linked-on d One (d .side1) p (a refl .1) (q .0)) refl refl refl
+      (keeps (idleLimit d) (d .arb .reserve) (d .bus) (d .side1) p (a refl .0) (a refl .1) (q .4))
 
 -- a claimant is not granted while SCL is held, whatever its port does
 not-ready : (rest free : Bool) → free ≡ false → not (rest && free) ≡ true
@@ -166,7 +181,8 @@ module _ (d : Device) (x : Side) where
   quiet-held One (Claims Zero g) c f l h = absurd (false≢true l)
   quiet-held Zero (Claims Zero g) c f l h =
       let q = tests (Claims Zero g) d h in
-      whole (Claims Zero g) (after d x (d .side1) Zero) (q .0) (not-ready (atRest (x .port)) (eqb (d .bus .hold) 0) f) (requests (d .side0) x c ∙ q .2) refl refl
+      whole (Claims Zero g) (after d x (d .side1) Zero) (q .0) (not-ready (atRest (x .port)) (eqb (d .bus .hold) 0) f) (requests (d .side0) x c ∙ q .2) refl
+      refl
   quiet-held One (Claims One g) c f l h =
       let q = tests (Claims One g) d h in
       whole (Claims One g) (after d x (d .side0) One) (q .0) (not-ready (atRest (x .port)) (eqb (d .bus .hold) 0) f) (requests (d .side1) x c ∙ q .2) refl refl
@@ -225,7 +241,8 @@ module _ (m : Master) (d : Device) (x p : Side) where
   unfolding isQuiet
   held-settles (still, quiet) c e f l =
       ap (λ (y : Device). partsThreeToSeven false NoClock y) (same-levels still)
-      ∙ sym (quiet-law false NoClock (after d x p m) (ap (λ (y : Side). quietFrom (d .arb .turn) false (after d x y m)) e ∙ quiet-held d x m (d .arb .turn) c f l quiet))
+      ∙ sym (quiet-law false NoClock (after d x p m)
+      (ap (λ (y : Side). quietFrom (d .arb .turn) false (after d x y m)) e ∙ quiet-held d x m (d .arb .turn) c f l quiet))
 
   pub same-owner : ownerByte (after d x p m) ≡ ownerByte d
   unfolding ownerByte
@@ -244,7 +261,8 @@ module _ (d : Device) (x p : Side) where
   shown i0 k0 i1 k1 =
       worth 1 (isAsserted (busHung (d .bus)) i0 k0) + worth 2 (isAsserted (busHung (d .bus)) i1 k1) + worth 4 (sclHigh (d .bus)) + worth 8 (sdaHigh (d .bus))
 
-  pub same-lines : (m : Master) → x .ints ≡ (side m d) .ints → x .mask ≡ (side m d) .mask → p .ints ≡ (side (partner m) d) .ints → p .mask ≡ (side (partner m) d) .mask
+  pub same-lines : (m : Master) → x .ints ≡ (side m d) .ints → x .mask ≡ (side m d) .mask → p .ints ≡ (side (partner m) d) .ints → p .mask
+      ≡ (side (partner m) d) .mask
       → linesByte (after d x p m) ≡ linesByte d
   unfolding linesByte
   same-lines Zero a b c e = λ i. shown (a i) (b i) (c i) (e i)
@@ -256,10 +274,12 @@ module _ (d : Device) (x p : Side) (b : Bus) where
   abbrev moved : Device
   moved = record { side0 = x; side1 = p; bus = b; arb = d .arb; kind = d .kind }
 
-  quiet-lined : (t : Turn) → Alike (d .side0) x → Alike (d .side1) p → b .hold ≡ d .bus .hold → noLoss t (withBus b d) ≡ true → quietFrom t false d ≡ true → quietFrom t false moved ≡ true
+  quiet-lined : (t : Turn) → Alike (d .side0) x → Alike (d .side1) p → b .hold ≡ d .bus .hold → noLoss t (withBus b d) ≡ true → quietFrom t false d ≡ true
+      → quietFrom t false moved ≡ true
   quiet-lined Nobody a c k l h =
       let q = tests Nobody d h in
-      whole Nobody moved (q .0) refl (none-asks (d .side0 .contr .lockreq) (d .side1 .contr .lockreq) (x .contr .lockreq) (p .contr .lockreq) (λ e. requests (d .side0) x (a .1) ∙ e) (λ e. requests (d .side1) p (c .1) ∙ e) (q .2)) refl refl
+      whole Nobody moved (q .0) refl (none-asks (d .side0 .contr .lockreq) (d .side1 .contr .lockreq) (x .contr .lockreq) (p .contr .lockreq)
+      (λ e. requests (d .side0) x (a .1) ∙ e) (λ e. requests (d .side1) p (c .1) ∙ e) (q .2)) refl refl
   quiet-lined (Claims Zero g) a c k l h =
       let q = tests (Claims Zero g) d h in
       whole (Claims Zero g) moved (q .0) (ap₂ (λ (r : Bool) (n : ℕ). not (r && eqb n 0)) (a .2) k ∙ q .1) (requests (d .side0) x (a .1) ∙ q .2) refl refl
@@ -268,11 +288,14 @@ module _ (d : Device) (x p : Side) (b : Bus) where
       whole (Claims One g) moved (q .0) (ap₂ (λ (r : Bool) (n : ℕ). not (r && eqb n 0)) (c .2) k ∙ q .1) (requests (d .side1) p (c .1) ∙ q .2) refl refl
   quiet-lined (Owns Zero g) a c k l h =
       let q = tests (Owns Zero g) d h in
-      whole (Owns Zero g) moved (linked-on d Zero (d .side0) x (a .1) (q .0)) refl refl refl (keeps (idleLimit d) (d .arb .reserve) b (d .side0) x (a .0) (a .1) l)
+      whole (Owns Zero g) moved (linked-on d Zero (d .side0) x (a .1) (q .0)) refl refl refl
+      (keeps (idleLimit d) (d .arb .reserve) b (d .side0) x (a .0) (a .1) l)
   quiet-lined (Owns One g) a c k l h =
       let q = tests (Owns One g) d h in
-      whole (Owns One g) moved (linked-on d One (d .side1) p (c .1) (q .0)) refl refl refl (keeps (idleLimit d) (d .arb .reserve) b (d .side1) p (c .0) (c .1) l)
+      whole (Owns One g) moved (linked-on d One (d .side1) p (c .1) (q .0)) refl refl refl
+      (keeps (idleLimit d) (d .arb .reserve) b (d .side1) p (c .0) (c .1) l)
 
-  pub lined-settles : Settled d → Alike (d .side0) x → Alike (d .side1) p → b .hold ≡ d .bus .hold → noLoss (d .arb .turn) (withBus b d) ≡ true → partsThreeToSeven false NoClock moved ≡ moved
+  pub lined-settles : Settled d → Alike (d .side0) x → Alike (d .side1) p → b .hold ≡ d .bus .hold → noLoss (d .arb .turn) (withBus b d) ≡ true
+      → partsThreeToSeven false NoClock moved ≡ moved
   unfolding isQuiet
   lined-settles (still, quiet) a c k l = sym (quiet-law false NoClock moved (quiet-lined (d .arb .turn) a c k l quiet))

@@ -8,10 +8,12 @@ use lib.Dec.{eqb}
 use Rattle.arbiter.specs.Words.{if_then_else_, bit, partner, sameMaster, side, device}
 use Rattle.arbiter.specs.Parts.{withPort, withPointer, withAuto, withMail, withContr, withRt, withTurn, withDrives}
 use Rattle.arbiter.specs.State.{claimsTurn, ownsTurn, owns}
-use Rattle.arbiter.specs.Registers.{mailEmptiedInt, raised, controlOf, disconnected, withdraws, ownWritten, mailLow, mailHigh, mailWritten, released, drivesWritten, turnWritten}
+use Rattle.arbiter.specs.Registers.{mailEmptiedInt, raised, controlOf, disconnected, withdraws, ownWritten, mailLow, mailHigh, mailWritten, released}
+use Rattle.arbiter.specs.Registers.{drivesWritten, turnWritten}
 use Rattle.arbiter.specs.Rules.{rolls}
 use Rattle.arbiter.specs.Events.{goodCommand}
-use Rattle.arbiter.specs.Effects.{registerAt, afterRead, afterWrite, commanded, writerSide, partnerSide, writtenBus, writtenTurn, written, paired, empties, readerSide, senderSide, wasRead, intInFallen, lined, effect}
+use Rattle.arbiter.specs.Effects.{registerAt, afterRead, afterWrite, commanded, writerSide, partnerSide, writtenBus, writtenTurn, written, paired, empties}
+use Rattle.arbiter.specs.Effects.{readerSide, senderSide, wasRead, intInFallen, lined, effect}
 use Rattle.arbiter.specs.Order.{levels, losses, cut, claim, grant, connect}
 use Rattle.arbiter.specs.Steps.{parts, ownerByte, linesByte}
 use Rattle.arbiter.specs.declared.Master.{Master}
@@ -80,7 +82,8 @@ module _ (m : Master) (d : Device) where
   rested-fits (Owns k g) l = λ e. (refl, refl)
 
   stop-settles : Settled d → (claims : Bool) → claimsTurn m (d .arb .turn) ≡ claims → not (claims && eqb (d .bus .hold) 0) ≡ true
-      → partsThreeToSeven false NoClock (levels false (d .bus) (device m rested (side (partner m) d) (d .bus) (d .arb) d)) ≡ device m rested (side (partner m) d) (d .bus) (d .arb) d
+      → partsThreeToSeven false NoClock (levels false (d .bus) (device m rested (side (partner m) d) (d .bus) (d .arb) d))
+      ≡ device m rested (side (partner m) d) (d .bus) (d .arb) d
   stop-settles h false e l = fits-settles m d rested (side (partner m) d) h (rested-fits (d .arb .turn) (ap not e)) (refl, refl, refl)
   stop-settles h true e l = held-settles m d rested (side (partner m) d) h refl refl (not-true _ l) e
 
@@ -131,7 +134,8 @@ module _ (m : Master) (d : Device) where
   read-alone h = (
     fits-settles m d reader sender h (read-fits m (d .arb .turn) ((side m d) .auto) _ (side m d)) (refl, refl, refl),
     same-owner m d reader sender,
-    λ k. same-lines d reader sender m (read-ints ((side m d) .auto) _ (side m d)) (read-mask ((side m d) .auto) _ (side m d)) (unraised (empties (side m d)) (not-true _ k)) refl,
+    λ k. same-lines d reader sender m (read-ints ((side m d) .auto) _ (side m d)) (read-mask ((side m d) .auto) _ (side m d))
+        (unraised (empties (side m d)) (not-true _ k)) refl,
   )
 
 -- ---- WRITE
@@ -155,7 +159,8 @@ contr-fits m (Claims k g) v s l =
     λ e. (λ q. sym (or-false (bit 0 v)) ∙ ap (λ (b : Bool). bit 0 v || not b) (sym e) ∙ l, λ q. q)
 contr-fits m (Owns k g) v s l = λ e. absurd (false≢true (sym (not-true _ l) ∙ e))
 
-own-fits : (p : Register) (m : Master) (v : ℕ) (d : Device) → writeIsLight p m v d ≡ true → Fits m (d .arb .turn) (side m d) (ownWritten (owns m d) p v (side m d))
+own-fits : (p : Register) (m : Master) (v : ℕ) (d : Device) → writeIsLight p m v d ≡ true
+    → Fits m (d .arb .turn) (side m d) (ownWritten (owns m d) p v (side m d))
 unfolding ownWritten
 own-fits Id m v d l = fits-self m (d .arb .turn) (side m d)
 own-fits Contr m v d l = contr-fits m (d .arb .turn) v (side m d) l
@@ -190,7 +195,8 @@ mail-alike MailHigh v s = go (s .mail .full)
     go true = (refl, refl, refl)
     go false = (refl, refl, refl)
 
-drives-stay : (p : Register) (m : Master) (v : ℕ) (d : Device) → writeIsLight p m v d ≡ true → drivesWritten (owns m d) ((side m d) .contr .busconnect) p v (d .bus) ≡ d .bus
+drives-stay : (p : Register) (m : Master) (v : ℕ) (d : Device) → writeIsLight p m v d ≡ true
+    → drivesWritten (owns m d) ((side m d) .contr .busconnect) p v (d .bus) ≡ d .bus
 unfolding drivesWritten
 drives-stay Id m v d l = refl
 drives-stay Contr m v d l = ap (λ (g : Bool). if g && (bit 2 v || not (bit 0 v)) then released (d .bus) else d .bus) (not-owner m (bit 0 v) (d .arb .turn) l)
@@ -224,12 +230,14 @@ module _ (m : Master) (v : ℕ) (d : Device) (l : writeIsLight ((side m d) .poin
   pub written-sides : written m v d ≡ device m writer addressee (d .bus) (d .arb) d
   unfolding written
   written-sides =
-      ap₂ (λ (b : Bus) (t : Turn). device m writer addressee b (withTurn t (d .arb)) d) (drives-stay ((side m d) .pointer) m v d l) (turn-stays ((side m d) .pointer) m v d l)
+      ap₂ (λ (b : Bus) (t : Turn). device m writer addressee b (withTurn t (d .arb)) d) (drives-stay ((side m d) .pointer) m v d l)
+      (turn-stays ((side m d) .pointer) m v d l)
 
   writer-fits : Fits m (d .arb .turn) (side m d) writer
   writer-fits =
       let own = ownWritten (owns m d) ((side m d) .pointer) v (side m d) in
-      fits-on m (d .arb .turn) (side m d) own writer (own-fits ((side m d) .pointer) m v d l) (risen-alike (own .auto) (afterWrite (rolls d) (own .pointer)) own)
+      fits-on m (d .arb .turn) (side m d) own writer (own-fits ((side m d) .pointer) m v d l)
+      (risen-alike (own .auto) (afterWrite (rolls d) (own .pointer)) own)
 
   write-alone : Settled d → Alone (Write m v) d
   unfolding parts partsThreeToSeven effect itsEnd keepsLines
@@ -263,7 +271,8 @@ module _ (v0 v1 : ℕ) (d : Device) (l0 : writeIsLight (d .side0 .pointer) Zero 
   pair-alone h = (
     ap (λ (x : Device). partsThreeToSeven false NoClock (levels false (d .bus) x)) paired-sides
         ∙ both-settle d pair0 pair1 h
-        (fits-on Zero (d .arb .turn) (d .side0) (writerSide Zero v0 d) pair0 (writer-fits Zero v0 d l0) (mail-alike (d .side1 .pointer) v1 (writerSide Zero v0 d)))
+        (fits-on Zero (d .arb .turn) (d .side0) (writerSide Zero v0 d) pair0 (writer-fits Zero v0 d l0)
+        (mail-alike (d .side1 .pointer) v1 (writerSide Zero v0 d)))
         (fits-on One (d .arb .turn) (d .side1) (writerSide One v1 d) pair1 (writer-fits One v1 d l1) (mail-alike (d .side0 .pointer) v0 (writerSide One v1 d)))
         ∙ sym paired-sides,
     ap ownerByte paired-sides ∙ same-owner Zero d pair0 pair1,
@@ -276,8 +285,12 @@ module _ (scl sda intin : Bool) (d : Device) where
   lines-alone : Settled d → endsItself (Lines scl sda intin) d ≡ true → Alone (Lines scl sda intin) d
   unfolding parts partsThreeToSeven effect lined levels itsEnd keepsLines endsItself ownerByte
   lines-alone h l =
-      let fell : Bool = d .bus .intin && not intin in
-      (lined-settles d (intInFallen fell (d .side0)) (intInFallen fell (d .side1)) (linedBus scl sda intin (d .bus)) h (refl, refl, refl) (refl, refl, refl) refl l, refl, λ k. absurd (false≢true k))
+      let fell : Bool = d .bus .intin && not intin in (
+        lined-settles d (intInFallen fell (d .side0)) (intInFallen fell (d .side1)) (linedBus scl sda intin (d .bus)) h (refl, refl, refl) (refl, refl, refl)
+            refl l,
+        refl,
+        λ k. absurd (false≢true k),
+      )
 
 -- ---- all of them
 

@@ -10,7 +10,8 @@ use Rattle.arbiter.specs.State.{claimsTurn, ownsTurn, owns, atRest, forWriting}
 use Rattle.arbiter.specs.Registers.{ownWritten, mailWritten, drivesWritten, turnWritten}
 use Rattle.arbiter.specs.Rules.{rolls}
 use Rattle.arbiter.specs.Effects.{afterWrite, writerSide, written, effect}
-use Rattle.arbiter.specs.Order.{levels, losses, lossesFrom, cut, cutFrom, winner, groundOf, claimBy, newClaim, claim, granted, grantFrom, grant, switched, joined, keptJoined, connectFrom, connect}
+use Rattle.arbiter.specs.Order.{levels, losses, lossesFrom, cut, cutFrom, winner, groundOf, claimBy, newClaim, claim, granted, grantFrom, grant, switched}
+use Rattle.arbiter.specs.Order.{joined, keptJoined, connectFrom, connect}
 use Rattle.arbiter.specs.Steps.{parts}
 use Rattle.arbiter.specs.declared.Master.{Master}
 use Rattle.arbiter.specs.declared.Master.the-variants.{Zero, One}
@@ -61,7 +62,14 @@ linking m connects starts x =
 
 abbrev linkedArb : Master → Bool → Bool → Arbitration → Arbitration
 linkedArb m connects starts a =
-    record { last = a .last; initfail = not (connects && starts) && a .initfail; switch = if connects then (if starts then Initialising m 0 else Closed m) else Apart; reserve = a .reserve; turn = a .turn }
+    record {
+      last = a .last;
+      initfail = not (connects && starts) && a .initfail;
+      switch = if connects then (if starts then Initialising m 0 else Closed m)
+          else Apart;
+      reserve = a .reserve;
+      turn = a .turn;
+    }
 
 linking-arb : (m : Master) (connects starts : Bool) (x : Device) → linking m connects starts x ≡ withArb (linkedArb m connects starts (x .arb)) x
 linking-arb m true true x = refl
@@ -92,7 +100,8 @@ grant-to-1 g d asks free apart =
     ∙ ap (λ (w : Switch). if c .busconnect then keptJoined NoClock One w e else switched Apart e) apart
     ∙ linking-arb One (c .busconnect) (c .businit) e
 
-granting : (m : Master) (t : Turn) (d : Device) → quietFrom t false d ≡ true → claimsTurn m t ≡ true → eqb (d .bus .hold) 0 ≡ true → through (rested m d t) ≡ owning m d t
+granting : (m : Master) (t : Turn) (d : Device) → quietFrom t false d ≡ true → claimsTurn m t ≡ true → eqb (d .bus .hold) 0 ≡ true → through (rested m d t)
+    ≡ owning m d t
 granting m Nobody d h l f = absurd (false≢true l)
 granting m (Owns k g) d h l f = absurd (false≢true l)
 granting Zero (Claims One g) d h l f = absurd (false≢true l)
@@ -161,7 +170,8 @@ claim-by-1 d x asks none busy apart =
     ∙ ap (λ (q : Bool). connect NoClock (if q && eqb (d .bus .hold) 0 then granted One Sole z else z)) busy
     ∙ ap (λ (w : Switch). switched w z) (sym apart)
 
-claiming : (m : Master) (t : Turn) (d : Device) (x : Side) → quietFrom t false d ≡ true → isNobody t ≡ true → x .contr .lockreq ≡ true → atRest (x .port) ≡ false
+claiming : (m : Master) (t : Turn) (d : Device) (x : Side) → quietFrom t false d ≡ true → isNobody t ≡ true → x .contr .lockreq ≡ true → atRest (x .port)
+    ≡ false
     → through (asking m x d t) ≡ asking m x d (Claims m Sole)
 claiming m (Claims k g) d x h n asks busy = absurd (false≢true n)
 claiming m (Owns k g) d x h n asks busy = absurd (false≢true n)
@@ -205,7 +215,8 @@ module _ (m : Master) (v : ℕ) (d : Device) (n : d .arb .turn ≡ Nobody) (at :
   writer-alone : written m v d ≡ asking m writer d (d .arb .turn)
   unfolding written mailWritten drivesWritten turnWritten
   writer-alone =
-      ap₂ (λ (o : Bool) (r : Register). device m writer (mailWritten r v (side (partner m) d)) (drivesWritten o ((side m d) .contr .busconnect) r v (d .bus)) (withTurn (turnWritten o r v (d .arb .turn)) (d .arb)) d) foreign at
+      ap₂ (λ (o : Bool) (r : Register). device m writer (mailWritten r v (side (partner m) d)) (drivesWritten o ((side m d) .contr .busconnect) r v (d .bus))
+      (withTurn (turnWritten o r v (d .arb .turn)) (d .arb)) d) foreign at
 
 pub claimed-by-write : ClaimedByWrite
 unfolding parts effect isQuiet

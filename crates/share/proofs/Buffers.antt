@@ -29,7 +29,8 @@ stored-whole x l h =
     ∙ append-nil (totalsList x)
 
 -- what the call answers and leaves
-pub lent-taken : (l t : List ℕ) (x : Totals) (a : Added) (after : List ℕ) → length l ≡ totalCount → x ≡ totalsIn l → a ≡ added x t → after ≡ totalsList (a .totals)
+pub lent-taken : (l t : List ℕ) (x : Totals) (a : Added) (after : List ℕ) → length l ≡ totalCount → x ≡ totalsIn l → a ≡ added x t → after
+    ≡ totalsList (a .totals)
     → (a .number ≡ lentNumber l t) × (after ≡ lentAfter l t)
 unfolding lentNumber lentAfter
 lent-taken l t x a after h e f g =
@@ -51,7 +52,8 @@ module _ (l o : List ℕ) where
   pub both-second : bothTotals l o ≡ true → length o ≡ totalCount
   both-second h = eqb-true (length o) totalCount (and-eq-true-iff (eqb (length l) totalCount) (eqb (length o) totalCount) .0 h .1)
 
-  pub join-taken : (x y : Totals) (a : Added) (after : List ℕ) → bothTotals l o ≡ true → x ≡ totalsIn l → y ≡ totalsIn o → a ≡ joined x y → after ≡ totalsList (a .totals)
+  pub join-taken : (x y : Totals) (a : Added) (after : List ℕ) → bothTotals l o ≡ true → x ≡ totalsIn l → y ≡ totalsIn o → a ≡ joined x y → after
+      ≡ totalsList (a .totals)
       → (a .number ≡ joinNumber l o) × (after ≡ joinAfter l o)
   unfolding joinNumber joinAfter
   join-taken x y a after h e f g i =

@@ -112,8 +112,25 @@ traces-after ts h = let e = traces-all noTotals ts (omega (arith, h)) in omega (
 within-top : (ts : List (List ℕ)) → AllWithin top (totalsAfter ts)
 within-top ts =
     let w = totals-fit .0 ts in
-    let r : mostTotal ≤ top = let s = totals-fit .1 in omega (arith, s) in
-    (le-trans (w .0) r, le-trans (w .1) r, le-trans (w .2) r, le-trans (w .3) r, le-trans (w .4) r, le-trans (w .5) r, le-trans (w .6) r, le-trans (w .7) r, le-trans (w .8) r, le-trans (w .9) r, le-trans (w .10) r, le-trans (w .11) r, le-trans (w .12) r, le-trans (w .13) r, le-trans (w .14) r, le-trans (w .15) r, le-trans (w .16) r)
+    let r : mostTotal ≤ top = let s = totals-fit .1 in omega (arith, s) in (
+      le-trans (w .0) r,
+      le-trans (w .1) r,
+      le-trans (w .2) r,
+      le-trans (w .3) r,
+      le-trans (w .4) r,
+      le-trans (w .5) r,
+      le-trans (w .6) r,
+      le-trans (w .7) r,
+      le-trans (w .8) r,
+      le-trans (w .9) r,
+      le-trans (w .10) r,
+      le-trans (w .11) r,
+      le-trans (w .12) r,
+      le-trans (w .13) r,
+      le-trans (w .14) r,
+      le-trans (w .15) r,
+      le-trans (w .16) r,
+    )
 
 -- ---- the laws
 

@@ -23,7 +23,8 @@ module _ (limit : ℕ) where
   pub up-twice : (n c : ℕ) → upTo limit (upTo limit n + c) ≡ upTo limit (n + c)
   up-twice n c =
       split (ltb limit n)
-      (λ t. let past = ltb-true limit n t in ap (λ (k : ℕ). upTo limit (k + c)) (if-true limit n t) ∙ up-past (limit + c) (omega arith) ∙ sym (up-past (n + c) (omega arith)))
+      (λ t. let past = ltb-true limit n t in ap (λ (k : ℕ). upTo limit (k + c)) (if-true limit n t) ∙ up-past (limit + c) (omega arith)
+      ∙ sym (up-past (n + c) (omega arith)))
       (λ f. ap (λ (k : ℕ). upTo limit (k + c)) (if-false limit n f))
 
   pub up-below : (n : ℕ) → upTo limit n ≤ limit
@@ -103,8 +104,10 @@ pub larger-assoc : (a b c : ℕ) → larger a (larger b c) ≡ larger (larger a 
 larger-assoc a b c =
     let ab = larger a b in
     let bc = larger b c in
-    let p = larger-most a bc (larger ab c) (le-trans (larger-left a b) (larger-left ab c)) (larger-most b c _ (le-trans (larger-right a b) (larger-left ab c)) (larger-right ab c)) in
-    let q = larger-most ab c (larger a bc) (larger-most a b _ (larger-left a bc) (le-trans (larger-left b c) (larger-right a bc))) (le-trans (larger-right b c) (larger-right a bc)) in
+    let p = larger-most a bc (larger ab c) (le-trans (larger-left a b) (larger-left ab c))
+    (larger-most b c _ (le-trans (larger-right a b) (larger-left ab c)) (larger-right ab c)) in
+    let q = larger-most ab c (larger a bc) (larger-most a b _ (larger-left a bc) (le-trans (larger-left b c) (larger-right a bc)))
+    (le-trans (larger-right b c) (larger-right a bc)) in
     omega (arith, p, q)
 
 pub larger-none : (a : ℕ) → larger a 0 ≡ a

@@ -11,7 +11,8 @@ use lib.ListN.{length}
 use borrow.Author.Tests.{ltb-true, ltb-false, le-ltb, lt-ltb}
 use Rattle.arbiter.specs.Words.{if_then_else_, worth}
 use Rattle.arbiter.specs.Straps.{addressOf}
-use Rattle.arbiter.specs.Traces.{pinCount, pinBytes, headBytes, eventBytes, mostEvents, eventsEnd, kindCount, wholeBytes, answerRoom, byteAt, pinsIn, countIn, isKind, kindAt, readKind, readCounted, readStrapped, readTrace, refusalNumber, readNumber}
+use Rattle.arbiter.specs.Traces.{pinCount, pinBytes, headBytes, eventBytes, mostEvents, eventsEnd, kindCount, wholeBytes, answerRoom, byteAt, pinsIn, countIn}
+use Rattle.arbiter.specs.Traces.{isKind, kindAt, readKind, readCounted, readStrapped, readTrace, refusalNumber, readNumber}
 use Rattle.arbiter.specs.declared.Refusal.{Refusal}
 use Rattle.arbiter.specs.declared.Strapped.{Strapped}
 use Rattle.arbiter.specs.declared.Strapped.the-variants.{Address, Unlisted}

@@ -106,7 +106,8 @@ module _ (b : List ℕ) (n : ℕ) (whole : eventBytes * n ≤ length b) where
       later : NoTicks (suc k) i b → NoTicks k (i + 1) b
       later a j h = let e : i + 1 + j ≡ i + suc j = omega arith in ap (λ (x : ℕ). isTickRaw (eventAt x b)) e ∙ a (suc j) (omega arith)
 
-  pub others-onward : (p q : Point) (k : ℕ) → (k ≡ 0 → ⊥) → Within (p .at) (p .tally) → p .at + k ≤ n → NoTicks k (p .at) b → q ≡ othersTaken p k b → Onward b n p q
+  pub others-onward : (p q : Point) (k : ℕ) → (k ≡ 0 → ⊥) → Within (p .at) (p .tally) → p .at + k ≤ n → NoTicks k (p .at) b → q ≡ othersTaken p k b
+      → Onward b n p q
   others-onward p q k some within more none e =
       subst (λ (x : Point). Onward b n p x) (sym e) (
         omega (arith, some),

@@ -32,7 +32,8 @@ abbrev pub told : TraceRead → List ℕ → Added
 told y t = addedWith (totalsOf y t) (readNumber y)
 
 -- with enough events, and no more than a trace has, all are counted; else none
-pub counted-all : (d : Device) (b : List ℕ) (n : ℕ) → n ≤ mostEvents → eventBytes * n ≤ length b → countedIn d b n ≡ tallyFrom noTally (statesFrom d (rawsIn n b))
+pub counted-all : (d : Device) (b : List ℕ) (n : ℕ) → n ≤ mostEvents → eventBytes * n ≤ length b → countedIn d b n
+    ≡ tallyFrom noTally (statesFrom d (rawsIn n b))
 unfolding countedIn
 counted-all d b n h k = simp (le-ltb mostEvents n h, le-ltb (eventCount b) n (omega (arith, k)))
 

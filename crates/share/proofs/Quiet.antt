@@ -46,7 +46,8 @@ is-tick r h =
 
 -- ---- the code's points
 
-pub one-taken : (p : Point) (e r : Raw) (s : Stepped) (t : Tally) (q : Point) → r ≡ e → s ≡ step (p .device) r → t ≡ (if isTickRaw r then noted 1 (seenOf (s .device)) (p .tally) else p .tally)
+pub one-taken : (p : Point) (e r : Raw) (s : Stepped) (t : Tally) (q : Point) → r ≡ e → s ≡ step (p .device) r → t
+    ≡ (if isTickRaw r then noted 1 (seenOf (s .device)) (p .tally) else p .tally)
     → q ≡ pointWith (s .device) t (p .at + 1) → q ≡ oneTaken p e
 unfolding oneTaken
 one-taken p e r s t q er es et eq =
@@ -130,7 +131,8 @@ module _ (b : List ℕ) (n : ℕ) (whole : eventBytes * n ≤ length b) where
   counts t d i = tallyFrom t (statesFrom d (left b n i))
 
   module _ (d : Device) where
-    one : (i q : ℕ) (t : Tally) → i < n → eventAt i b ≡ tick → q < quietTicks d → counts t (afterTicks q d) i ≡ counts (noted 1 (seenOf d) t) (afterTicks (q + 1) d) (i + 1)
+    one : (i q : ℕ) (t : Tally) → i < n → eventAt i b ≡ tick → q < quietTicks d → counts t (afterTicks q d) i
+        ≡ counts (noted 1 (seenOf d) t) (afterTicks (q + 1) d) (i + 1)
     one i q t more at few =
         sym (again b n i more whole t (noted 1 (seenOf d) t) (afterTicks q d) (afterTicks (q + 1) d) tick (sym at)
         (sym (ap (λ (s : Stepped). s .device) (quiet d q few))) (ap (λ (s : Seen). noted 1 s t) (sym (seen-after (q + 1) d))))
@@ -153,7 +155,8 @@ module _ (b : List ℕ) (n : ℕ) (whole : eventBytes * n ≤ length b) where
         later : AllTicks (suc (suc m)) i b → AllTicks (suc m) (i + 1) b
         later a k h = let e : i + 1 + k ≡ i + suc k = omega arith in ap (λ (x : ℕ). eventAt x b) e ∙ a (suc k) (omega arith)
 
-    quiet-counts : (j i : ℕ) (t : Tally) → 0 < j → AllTicks j i b → i + j ≤ n → j ≤ quietTicks d → counts (noted j (seenOf (afterTicks j d)) t) (afterTicks j d) (i + j) ≡ counts t d i
+    quiet-counts : (j i : ℕ) (t : Tally) → 0 < j → AllTicks j i b → i + j ≤ n → j ≤ quietTicks d
+        → counts (noted j (seenOf (afterTicks j d)) t) (afterTicks j d) (i + j) ≡ counts t d i
     quiet-counts zero i t some all more few = absurd (omega arith)
     quiet-counts (suc m) i t some all more few =
         let e : 0 + suc m ≡ suc m = omega arith in
@@ -177,7 +180,8 @@ module _ (b : List ℕ) (n : ℕ) (whole : eventBytes * n ≤ length b) where
         again b n (p .at) more whole (p .tally) t (p .device) d r refl refl refl,
       )
 
-  pub quiet-onward : (p q : Point) (j : ℕ) → (j ≡ 0 → ⊥) → Within (p .at) (p .tally) → p .at + j ≤ n → j ≤ quietTicks (p .device) → AllTicks j (p .at) b → q ≡ quietTaken p j → Onward b n p q
+  pub quiet-onward : (p q : Point) (j : ℕ) → (j ≡ 0 → ⊥) → Within (p .at) (p .tally) → p .at + j ≤ n → j ≤ quietTicks (p .device) → AllTicks j (p .at) b → q
+      ≡ quietTaken p j → Onward b n p q
   unfolding quietTaken
   quiet-onward p q j some within more few all e =
       subst (λ (x : Point). Onward b n p x) (sym e) (
@@ -195,7 +199,8 @@ module _ (b : List ℕ) (n : ℕ) (whole : eventBytes * n ≤ length b) where
   pub begun : (d : Device) (t : Tally) (p : Point) → t ≡ noTally → p ≡ pointWith d t 0 → (p .at ≤ n) × Within (p .at) (p .tally)
   begun d t p e f = subst (λ (x : Point). (x .at ≤ n) × Within (x .at) (x .tally)) (sym (f ∙ ap (λ (y : Tally). pointWith d y 0) e)) (omega arith, none-within)
 
-  pub ended : (d : Device) (t : Tally) (p q : Point) → t ≡ noTally → p ≡ pointWith d t 0 → come q ≡ come p → q .at ≡ n → q .tally ≡ tallyFrom noTally (statesFrom d (rawsIn n b))
+  pub ended : (d : Device) (t : Tally) (p q : Point) → t ≡ noTally → p ≡ pointWith d t 0 → come q ≡ come p → q .at ≡ n → q .tally
+      ≡ tallyFrom noTally (statesFrom d (rawsIn n b))
   ended d t p q e f h at =
       sym (none-left b n (q .at) (q .tally) (q .device) at)
       ∙ h

@@ -67,7 +67,8 @@ one-of-three (Claims m g) = refl
 one-of-three (Owns Zero g) = refl
 one-of-three (Owns One g) = refl
 
-three-counts : (f g h : Device → Bool) → ((d : Device) → worth 1 (f d) + worth 1 (g d) + worth 1 (h d) ≡ 1) → (ds : List Device) → count f ds + count g ds + count h ds ≡ length ds
+three-counts : (f g h : Device → Bool) → ((d : Device) → worth 1 (f d) + worth 1 (g d) + worth 1 (h d) ≡ 1) → (ds : List Device)
+    → count f ds + count g ds + count h ds ≡ length ds
 unfolding count
 three-counts f g h one [] = refl
 three-counts f g h one (d ∷ ds) = let e = one d in let i = three-counts f g h one ds in omega (arith, e, i)
@@ -107,7 +108,8 @@ implied true false h = absurd (false≢true (h refl))
 implied false b h = omega arith
 
 module _ (f g : Device → Bool) where
-  listed-le : (c : Bool) (x : Device) (ds : List Device) → worth 1 (f x) ≤ worth 1 (g x) → count f ds ≤ count g ds → count f (listedIf c x ds) ≤ count g (listedIf c x ds)
+  listed-le : (c : Bool) (x : Device) (ds : List Device) → worth 1 (f x) ≤ worth 1 (g x) → count f ds ≤ count g ds
+      → count f (listedIf c x ds) ≤ count g (listedIf c x ds)
   unfolding count
   listed-le true x ds p q = omega (arith, p, q)
   listed-le false x ds p q = q
@@ -148,4 +150,5 @@ pub longest-in-count : (such : Device → Bool) (ds : List Device) → longest s
 unfolding longest
 longest-in-count such [] = omega arith
 longest-in-count such (d ∷ ds) =
-    larger-most (front such (d ∷ ds)) (longest such ds) (count such (d ∷ ds)) (front-in-count such (d ∷ ds)) (le-trans (longest-in-count such ds) (more-in-count such d ds))
+    larger-most (front such (d ∷ ds)) (longest such ds) (count such (d ∷ ds)) (front-in-count such (d ∷ ds))
+    (le-trans (longest-in-count such ds) (more-in-count such d ds))

@@ -168,7 +168,8 @@ added-held : (x : Totals) (t : List ℕ) → Held x → Held (added x t .totals)
 unfolding added
 added-held x t (n, few, s) =
     either (λ (y : Added). Held (y .totals)) (ltb (x .traces) mostTraces)
-    (λ h. let below = ltb-true (x .traces) mostTraces h in (n + 1, omega (arith, below, s .traces-are), sound-together n x (totalsOf (readAlone t) t) (omega (arith, below, s .traces-are)) s (own-sound t)))
+    (λ h. let below = ltb-true (x .traces) mostTraces h in
+    (n + 1, omega (arith, below, s .traces-are), sound-together n x (totalsOf (readAlone t) t) (omega (arith, below, s .traces-are)) s (own-sound t)))
     (λ h. (n, few, s))
 
 all-held : (x : Totals) (ts : List (List ℕ)) → Held x → Held (addedAll x ts)

@@ -159,11 +159,13 @@ module _ (ds : List Device) where
 
   longest0-are : t .longest0 ≡ longest (waits Zero) ds
   unfolding noTally noted seenOf
-  longest0-are = waited (λ x. x .run0) (λ x. x .longest0) (waits Zero) (λ d x. refl) (λ d x. refl) ds noTally (le-refl 0) ∙ from-none _ _ (front-in (waits Zero) ds)
+  longest0-are =
+      waited (λ x. x .run0) (λ x. x .longest0) (waits Zero) (λ d x. refl) (λ d x. refl) ds noTally (le-refl 0) ∙ from-none _ _ (front-in (waits Zero) ds)
 
   longest1-are : t .longest1 ≡ longest (waits One) ds
   unfolding noTally noted seenOf
-  longest1-are = waited (λ x. x .run1) (λ x. x .longest1) (waits One) (λ d x. refl) (λ d x. refl) ds noTally (le-refl 0) ∙ from-none _ _ (front-in (waits One) ds)
+  longest1-are =
+      waited (λ x. x .run1) (λ x. x .longest1) (waits One) (λ d x. refl) (λ d x. refl) ds noTally (le-refl 0) ∙ from-none _ _ (front-in (waits One) ds)
 
   pub tallied : shares t ≡ sharesIn ds
   unfolding shares sharesIn

@@ -40,7 +40,8 @@ module _ (d : Device) where
       either No (eqb (r .kind) 2) (λ t. other (zeroOrOne (r .x) && unused (r .y) && unused (r .z)) (Read (master (r .x))) refl) λ f2.
       either No (eqb (r .kind) 3) (λ t. other (zeroOrOne (r .x) && unused (r .y) && unused (r .z)) (Stop (master (r .x))) refl) λ f3.
       either No (eqb (r .kind) 4) (λ t. other (unused (r .z)) (Pair (r .x) (r .y)) refl) λ f4.
-      either No (eqb (r .kind) 5) (λ t. other (zeroOrOne (r .x) && zeroOrOne (r .y) && zeroOrOne (r .z)) (Lines (level (r .x)) (level (r .y)) (level (r .z))) refl) λ f5.
+      either No (eqb (r .kind) 5) (λ t. other (zeroOrOne (r .x) && zeroOrOne (r .y) && zeroOrOne (r .z)) (Lines (level (r .x)) (level (r .y)) (level (r .z)))
+      refl) λ f5.
       either No (eqb (r .kind) 6) (λ t. absurd (true≢false (sym t ∙ h))) λ f6.
       either No (eqb (r .kind) 7) (λ t. other (zeroOrOne (r .x) && unused (r .y) && unused (r .z)) (Pulse (level (r .x))) refl) λ f7.
       either No (eqb (r .kind) 8) (λ t. other (unused (r .x) && unused (r .y) && unused (r .z)) Reset refl) λ f8.

@@ -24,7 +24,8 @@ use Rattle.sheets.specs.declared.Order.{Order}
 use Rattle.sheets.specs.declared.OrderRead.{OrderRead}
 use Rattle.sheets.specs.declared.OrderRead.the-variants.{Given, Withheld}
 use Rattle.sheets.specs.Sheets.{boxPlace, ticked, valueOn, boxRight, flagRight, boxesRight, checkSheet, checkPair, isBox, faultNumber, partOf}
-use Rattle.sheets.specs.Settings.{tickedOnEither, isComplete, valueAt, settingOf, orderOf, controlByte, orderEvents, orderCount, orderBytes, readComplete, onceSound, readOrder, orderedOf, bufferOf, ordered, orderedBuffer}
+use Rattle.sheets.specs.Settings.{tickedOnEither, isComplete, valueAt, settingOf, orderOf, controlByte, orderEvents, orderCount, orderBytes, readComplete}
+use Rattle.sheets.specs.Settings.{onceSound, readOrder, orderedOf, bufferOf, ordered, orderedBuffer}
 use Rattle.sheets.specs.Stored.{stored, storedRegister, storedSetting}
 use Rattle.sheets.specs.Laws.{HandedBack, Handed, SettingFound, OrderFound, EventsRead, EmptyNoEvents}
 use Rattle.sheets.proofs.Sound.{pair-sound, sheet-sound}

@@ -2,7 +2,8 @@
 -- Assumes nothing.
 use mathlib.Core.Path.{refl}
 use Rattle.sheets.specs.Sheets.{countsRight, boxRight, flagRight, boxesRight, checkSheet, checkPair, placeAt, boxOn, placeOf, partOf}
-use Rattle.sheets.specs.Settings.{tickedOnEither, isComplete, valueAt, settingOf, orderOf, controlByte, orderEvents, readComplete, readOrder, orderedOf, bufferOf, ordered, orderedBuffer}
+use Rattle.sheets.specs.Settings.{tickedOnEither, isComplete, valueAt, settingOf, orderOf, controlByte, orderEvents, readComplete, readOrder, orderedOf}
+use Rattle.sheets.specs.Settings.{bufferOf, ordered, orderedBuffer}
 use Rattle.arbiter.specs.Rules.{rulesOf}
 use Rattle.sheets.specs.Waits.{waitBehind, waitOn, waitOf}
 use Rattle.sheets.specs.Examples.{lookups, calls, waits, ExamplesHold}

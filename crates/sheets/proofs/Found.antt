@@ -19,7 +19,8 @@ use Rattle.sheets.specs.declared.Checked.{Checked}
 use Rattle.sheets.specs.declared.Checked.the-variants.{Sound}
 use Rattle.sheets.specs.declared.Place.{Place}
 use Rattle.sheets.specs.declared.Place.the-variants.{Board, House, Refused}
-use Rattle.sheets.specs.Sheets.{boxPlace, ticked, valueOn, checkPair, placeAt, isBox, boxOn, onceChecked, placeOf, faultNumber, placeNumber, boxBytes, partOf, startOf}
+use Rattle.sheets.specs.Sheets.{boxPlace, ticked, valueOn, checkPair, placeAt, isBox, boxOn, onceChecked, placeOf, faultNumber, placeNumber, boxBytes}
+use Rattle.sheets.specs.Sheets.{partOf, startOf}
 use Rattle.sheets.specs.Settings.{tickedOnEither}
 use Rattle.sheets.specs.Laws.{BoardFirst, HouseElse, EmptyRefused, HandedBack, AlwaysTicked, NumberTells}
 use Rattle.sheets.proofs.Sound.{Known, known, in-board, in-house}

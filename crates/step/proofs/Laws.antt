@@ -36,7 +36,8 @@ unfolding levels wasReset
 reset-levels hold d =
     let b : Bus = d .bus in
     let f : Bus = freshBus hold b in
-    ap (λ (start : Bool). withBus (settledBus (start && not (isStop b f)) (sclChanged b f) f) (wasReset hold d)) (no-fall (sclHigh b && sclHigh f) (b .outsda) (b .drivesda))
+    ap (λ (start : Bool). withBus (settledBus (start && not (isStop b f)) (sclChanged b f) f) (wasReset hold d))
+    (no-fall (sclHigh b && sclHigh f) (b .outsda) (b .drivesda))
 
 same-levels : (e : Event) (d : Device) → levels false (d .bus) (effect e d) ≡ levels (isReset e) (d .bus) (effect e d)
 unfolding effect
@@ -51,7 +52,8 @@ same-levels (Pulse sda) d = refl
 same-levels Reset d = reset-levels 0 d
 same-levels (GeneralCall m b) d = go (softReset b)
   where
-    go : (soft : Bool) → levels false (d .bus) (if soft then wasReset (holdAsked (side m d)) d else d) ≡ levels soft (d .bus) (if soft then wasReset (holdAsked (side m d)) d else d)
+    go : (soft : Bool) → levels false (d .bus) (if soft then wasReset (holdAsked (side m d)) d else d)
+        ≡ levels soft (d .bus) (if soft then wasReset (holdAsked (side m d)) d else d)
     go true = reset-levels (holdAsked (side m d)) d
     go false = refl
 

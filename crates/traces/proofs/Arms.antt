@@ -14,8 +14,10 @@ use Rattle.arbiter.specs.Parts.{withPort, withPointer, withSide, withInts, with
 use Rattle.arbiter.specs.State.{claimsTurn, ownsTurn, isInitialising, atRest, forWriting, sclHigh, sdaHigh}
 use Rattle.arbiter.specs.Registers.{mailEmptiedInt, raised, registerByte, ownWritten, mailWritten}
 use Rattle.arbiter.specs.Rules.{rolls}
-use Rattle.arbiter.specs.Events.{unused, zeroOrOne, level, master, goodCommand, writable, softReset, fitting, decode, decodedNumber, rawNumber, inSequence, acknowledged, outcome, outcomeNumber}
-use Rattle.arbiter.specs.Effects.{afterWrite, commanded, writeRisen, written, paired, empties, readerSide, senderSide, wasRead, intInFallen, lined, freshSide, freshBus, freshArb, wasReset, holdAsked, effect}
+use Rattle.arbiter.specs.Events.{unused, zeroOrOne, level, master, goodCommand, writable, softReset, fitting, decode, decodedNumber, rawNumber, inSequence}
+use Rattle.arbiter.specs.Events.{acknowledged, outcome, outcomeNumber}
+use Rattle.arbiter.specs.Effects.{afterWrite, commanded, writeRisen, written, paired, empties, readerSide, senderSide, wasRead, intInFallen, lined, freshSide}
+use Rattle.arbiter.specs.Effects.{freshBus, freshArb, wasReset, holdAsked, effect}
 use Rattle.arbiter.specs.Order.{clockOf, busyAfter, sclChanged, levels, losses, lossesFrom, cut, cutFrom, claim, grant, grantFrom, connect, connectFrom}
 use Rattle.arbiter.specs.Steps.{parts, byteRead, groundNumber, ownerByte, linesByte, answer, refused, taken, stepEvent, stepDecoded, step}
 use Rattle.arbiter.specs.declared.Master.{Master}
@@ -97,11 +99,15 @@ module _ (k : Kind) (b : Bus) (a : Arbitration) where
 
   set-one : (l : List Side) → length l ≡ 2 → (x : ℕ) → zeroOrOne x ≡ true → (v : Side) → held k (set l (x % 2) v) b a ≡ withSide (master x) v (held k l b a)
   set-one l two x h v =
-      of-two (λ m. held k (set m (x % 2) v) b a ≡ withSide (master x) v (held k m b a)) (λ s0 s1. by-master (λ n. held k (set (s0 ∷ s1 ∷ []) (n % 2) v) b a ≡ withSide (master n) v (held k (s0 ∷ s1 ∷ []) b a)) refl refl x h) l two
+      of-two (λ m. held k (set m (x % 2) v) b a ≡ withSide (master x) v (held k m b a))
+      (λ s0 s1. by-master (λ n. held k (set (s0 ∷ s1 ∷ []) (n % 2) v) b a ≡ withSide (master n) v (held k (s0 ∷ s1 ∷ []) b a)) refl refl x h) l two
 
-  set-both : (l : List Side) → length l ≡ 2 → (x : ℕ) → zeroOrOne x ≡ true → (v w : Side) → held k (set (set l (x % 2) v) (1 - x % 2) w) b a ≡ device (master x) v w b a (held k l b a)
+  set-both : (l : List Side) → length l ≡ 2 → (x : ℕ) → zeroOrOne x ≡ true → (v w : Side) → held k (set (set l (x % 2) v) (1 - x % 2) w) b a
+      ≡ device (master x) v w b a (held k l b a)
   set-both l two x h v w =
-      of-two (λ m. held k (set (set m (x % 2) v) (1 - x % 2) w) b a ≡ device (master x) v w b a (held k m b a)) (λ s0 s1. by-master (λ n. held k (set (set (s0 ∷ s1 ∷ []) (n % 2) v) (1 - n % 2) w) b a ≡ device (master n) v w b a (held k (s0 ∷ s1 ∷ []) b a)) refl refl x h) l two
+      of-two (λ m. held k (set (set m (x % 2) v) (1 - x % 2) w) b a ≡ device (master x) v w b a (held k m b a))
+      (λ s0 s1. by-master (λ n. held k (set (set (s0 ∷ s1 ∷ []) (n % 2) v) (1 - n % 2) w) b a ≡ device (master n) v w b a (held k (s0 ∷ s1 ∷ []) b a)) refl refl
+      x h) l two
 
   pub set-all : (l : List Side) → length l ≡ 2 → (v w : Side) → held k (set (set l 0 v) 1 w) b a ≡ deviceOf k v w b a
   set-all l two v w = of-two (λ m. held k (set (set m 0 v) 1 w) b a ≡ deviceOf k v w b a) (λ s0 s1. refl) l two
@@ -129,16 +135,21 @@ four-hold false q u v h = absurd (false≢true h)
 
 -- what the two tests for a move of the turn tell
 pub stop-told : (what : ℕ) (r : Raw) (b : Bus) (a : Arbitration) (s : Side) → stopGrants what r b a s ≡ true
-    → (what ≡ 3) × (zeroOrOne (r .x) && unused (r .y) && unused (r .z) ≡ true) × (not (atRest (s .port)) ≡ true) × (claimsTurn (master (r .x)) (a .turn) && eqb (b .hold) 0 ≡ true)
+    → (what ≡ 3) × (zeroOrOne (r .x) && unused (r .y) && unused (r .z) ≡ true) × (not (atRest (s .port)) ≡ true)
+    × (claimsTurn (master (r .x)) (a .turn) && eqb (b .hold) 0 ≡ true)
 stop-told what r b a s h =
-    let all = four-hold (eqb what 3) (zeroOrOne (r .x) && unused (r .y) && unused (r .z)) (not (atRest (s .port))) (claimsTurn (master (r .x)) (a .turn) && eqb (b .hold) 0) h in
+    let all = four-hold (eqb what 3) (zeroOrOne (r .x) && unused (r .y) && unused (r .z)) (not (atRest (s .port)))
+    (claimsTurn (master (r .x)) (a .turn) && eqb (b .hold) 0) h in
     (eqb-true what 3 (all .0), all .1, all .2, all .3)
 
 pub claim-told : (what : ℕ) (r : Raw) (a : Arbitration) (s : Side) → byteClaims what r a s ≡ true
-    → (what ≡ 1) × (zeroOrOne (r .x) && unused (r .z) ≡ true) × (forWriting (s .port) ≡ true) × (isContr (s .pointer) ≡ true) × (bit 0 (r .y) ≡ true) × (isNobody (a .turn) ≡ true)
+    → (what ≡ 1) × (zeroOrOne (r .x) && unused (r .z) ≡ true) × (forWriting (s .port) ≡ true) × (isContr (s .pointer) ≡ true) × (bit 0 (r .y) ≡ true)
+    × (isNobody (a .turn) ≡ true)
 claim-told what r a s h =
-    let last = and-eq-true-iff (eqb what 1 && (zeroOrOne (r .x) && unused (r .z)) && forWriting (s .port) && isContr (s .pointer) && bit 0 (r .y)) (isNobody (a .turn)) .0 h in
-    let most = and-eq-true-iff (eqb what 1 && (zeroOrOne (r .x) && unused (r .z)) && forWriting (s .port) && isContr (s .pointer)) (bit 0 (r .y)) .0 (last .0) in
+    let last = and-eq-true-iff (eqb what 1 && (zeroOrOne (r .x) && unused (r .z)) && forWriting (s .port) && isContr (s .pointer) && bit 0 (r .y))
+    (isNobody (a .turn)) .0 h in
+    let most = and-eq-true-iff (eqb what 1 && (zeroOrOne (r .x) && unused (r .z)) && forWriting (s .port) && isContr (s .pointer)) (bit 0 (r .y)) .0
+    (last .0) in
     let all = four-hold (eqb what 1) (zeroOrOne (r .x) && unused (r .z)) (forWriting (s .port)) (isContr (s .pointer)) (most .0) in
     (eqb-true what 1 (all .0), all .1, all .2, all .3, most .1, last .1)
 
@@ -174,7 +185,8 @@ module _ (r : Raw) where
   unfolding decode
   reads-pair k h = as-kind r 4 k ∙ fitted _ _ h
 
-  pub reads-lines : r .kind ≡ 5 → zeroOrOne (r .x) && zeroOrOne (r .y) && zeroOrOne (r .z) ≡ true → decode r ≡ Reads (Lines (level (r .x)) (level (r .y)) (level (r .z)))
+  pub reads-lines : r .kind ≡ 5 → zeroOrOne (r .x) && zeroOrOne (r .y) && zeroOrOne (r .z) ≡ true → decode r
+      ≡ Reads (Lines (level (r .x)) (level (r .y)) (level (r .z)))
   unfolding decode
   reads-lines k h = as-kind r 5 k ∙ fitted _ _ h
 
@@ -217,7 +229,8 @@ reset-rest hold d = refl
 
 -- ---- the arms. The loop holds the two sides l, the bus b and the arbitration a of a part of kind k, and knows its last two answer bytes.
 
-module _ (k : Kind) (l : List Side) (b : Bus) (a : Arbitration) (two : length l ≡ 2) (owner lines : ℕ) (o : owner ≡ ownerByte (held k l b a)) (i : lines ≡ linesByte (held k l b a)) (r : Raw) where
+module _ (k : Kind) (l : List Side) (b : Bus) (a : Arbitration) (two : length l ≡ 2) (owner lines : ℕ) (o : owner ≡ ownerByte (held k l b a))
+    (i : lines ≡ linesByte (held k l b a)) (r : Raw) where
   abbrev now : Device
   now = held k l b a
 
@@ -234,7 +247,8 @@ module _ (k : Kind) (l : List Side) (b : Bus) (a : Arbitration) (two : length l 
 
   -- in sequence, and ended by itself
   ended-arm : (e : Event) → decode r ≡ Reads e → Settled now → inSequence e now ≡ true → endsItself e now ≡ true
-      → (d : Device) (number byte li : ℕ) → d ≡ itsEnd e now → number ≡ outcomeNumber (if acknowledged e now then Done else NotAcknowledged) → byte ≡ byteRead e now
+      → (d : Device) (number byte li : ℕ) → d ≡ itsEnd e now → number ≡ outcomeNumber (if acknowledged e now then Done else NotAcknowledged) → byte
+      ≡ byteRead e now
       → li ≡ (if keepsLines e now then linesByte now else linesByte (itsEnd e now)) → steppedWith d (kept number byte owner li) ≡ step now r
   unfolding outcome
   ended-arm e h s q t d number byte li f g p n =
@@ -263,7 +277,18 @@ module _ (k : Kind) (l : List Side) (b : Bus) (a : Arbitration) (two : length l 
       kind = k;
       side0 = freshSide;
       side1 = freshSide;
-      bus = record { outscl = b .outscl; outsda = b .outsda; intin = b .intin; drivescl = true; drivesda = true; busy = false; hold = hold; idle = none (not (busyAfter true b left) && sclHigh left && sdaHigh left) j; lowscl = none (sclHigh left) j; lowsda = none (sdaHigh left || sclChanged b left) j };
+      bus = record {
+        outscl = b .outscl;
+        outsda = b .outsda;
+        intin = b .intin;
+        drivescl = true;
+        drivesda = true;
+        busy = false;
+        hold = hold;
+        idle = none (not (busyAfter true b left) && sclHigh left && sdaHigh left) j;
+        lowscl = none (sclHigh left) j;
+        lowsda = none (sdaHigh left || sclChanged b left) j;
+      };
       arb = freshArb;
     }
 
@@ -287,7 +312,8 @@ module _ (k : Kind) (l : List Side) (b : Bus) (a : Arbitration) (two : length l 
     other : side (partner m) now ≡ sideAt l (1 - at)
     other = partner-at k b a l (r .x) fits
 
-    pub command-arm : decode r ≡ Reads (Command m (r .y)) → Settled now → (v : Side) (number : ℕ) → v ≡ commanded (r .y) (sideAt l at) → number ≡ outcomeNumber (if goodCommand (r .y) then Done else NotAcknowledged)
+    pub command-arm : decode r ≡ Reads (Command m (r .y)) → Settled now → (v : Side) (number : ℕ) → v ≡ commanded (r .y) (sideAt l at) → number
+        ≡ outcomeNumber (if goodCommand (r .y) then Done else NotAcknowledged)
         → steppedWith (held k (set l at v) b a) (kept number 0 owner lines) ≡ step now r
     unfolding inSequence acknowledged endsItself keepsLines itsEnd effect byteRead
     command-arm h s v number e g =
@@ -298,7 +324,8 @@ module _ (k : Kind) (l : List Side) (b : Bus) (a : Arbitration) (two : length l 
     unfolding inSequence
     stop-refused h q = refused-arm (Stop m) h (ap (λ (x : Side). not (atRest (x .port))) own ∙ ap not q)
 
-    pub stop-arm : decode r ≡ Reads (Stop m) → Settled now → atRest (sideAt l at .port) ≡ false → claimsTurn m (a .turn) && eqb (b .hold) 0 ≡ false → (v : Side) → v ≡ withPort Rest (sideAt l at)
+    pub stop-arm : decode r ≡ Reads (Stop m) → Settled now → atRest (sideAt l at .port) ≡ false → claimsTurn m (a .turn) && eqb (b .hold) 0 ≡ false → (v : Side)
+        → v ≡ withPort Rest (sideAt l at)
         → steppedWith (held k (set l at v) b a) (kept 0 0 owner lines) ≡ step now r
     unfolding inSequence acknowledged endsItself keepsLines itsEnd effect byteRead
     stop-arm h s q c v e =
@@ -321,18 +348,22 @@ module _ (k : Kind) (l : List Side) (b : Bus) (a : Arbitration) (two : length l 
 
     pub write-arm : decode r ≡ Reads (Write m (r .y)) → Settled now → forWriting (sideAt l at .port) ≡ true
         → byteIsLight (sideAt l at .pointer) m (ownsTurn m (a .turn)) (r .y) (a .turn) (sideAt l at .contr .busconnect) ≡ true
-        → (v w : Side) (number li : ℕ) → v ≡ writeRisen (rolls now) (ownWritten (ownsTurn m (a .turn)) (sideAt l at .pointer) (r .y) (sideAt l at)) → w ≡ mailWritten (sideAt l at .pointer) (r .y) (sideAt l (1 - at))
+        → (v w : Side) (number li : ℕ) → v ≡ writeRisen (rolls now) (ownWritten (ownsTurn m (a .turn)) (sideAt l at .pointer) (r .y) (sideAt l at)) → w
+        ≡ mailWritten (sideAt l at .pointer) (r .y) (sideAt l (1 - at))
         → number ≡ outcomeNumber (if writable (sideAt l at .pointer) then Done else NotAcknowledged)
         → li ≡ linesShown (sideAt (set (set l at v) (1 - at) w) 0) (sideAt (set (set l at v) (1 - at) w) 1) b
         → steppedWith (held k (set (set l at v) (1 - at) w) b a) (kept number 0 owner li) ≡ step now r
     unfolding inSequence acknowledged endsItself keepsLines itsEnd effect byteRead
     write-arm h s q t v w number li e f g n =
         let light : writeIsLight ((side m now) .pointer) m (r .y) now ≡ true =
-        light-byte ((side m now) .pointer) ∙ ap (λ (x : Side). byteIsLight (x .pointer) m (ownsTurn m (a .turn)) (r .y) (a .turn) (x .contr .busconnect)) own ∙ t
+        light-byte ((side m now) .pointer) ∙ ap (λ (x : Side). byteIsLight (x .pointer) m (ownsTurn m (a .turn)) (r .y) (a .turn) (x .contr .busconnect)) own
+        ∙ t
         in
         let gone : held k (set (set l at v) (1 - at) w) b a ≡ written m (r .y) now =
         set-both k b a l two (r .x) fits v w
-        ∙ ap₂ (λ (x y : Side). device m x y b a now) (e ∙ ap (λ (x : Side). writeRisen (rolls now) (ownWritten (ownsTurn m (a .turn)) (x .pointer) (r .y) x)) (sym own)) (f ∙ ap₂ (λ (x y : Side). mailWritten (x .pointer) (r .y) y) (sym own) (sym other))
+        ∙ ap₂ (λ (x y : Side). device m x y b a now)
+        (e ∙ ap (λ (x : Side). writeRisen (rolls now) (ownWritten (ownsTurn m (a .turn)) (x .pointer) (r .y) x)) (sym own))
+        (f ∙ ap₂ (λ (x y : Side). mailWritten (x .pointer) (r .y) y) (sym own) (sym other))
         ∙ sym (written-sides m (r .y) now light)
         in
         ended-arm (Write m (r .y)) h s (ap (λ (x : Side). forWriting (x .port)) own ∙ q) light _ number 0 li gone
@@ -345,7 +376,8 @@ module _ (k : Kind) (l : List Side) (b : Bus) (a : Arbitration) (two : length l 
 
     -- the STOP of a claimant brings it the grant
     pub grant-arm : decode r ≡ Reads (Stop m) → Settled now → not (atRest (sideAt l at .port)) ≡ true → claimsTurn m (a .turn) && eqb (b .hold) 0 ≡ true
-        → (v : Side) (n : Bus) (w : Arbitration) (bits li : ℕ) → v ≡ sideGranted (sideAt l at) → n ≡ withIdle 0 b → w ≡ arbGranted m (sideAt l at) a → bits ≡ grantedBits (r .x) (sideAt l at .contr)
+        → (v : Side) (n : Bus) (w : Arbitration) (bits li : ℕ) → v ≡ sideGranted (sideAt l at) → n ≡ withIdle 0 b → w ≡ arbGranted m (sideAt l at) a → bits
+        ≡ grantedBits (r .x) (sideAt l at .contr)
         → li ≡ linesShown (sideAt (set l at v) 0) (sideAt (set l at v) 1) n
         → steppedWith (held k (set l at v) n w) (kept 0 0 (owner + bits) li) ≡ step now r
     unfolding inSequence acknowledged byteRead ownerByte
@@ -375,11 +407,13 @@ module _ (k : Kind) (l : List Side) (b : Bus) (a : Arbitration) (two : length l 
     claimer-ints MailLow c y x = absurd (false≢true c)
     claimer-ints MailHigh c y x = absurd (false≢true c)
 
-    risen-ints : (auto : Bool) (p : Register) (x : Side) → ((if auto then withPointer p x else x) .ints ≡ x .ints) × ((if auto then withPointer p x else x) .mask ≡ x .mask)
+    risen-ints : (auto : Bool) (p : Register) (x : Side) → ((if auto then withPointer p x else x) .ints ≡ x .ints)
+        × ((if auto then withPointer p x else x) .mask ≡ x .mask)
     risen-ints true p x = (refl, refl)
     risen-ints false p x = (refl, refl)
 
-    pub claim-arm : decode r ≡ Reads (Write m (r .y)) → Settled now → forWriting (sideAt l at .port) ≡ true → isContr (sideAt l at .pointer) ≡ true → bit 0 (r .y) ≡ true → isNobody (a .turn) ≡ true
+    pub claim-arm : decode r ≡ Reads (Write m (r .y)) → Settled now → forWriting (sideAt l at .port) ≡ true → isContr (sideAt l at .pointer) ≡ true
+        → bit 0 (r .y) ≡ true → isNobody (a .turn) ≡ true
         → (v : Side) (w : Arbitration) → v ≡ writeRisen (rolls now) claimer → w ≡ withTurn (Claims m Sole) a
         → steppedWith (held k (set l at v) b w) (kept 0 0 32 lines) ≡ step now r
     unfolding inSequence acknowledged byteRead ownerByte linesByte
@@ -391,12 +425,14 @@ module _ (k : Kind) (l : List Side) (b : Bus) (a : Arbitration) (two : length l 
         let up = risen-ints (claimer .auto) (afterWrite (rolls now) (claimer .pointer)) claimer in
         let gone : held k (set l at v) b w ≡ parts (Write m (r .y)) now =
         set-one k b w l two (r .x) fits v
-        ∙ (λ j. device m ((e ∙ ap₂ (λ (x : Bool) (y : Side). writeRisen (rolls now) (ownWritten x (y .pointer) (r .y) y)) (sym foreign) (sym own)) j) (side (partner m) now) b (g j) now)
+        ∙ (λ j. device m ((e ∙ ap₂ (λ (x : Bool) (y : Side). writeRisen (rolls now) (ownWritten x (y .pointer) (r .y) y)) (sym foreign) (sym own)) j)
+        (side (partner m) now) b (g j) now)
         ∙ sym (claimed-by-write m (r .y) now s n contr t opened)
         in
         let shown : linesByte (held k (set l at v) b w) ≡ linesByte now =
         ap linesByte (set-one k b w l two (r .x) fits v)
-        ∙ same-lines now v (side (partner m) now) m (ap (λ (x : Side). x .ints) e ∙ up .0 ∙ both .0 ∙ ap (λ (x : Side). x .ints) (sym own)) (ap (λ (x : Side). x .mask) e ∙ up .1 ∙ both .1 ∙ ap (λ (x : Side). x .mask) (sym own)) refl refl
+        ∙ same-lines now v (side (partner m) now) m (ap (λ (x : Side). x .ints) e ∙ up .0 ∙ both .0 ∙ ap (λ (x : Side). x .ints) (sym own))
+        (ap (λ (x : Side). x .mask) e ∙ up .1 ∙ both .1 ∙ ap (λ (x : Side). x .mask) (sym own)) refl refl
         in
         taken-arm (Write m (r .y)) h opened (writable-contr ((side m now) .pointer) contr) refl _ 32 lines gone
         (claimed-byte now s n ∙ ap (λ (x : Arbitration). ownerByte (held k (set l at v) b x)) (sym g)) (i ∙ sym shown)
@@ -412,14 +448,16 @@ module _ (k : Kind) (l : List Side) (b : Bus) (a : Arbitration) (two : length l 
     emptied-is : (t : Bool) → empties (sideAt l at) ≡ t → empties (side m now) ≡ t
     emptied-is t q = ap empties own ∙ q
 
-    pub read-emptying : decode r ≡ Reads (Read m) → Settled now → empties (sideAt l at) ≡ true → (v w : Side) (byte li : ℕ) → v ≡ readerSide (sideAt l at) → w ≡ senderSide true (sideAt l (1 - at)) → byte ≡ handed
+    pub read-emptying : decode r ≡ Reads (Read m) → Settled now → empties (sideAt l at) ≡ true → (v w : Side) (byte li : ℕ) → v ≡ readerSide (sideAt l at) → w
+        ≡ senderSide true (sideAt l (1 - at)) → byte ≡ handed
         → li ≡ linesShown (sideAt (set (set l at v) (1 - at) w) 0) (sideAt (set (set l at v) (1 - at) w) 1) b
         → steppedWith (held k (set (set l at v) (1 - at) w) b a) (kept 0 byte owner li) ≡ step now r
     unfolding inSequence acknowledged endsItself keepsLines itsEnd effect wasRead
     read-emptying h s t v w byte li e f g n =
         let gone : held k (set (set l at v) (1 - at) w) b a ≡ wasRead m now =
         set-both k b a l two (r .x) fits v w
-        ∙ ap₂ (λ (x y : Side). device m x y b a now) (e ∙ ap readerSide (sym own)) (f ∙ ap₂ (λ (x : Bool) (y : Side). senderSide x y) (sym (emptied-is true t)) (sym other))
+        ∙ ap₂ (λ (x y : Side). device m x y b a now) (e ∙ ap readerSide (sym own))
+        (f ∙ ap₂ (λ (x : Bool) (y : Side). senderSide x y) (sym (emptied-is true t)) (sym other))
         in
         ended-arm (Read m) h s refl refl _ 0 byte li gone refl (same-byte byte g)
         (n ∙ lines-of k _ _ b a ∙ ap linesByte gone ∙ ap (λ (x : Bool). if not x then linesByte now else linesByte (wasRead m now)) (sym (emptied-is true t)))
@@ -427,19 +465,22 @@ module _ (k : Kind) (l : List Side) (b : Bus) (a : Arbitration) (two : length l 
     unsent : (x : Side) → x ≡ senderSide false x
     unsent x = ap (λ (n : ℕ). withInts n x) (sym (or-zero-r (x .ints)))
 
-    pub read-arm : decode r ≡ Reads (Read m) → Settled now → empties (sideAt l at) ≡ false → (v : Side) (byte : ℕ) → v ≡ readerSide (sideAt l at) → byte ≡ handed
+    pub read-arm : decode r ≡ Reads (Read m) → Settled now → empties (sideAt l at) ≡ false → (v : Side) (byte : ℕ) → v ≡ readerSide (sideAt l at) → byte
+        ≡ handed
         → steppedWith (held k (set l at v) b a) (kept 0 byte owner lines) ≡ step now r
     unfolding inSequence acknowledged endsItself keepsLines itsEnd effect wasRead
     read-arm h s t v byte e g =
         let gone : held k (set l at v) b a ≡ wasRead m now =
         set-one k b a l two (r .x) fits v
-        ∙ ap₂ (λ (x y : Side). device m x y b a now) (e ∙ ap readerSide (sym own)) (unsent (side (partner m) now) ∙ ap (λ (x : Bool). senderSide x (side (partner m) now)) (sym (emptied-is false t)))
+        ∙ ap₂ (λ (x y : Side). device m x y b a now) (e ∙ ap readerSide (sym own))
+        (unsent (side (partner m) now) ∙ ap (λ (x : Bool). senderSide x (side (partner m) now)) (sym (emptied-is false t)))
         in
         ended-arm (Read m) h s refl refl _ 0 byte lines gone refl (same-byte byte g)
         (i ∙ ap (λ (x : Bool). if not x then linesByte now else linesByte (wasRead m now)) (sym (emptied-is false t)))
 
     -- GENERAL CALL of 06h
-    pub soft-arm : decode r ≡ Reads (GeneralCall m (r .y)) → softReset (r .y) ≡ true → (hold : ℕ) → hold ≡ holdAsked (sideAt l at) → (d : Device) (x : Answer) → d ≡ wasReset hold now → x ≡ answer 0 0 d
+    pub soft-arm : decode r ≡ Reads (GeneralCall m (r .y)) → softReset (r .y) ≡ true → (hold : ℕ) → hold ≡ holdAsked (sideAt l at) → (d : Device) (x : Answer)
+        → d ≡ wasReset hold now → x ≡ answer 0 0 d
         → steppedWith d x ≡ step now r
     unfolding stepEvent taken inSequence acknowledged outcome byteRead parts effect
     soft-arm h q hold g d x e f =
@@ -450,7 +491,8 @@ module _ (k : Kind) (l : List Side) (b : Bus) (a : Arbitration) (two : length l 
         in
         ap (λ (y : Answer). steppedWith d y) f
         ∙ ap (λ (y : Device). steppedWith y (answer 0 0 y)) (e ∙ ap (λ (n : ℕ). wasReset n now) (g ∙ ap holdAsked (sym own)) ∙ sym through)
-        ∙ ap (λ (t : Bool). steppedWith (parts (GeneralCall m (r .y)) now) (answer (outcomeNumber (if t then Done else NotAcknowledged)) 0 (parts (GeneralCall m (r .y)) now))) (sym q)
+        ∙ ap (λ (t : Bool). steppedWith (parts (GeneralCall m (r .y)) now)
+        (answer (outcomeNumber (if t then Done else NotAcknowledged)) 0 (parts (GeneralCall m (r .y)) now))) (sym q)
         ∙ sym (stepped (GeneralCall m (r .y)) h)
 
   -- bytes that are no event
@@ -463,7 +505,8 @@ module _ (k : Kind) (l : List Side) (b : Bus) (a : Arbitration) (two : length l 
       go UnknownKind h = joined now now n 2 0 0 owner _ lines _ refl h refl o i
       go BadField h = joined now now n 3 0 0 owner _ lines _ refl h refl o i
 
-  byte-light : (p : Register) (c : Master) (v : ℕ) → writeIsLight p c v now ≡ byteIsLight p c (ownsTurn c (a .turn)) v (a .turn) ((side c now) .contr .busconnect)
+  byte-light : (p : Register) (c : Master) (v : ℕ) → writeIsLight p c v now
+      ≡ byteIsLight p c (ownsTurn c (a .turn)) v (a .turn) ((side c now) .contr .busconnect)
   byte-light Id c v = refl
   byte-light Contr c v = refl
   byte-light Status c v = refl
@@ -474,15 +517,18 @@ module _ (k : Kind) (l : List Side) (b : Bus) (a : Arbitration) (two : length l 
   byte-light MailHigh c v = refl
 
   pub pair-arm : decode r ≡ Reads (Pair (r .x) (r .y)) → Settled now → forWriting (sideAt l 0 .port) && forWriting (sideAt l 1 .port) ≡ true
-      → byteIsLight (sideAt l 0 .pointer) Zero (ownsTurn Zero (a .turn)) (r .x) (a .turn) (sideAt l 0 .contr .busconnect) && byteIsLight (sideAt l 1 .pointer) One (ownsTurn One (a .turn)) (r .y) (a .turn) (sideAt l 1 .contr .busconnect) ≡ true
-      → (v w : Side) (number li : ℕ) → v ≡ mailWritten (sideAt l 1 .pointer) (r .y) (writeRisen (rolls now) (ownWritten (ownsTurn Zero (a .turn)) (sideAt l 0 .pointer) (r .x) (sideAt l 0)))
+      → byteIsLight (sideAt l 0 .pointer) Zero (ownsTurn Zero (a .turn)) (r .x) (a .turn) (sideAt l 0 .contr .busconnect) && byteIsLight (sideAt l 1 .pointer)
+      One (ownsTurn One (a .turn)) (r .y) (a .turn) (sideAt l 1 .contr .busconnect) ≡ true
+      → (v w : Side) (number li : ℕ) → v ≡ mailWritten (sideAt l 1 .pointer) (r .y)
+      (writeRisen (rolls now) (ownWritten (ownsTurn Zero (a .turn)) (sideAt l 0 .pointer) (r .x) (sideAt l 0)))
       → w ≡ mailWritten (sideAt l 0 .pointer) (r .x) (writeRisen (rolls now) (ownWritten (ownsTurn One (a .turn)) (sideAt l 1 .pointer) (r .y) (sideAt l 1)))
       → number ≡ outcomeNumber (if writable (sideAt l 0 .pointer) && writable (sideAt l 1 .pointer) then Done else NotAcknowledged) → li ≡ linesShown v w b
       → steppedWith (held k (set (set l 0 v) 1 w) b a) (kept number 0 owner li) ≡ step now r
   unfolding inSequence acknowledged endsItself keepsLines itsEnd effect byteRead
   pair-arm h s q t v w number li e f g n =
       let both =
-      and-eq-true-iff (byteIsLight (sideAt l 0 .pointer) Zero (ownsTurn Zero (a .turn)) (r .x) (a .turn) (sideAt l 0 .contr .busconnect)) (byteIsLight (sideAt l 1 .pointer) One (ownsTurn One (a .turn)) (r .y) (a .turn) (sideAt l 1 .contr .busconnect)) .0 t
+      and-eq-true-iff (byteIsLight (sideAt l 0 .pointer) Zero (ownsTurn Zero (a .turn)) (r .x) (a .turn) (sideAt l 0 .contr .busconnect))
+      (byteIsLight (sideAt l 1 .pointer) One (ownsTurn One (a .turn)) (r .y) (a .turn) (sideAt l 1 .contr .busconnect)) .0 t
       in
       let l0 : writeIsLight (now .side0 .pointer) Zero (r .x) now ≡ true = byte-light (now .side0 .pointer) Zero (r .x) ∙ both .0 in
       let l1 : writeIsLight (now .side1 .pointer) One (r .y) now ≡ true = byte-light (now .side1 .pointer) One (r .y) ∙ both .1 in
@@ -492,7 +538,8 @@ module _ (k : Kind) (l : List Side) (b : Bus) (a : Arbitration) (two : length l 
       ended-arm (Pair (r .x) (r .y)) h s q (ap₂ (λ (x y : Bool). x && y) l0 l1) _ number 0 li gone g refl
       (n ∙ lines-of k v w b a ∙ ap linesByte (sym (set-all k b a l two v w) ∙ gone))
 
-  pub pair-refused : decode r ≡ Reads (Pair (r .x) (r .y)) → forWriting (sideAt l 0 .port) && forWriting (sideAt l 1 .port) ≡ false → steppedWith now (kept 4 0 owner lines) ≡ step now r
+  pub pair-refused : decode r ≡ Reads (Pair (r .x) (r .y)) → forWriting (sideAt l 0 .port) && forWriting (sideAt l 1 .port) ≡ false
+      → steppedWith now (kept 4 0 owner lines) ≡ step now r
   unfolding inSequence
   pair-refused h q = refused-arm (Pair (r .x) (r .y)) h q
 
@@ -500,8 +547,10 @@ module _ (k : Kind) (l : List Side) (b : Bus) (a : Arbitration) (two : length l 
   unfolding inSequence
   pulse-refused h q = refused-arm (Pulse (level (r .x))) h q
 
-  pub lines-arm : decode r ≡ Reads (Lines (level (r .x)) (level (r .y)) (level (r .z))) → Settled now → (n : Bus) → n ≡ linedBus (level (r .x)) (level (r .y)) (level (r .z)) b → noLoss (a .turn) (held k l n a) ≡ true
-      → (fell : Bool) → fell ≡ b .intin && not (level (r .z)) → (v w : Side) (li : ℕ) → v ≡ intInFallen fell (sideAt l 0) → w ≡ intInFallen fell (sideAt l 1) → li ≡ linesShown v w n
+  pub lines-arm : decode r ≡ Reads (Lines (level (r .x)) (level (r .y)) (level (r .z))) → Settled now → (n : Bus) → n
+      ≡ linedBus (level (r .x)) (level (r .y)) (level (r .z)) b → noLoss (a .turn) (held k l n a) ≡ true
+      → (fell : Bool) → fell ≡ b .intin && not (level (r .z)) → (v w : Side) (li : ℕ) → v ≡ intInFallen fell (sideAt l 0) → w ≡ intInFallen fell (sideAt l 1)
+      → li ≡ linesShown v w n
       → steppedWith (held k (set (set l 0 v) 1 w) n a) (kept 0 0 owner li) ≡ step now r
   unfolding inSequence acknowledged endsItself keepsLines itsEnd effect lined byteRead
   lines-arm h s n e t fell f v w li p q u =
@@ -514,14 +563,17 @@ module _ (k : Kind) (l : List Side) (b : Bus) (a : Arbitration) (two : length l 
       (u ∙ lines-of k v w n a ∙ ap linesByte (sym (set-all k n a l two v w) ∙ gone))
 
   -- GENERAL CALL of another byte: nothing happens, and parts 2 to 7 have nothing to do in a settled device
-  pub call-arm : decode r ≡ Reads (GeneralCall (master (r .x)) (r .y)) → Settled now → softReset (r .y) ≡ false → steppedWith now (kept 1 0 owner lines) ≡ step now r
+  pub call-arm : decode r ≡ Reads (GeneralCall (master (r .x)) (r .y)) → Settled now → softReset (r .y) ≡ false → steppedWith now (kept 1 0 owner lines)
+      ≡ step now r
   unfolding stepEvent taken inSequence acknowledged outcome byteRead parts effect partsThreeToSeven
   call-arm h s q =
       let rest : parts (GeneralCall (master (r .x)) (r .y)) now ≡ now =
-      ap (λ (x : Bool). partsThreeToSeven false (clockOf (GeneralCall (master (r .x)) (r .y))) (levels x b (if x then wasReset (holdAsked (side (master (r .x)) now)) now else now))) q
+      ap (λ (x : Bool). partsThreeToSeven false (clockOf (GeneralCall (master (r .x)) (r .y)))
+      (levels x b (if x then wasReset (holdAsked (side (master (r .x)) now)) now else now))) q
       ∙ fits-settles Zero now (sideAt l 0) (sideAt l 1) s (fits-self Zero (a .turn) (sideAt l 0)) (refl, refl, refl)
       in
-      joined now _ 1 _ 0 0 owner _ lines _ (sym rest) (ap (λ (x : Bool). outcomeNumber (if x then Done else NotAcknowledged)) (sym q)) refl (o ∙ ap ownerByte (sym rest)) (i ∙ ap linesByte (sym rest))
+      joined now _ 1 _ 0 0 owner _ lines _ (sym rest) (ap (λ (x : Bool). outcomeNumber (if x then Done else NotAcknowledged)) (sym q)) refl
+      (o ∙ ap ownerByte (sym rest)) (i ∙ ap linesByte (sym rest))
       ∙ sym (stepped (GeneralCall (master (r .x)) (r .y)) h)
 
   pub reset-arm : decode r ≡ Reads Reset → (d : Device) (x : Answer) → d ≡ wasReset 0 now → x ≡ answer 0 0 d → steppedWith d x ≡ step now r

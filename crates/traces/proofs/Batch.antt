@@ -62,7 +62,9 @@ still-test b h =
 pub settled-left : (d : Device) → Settled d → quietTicks d ≡ countsLeft d
 unfolding quietTicks isQuiet
 settled-left d h =
-    ap₂ (λ (x y : Bool). if x && y then countsLeft d else 0) (still-test (d .bus) (h .0)) (first-three (switchStays (d .arb .turn) d) (noGrant (d .arb .turn) d) (noClaim (d .arb .turn) d) (noCut false (d .arb .turn) d) (noLoss (d .arb .turn) d) (h .1))
+    ap₂ (λ (x y : Bool). if x && y then countsLeft d else 0) (still-test (d .bus) (h .0))
+    (first-three (switchStays (d .arb .turn) d) (noGrant (d .arb .turn) d) (noClaim (d .arb .turn) d) (noCut false (d .arb .turn) d) (noLoss (d .arb .turn) d)
+    (h .1))
 
 -- ---- the four bytes of a TICK
 
@@ -160,7 +162,8 @@ module _ (from : Device) (b l : List ℕ) (i : ℕ) (d : Device) (out : List ℕ
       × (ownerByte (afterTicks j d) ≡ ownerByte d)
       × (linesByte (afterTicks j d) ≡ linesByte d)
 
-  module _ (j : ℕ) (known : Known (i + j) j) (left : j < countsLeft d) (more : i + j < eventCount b) (room : eventBytes * (i + j + 1) ≤ length l) (here : isTickRaw (eventAt (i + j) b) ≡ true) where
+  module _ (j : ℕ) (known : Known (i + j) j) (left : j < countsLeft d) (more : i + j < eventCount b) (room : eventBytes * (i + j + 1) ≤ length l)
+      (here : isTickRaw (eventAt (i + j) b) ≡ true) where
     next : step (afterTicks j d) tick ≡ record { device = afterTicks (j + 1) d; answer = answer 0 0 d }
     next = quiet d j (subst (λ (n : ℕ). j < n) (sym (settled-left d settled)) left)
 
@@ -170,7 +173,8 @@ module _ (from : Device) (b l : List ℕ) (i : ℕ) (d : Device) (out : List ℕ
     one-more : afterTicks (j + 1) d ≡ afterTicks (suc j) d
     one-more = ap (λ (n : ℕ). afterTicks n d) (add-one j)
 
-    shows : (step (afterTicks j d) tick .answer .owner ≡ ownerByte (step (afterTicks j d) tick .device)) × (step (afterTicks j d) tick .answer .lines ≡ linesByte (step (afterTicks j d) tick .device))
+    shows : (step (afterTicks j d) tick .answer .owner ≡ ownerByte (step (afterTicks j d) tick .device))
+        × (step (afterTicks j d) tick .answer .lines ≡ linesByte (step (afterTicks j d) tick .device))
     shows = answer-shows (afterTicks j d) tick
 
     known-next : Known (i + j + 1) (suc j)
@@ -188,7 +192,8 @@ module _ (from : Device) (b l : List ℕ) (i : ℕ) (d : Device) (out : List ℕ
   unfolding ticks runFrom
   none = sym (quiet-together d 0 (omega arith) .0)
 
-  module _ (device : d ≡ runFrom from (rawsIn i b)) (buffer : out ≡ bytesOf (answersFrom from (rawsIn i b)) ++ drop (eventBytes * i) l) (same : length out ≡ length l) where
+  module _ (device : d ≡ runFrom from (rawsIn i b)) (buffer : out ≡ bytesOf (answersFrom from (rawsIn i b)) ++ drop (eventBytes * i) l)
+      (same : length out ≡ length l) where
     known-none : Known i 0
     unfolding withSame
     known-none = (none ∙ device, buffer, same, subst Settled (sym none) settled, ap ownerByte none, ap linesByte none)
@@ -198,7 +203,8 @@ module _ (from : Device) (b l : List ℕ) (i : ℕ) (d : Device) (out : List ℕ
     known-after (suc j) left more room all =
         let e : i + j + 1 ≡ i + suc j = omega arith in
         subst (λ (m : ℕ). Known m (suc j)) e
-        (known-next j (known-after j (omega arith) (omega arith) (omega arith) (λ k f t. all k f (omega arith))) (omega arith) (omega arith) (omega arith) (all (i + j) (omega arith) (omega arith)))
+        (known-next j (known-after j (omega arith) (omega arith) (omega arith) (λ k f t. all k f (omega arith))) (omega arith) (omega arith) (omega arith)
+        (all (i + j) (omega arith) (omega arith)))
 
 -- ---- what the code's tests tell
 
@@ -219,12 +225,14 @@ module _ (from : Device) (b l : List ℕ) (i j : ℕ) (d x : Device) (out last :
   pub together : Settled d → d ≡ runFrom from (rawsIn i b) → out ≡ bytesOf (answersFrom from (rawsIn i b)) ++ drop (eventBytes * i) l → length out ≡ length l
       → i < j → j - i ≤ countsLeft d → j ≤ eventCount b → eventBytes * j ≤ length l → AllTicks i j b
       → a ≡ answer 0 0 d → last ≡ withSame out i (j - i) a → x ≡ afterTicks (j - i) d
-      → (x ≡ runFrom from (rawsIn j b)) × (last ≡ bytesOf (answersFrom from (rawsIn j b)) ++ drop (eventBytes * j) l) × Settled x × (ownerByte d ≡ ownerByte x) × (linesByte d ≡ linesByte x)
+      → (x ≡ runFrom from (rawsIn j b)) × (last ≡ bytesOf (answersFrom from (rawsIn j b)) ++ drop (eventBytes * j) l) × Settled x × (ownerByte d ≡ ownerByte x)
+      × (linesByte d ≡ linesByte x)
   together settled device buffer same some left more room all alike put moved =
       let e : i + (j - i) ≡ j = omega (arith, some) in
       let known =
       subst (λ (m : ℕ). Known from b l i d out settled m (j - i)) e
-      (known-after from b l i d out settled device buffer same (j - i) left (omega (arith, e, more)) (omega (arith, e, room)) (λ k f t. all k f (omega (arith, e, t))))
+      (known-after from b l i d out settled device buffer same (j - i) left (omega (arith, e, more)) (omega (arith, e, room))
+      (λ k f t. all k f (omega (arith, e, t))))
       in (
         moved ∙ known .0,
         put ∙ ap (λ (y : Answer). withSame out i (j - i) y) alike ∙ known .1,

@@ -91,6 +91,7 @@ claimed-by Apart e = refl
 claimed-by (Initialising j n) e = absurd (false≢true e)
 claimed-by (Closed j) e = absurd (false≢true e)
 
-pub claimed-byte : (d : Device) → Settled d → isNobody (d .arb .turn) ≡ true → 32 ≡ 0 + 4 * switchNumber (d .arb .switch) + worth 16 (isInitialising (d .arb .switch)) + 32 * groundNumber Sole
+pub claimed-byte : (d : Device) → Settled d → isNobody (d .arb .turn) ≡ true → 32
+    ≡ 0 + 4 * switchNumber (d .arb .switch) + worth 16 (isInitialising (d .arb .switch)) + 32 * groundNumber Sole
 unfolding isQuiet
 claimed-byte d (still, quiet) l = claimed-by (d .arb .switch) (nobody-apart (d .arb .turn) d l (tests (d .arb .turn) d quiet .0))

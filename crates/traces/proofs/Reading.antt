@@ -13,7 +13,9 @@ use Rattle.arbiter.specs.Words.{if_then_else_}
 use Rattle.arbiter.specs.Straps.{addressOf}
 use Rattle.arbiter.specs.Effects.{powerUp}
 use Rattle.arbiter.specs.Steps.{runFrom, answersFrom, run}
-use Rattle.arbiter.specs.Traces.{pinCount, pinBytes, headBytes, eventBytes, mostEvents, eventsEnd, kindCount, wholeBytes, byteAt, pinsIn, countIn, rawIn, rawsIn, eventsIn, kindNumber, isKind, kindOf, kindAt, readKind, readCounted, readStrapped, readTrace, refusalNumber, readNumber, reportOf, bytesOf, answersIn, bufferOf, report, bufferAfter, ran, bufferRan}
+use Rattle.arbiter.specs.Traces.{pinCount, pinBytes, headBytes, eventBytes, mostEvents, eventsEnd, kindCount, wholeBytes, byteAt, pinsIn, countIn, rawIn}
+use Rattle.arbiter.specs.Traces.{rawsIn, eventsIn, kindNumber, isKind, kindOf, kindAt, readKind, readCounted, readStrapped, readTrace, refusalNumber}
+use Rattle.arbiter.specs.Traces.{readNumber, reportOf, bytesOf, answersIn, bufferOf, report, bufferAfter, ran, bufferRan}
 use Rattle.arbiter.specs.declared.Refusal.{Refusal}
 use Rattle.arbiter.specs.declared.Refusal.the-variants.{TraceCut, TooManyEvents, BytesAfterEnd, BadStraps, NoRoom, BadCount, UnknownPart}
 use Rattle.arbiter.specs.declared.Strapped.{Strapped}
@@ -53,7 +55,8 @@ own-number (suc (suc b)) h = let small = ltb-true (suc (suc b)) 2 h in absurd (o
 
 -- from the third section on, of a trace that was read up to its m events
 kind-fits : (x m : ℕ) (t : List ℕ) (room a n : ℕ) (k : Kind) → readKind x m t room ≡ Accepted a n k
-    → (m ≡ n) × (wholeBytes m ≤ length t) × (eventBytes * m ≤ room) × (length t ≤ wholeBytes m) × (byteAt (eventsEnd m) t ≡ kindCount) × (kindAt m t ≡ kindNumber k)
+    → (m ≡ n) × (wholeBytes m ≤ length t) × (eventBytes * m ≤ room) × (length t ≤ wholeBytes m) × (byteAt (eventsEnd m) t ≡ kindCount)
+    × (kindAt m t ≡ kindNumber k)
 unfolding readKind
 kind-fits x m t room a n k h =
     let p1 = passed (ltb (length t) (eventsEnd m + 1)) TraceCut _ a n k h in
@@ -167,11 +170,13 @@ module _ (t out : List ℕ) (a n : ℕ) (k : Kind) (accepted : readTrace t (leng
   events-are : rawsIn n (eventsPart t) ≡ eventsIn n t
   events-are = same-events t (length out) a n k accepted
 
-  pub played-report : (d : Device) (events : List ℕ) (r : Ran) → d ≡ powerUp k → events ≡ eventsPart t → r ≡ ran d events out → reportWith (r .number) a (r .events) (r .device) ≡ report t out
+  pub played-report : (d : Device) (events : List ℕ) (r : Ran) → d ≡ powerUp k → events ≡ eventsPart t → r ≡ ran d events out
+      → reportWith (r .number) a (r .events) (r .device) ≡ report t out
   unfolding report reportOf run
   played-report d events r fresh part e =
       ap (λ (x : Ran). reportWith (x .number) a (x .events) (x .device))
-      (e ∙ ap (λ (x : Device). ran x events out) fresh ∙ ap (λ (l : List ℕ). ran (powerUp k) l out) part ∙ sym (all-ran (powerUp k) (eventsPart t) out n whole enough-room))
+      (e ∙ ap (λ (x : Device). ran x events out) fresh ∙ ap (λ (l : List ℕ). ran (powerUp k) l out) part
+      ∙ sym (all-ran (powerUp k) (eventsPart t) out n whole enough-room))
       ∙ ap (λ (rs : List Raw). reportWith 0 a n (runFrom (powerUp k) rs)) events-are
       ∙ ap (λ (x : TraceRead). reportOf x t) (sym accepted)
 

@@ -81,14 +81,16 @@ put-four p l n a e h =
     let l1 : length p1 ≡ n + 1 = longer p n (n + 1) (a .outcome) e refl in
     let l2 : length p2 ≡ n + 2 = longer p1 (n + 1) (n + 2) (a .read) l1 (omega arith) in
     let l3 : length p3 ≡ n + 3 = longer p2 (n + 2) (n + 3) (a .owner) l2 (omega arith) in
-    ap (λ (r : List ℕ). set (set (set r (n + 1) (a .read)) (n + 2) (a .owner)) (n + 3) (a .lines)) (put-one p l n (n + 1) (a .outcome) e (omega arith) (omega arith))
+    ap (λ (r : List ℕ). set (set (set r (n + 1) (a .read)) (n + 2) (a .owner)) (n + 3) (a .lines))
+    (put-one p l n (n + 1) (a .outcome) e (omega arith) (omega arith))
     ∙ ap (λ (r : List ℕ). set (set r (n + 2) (a .owner)) (n + 3) (a .lines)) (put-one p1 l (n + 1) (n + 2) (a .read) l1 (omega arith) (omega arith))
     ∙ ap (λ (r : List ℕ). set r (n + 3) (a .lines)) (put-one p2 l (n + 2) (n + 3) (a .owner) l2 (omega arith) (omega arith))
     ∙ put-one p3 l (n + 3) (n + 4) (a .lines) l3 (omega arith) (omega arith)
     ∙ simp append-assoc
 
 -- the same at the place of event k, which the buffer l has
-put-next : (p l out : List ℕ) (k : ℕ) (a : Answer) → length p ≡ eventBytes * k → out ≡ p ++ drop (eventBytes * k) l → length out ≡ length l → eventBytes * (k + 1) ≤ length l
+put-next : (p l out : List ℕ) (k : ℕ) (a : Answer) → length p ≡ eventBytes * k → out ≡ p ++ drop (eventBytes * k) l → length out ≡ length l
+    → eventBytes * (k + 1) ≤ length l
     → withAnswer out k a ≡ (p ++ four a) ++ drop (eventBytes * (k + 1)) l
 unfolding withAnswer
 put-next p l out k a e o same h =
@@ -101,7 +103,8 @@ put-next p l out k a e o same h =
 
 -- ---- one turn of the loop: the step's result s at the device d, which is the one after k events
 
-module _ (from : Device) (b : List ℕ) (k : ℕ) (d : Device) (s : Stepped) (more : k < eventCount b) (at-k : d ≡ runFrom from (rawsIn k b)) (stepped : s ≡ step d (eventAt k b)) where
+module _ (from : Device) (b : List ℕ) (k : ℕ) (d : Device) (s : Stepped) (more : k < eventCount b) (at-k : d ≡ runFrom from (rawsIn k b))
+    (stepped : s ≡ step d (eventAt k b)) where
   same-step : s ≡ step (runFrom from (rawsIn k b)) (eventAt k b)
   same-step = stepped ∙ ap (λ (x : Device). step x (eventAt k b)) at-k
 
@@ -117,7 +120,8 @@ module _ (from : Device) (b : List ℕ) (k : ℕ) (d : Device) (s : Stepped) (mo
       ∙ bytes-more (answersFrom from (rawsIn k b)) (step (runFrom from (rawsIn k b)) (eventAt k b) .answer)
       ∙ ap (λ (x : Stepped). bytesOf (answersFrom from (rawsIn k b)) ++ four (x .answer)) (sym same-step)
 
-  pub again-out : (l out last : List ℕ) → out ≡ bytesOf (answersFrom from (rawsIn k b)) ++ drop (eventBytes * k) l → length out ≡ length l → last ≡ withAnswer out k (s .answer) → eventBytes * (k + 1) ≤ length l
+  pub again-out : (l out last : List ℕ) → out ≡ bytesOf (answersFrom from (rawsIn k b)) ++ drop (eventBytes * k) l → length out ≡ length l → last
+      ≡ withAnswer out k (s .answer) → eventBytes * (k + 1) ≤ length l
       → last ≡ bytesOf (answersFrom from (rawsIn (k + 1) b)) ++ drop (eventBytes * (k + 1)) l
   again-out l out last o same p h =
       p
@@ -131,7 +135,8 @@ module _ (d : Device) (events buffer : List ℕ) where
   unfolding ran bufferRan ranNumber ranCount runFrom answersFrom rawsIn
   odd-ran odd = (simp (ne-eqb _ _ odd), simp (ne-eqb _ _ odd))
 
-  pub short-ran : length events % eventBytes ≡ 0 → length buffer / eventBytes < eventCount events → (ranWith 9 0 d ≡ ran d events buffer) × (buffer ≡ bufferRan d events buffer)
+  pub short-ran : length events % eventBytes ≡ 0 → length buffer / eventBytes < eventCount events → (ranWith 9 0 d ≡ ran d events buffer)
+      × (buffer ≡ bufferRan d events buffer)
   unfolding ran bufferRan ranNumber ranCount runFrom answersFrom rawsIn
   short-ran fours short =
       let room = lt-ltb (length buffer) (eventBytes * eventCount events) (omega arith) in
@@ -160,7 +165,10 @@ module _ (d : Device) (events buffer : List ℕ) where
     all-answered = simp counted
 
     -- the answers fill the part of the buffer that is theirs, and the rest stays
-    pub part-answered : (part : List ℕ) → part ≡ bytesOf (answersFrom d (rawsIn n events)) ++ drop (eventBytes * n) (take (eventBytes * n) buffer) → part ++ drop (eventBytes * n) buffer ≡ bufferRan d events buffer
+    pub part-answered : (part : List ℕ) → part ≡ bytesOf (answersFrom d (rawsIn n events)) ++ drop (eventBytes * n) (take (eventBytes * n) buffer) → part
+        ++ drop (eventBytes * n) buffer ≡ bufferRan d events buffer
     part-answered part e =
-        let none : drop (eventBytes * n) (take (eventBytes * n) buffer) ≡ [] = drop-of-length-le (take (eventBytes * n) buffer) (le-of-eq (length-take-le (eventBytes * n) buffer fits)) in
-        ap (λ (l : List ℕ). l ++ drop (eventBytes * n) buffer) (e ∙ ap (λ (l : List ℕ). bytesOf (answersFrom d (rawsIn n events)) ++ l) none ∙ append-nil (bytesOf (answersFrom d (rawsIn n events)))) ∙ all-answered
+        let none : drop (eventBytes * n) (take (eventBytes * n) buffer) ≡ [] =
+        drop-of-length-le (take (eventBytes * n) buffer) (le-of-eq (length-take-le (eventBytes * n) buffer fits)) in
+        ap (λ (l : List ℕ). l ++ drop (eventBytes * n) buffer)
+        (e ∙ ap (λ (l : List ℕ). bytesOf (answersFrom d (rawsIn n events)) ++ l) none ∙ append-nil (bytesOf (answersFrom d (rawsIn n events)))) ∙ all-answered

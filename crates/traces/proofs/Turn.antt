@@ -42,9 +42,12 @@ Known settled events buffer n from out owner lines d i =
     × (owner ≡ ownerByte d)
     × (lines ≡ linesByte d)
 
-module _ (settled : Bool) (events buffer : List ℕ) (n : ℕ) (from : Device) (out : List ℕ) (owner lines : ℕ) (d : Device) (i : ℕ) (known : Known settled events buffer n from out owner lines d i) (within : i < n) (enough : eventBytes * n ≤ length events) (room : eventBytes * n ≤ length buffer) where
+module _ (settled : Bool) (events buffer : List ℕ) (n : ℕ) (from : Device) (out : List ℕ) (owner lines : ℕ) (d : Device) (i : ℕ)
+    (known : Known settled events buffer n from out owner lines d i) (within : i < n) (enough : eventBytes * n ≤ length events)
+    (room : eventBytes * n ≤ length buffer) where
   -- a step, and its answer stored
-  pub turned : (s : Stepped) (r : Raw) → r ≡ eventAt i events → s ≡ step d r → (last : List ℕ) (a : Answer) → length last ≡ length out → last ≡ withAnswer out i a → a ≡ s .answer
+  pub turned : (s : Stepped) (r : Raw) → r ≡ eventAt i events → s ≡ step d r → (last : List ℕ) (a : Answer) → length last ≡ length out → last
+      ≡ withAnswer out i a → a ≡ s .answer
       → Known settled events buffer n from last (s .answer .owner) (s .answer .lines) (s .device) (i + 1)
   turned s r read stepped last a same put told =
       let more : i < eventCount events = omega (arith, within, enough) in
@@ -61,21 +64,24 @@ module _ (settled : Bool) (events buffer : List ℕ) (n : ℕ) (from : Device) (
       )
 
   -- TICKs up to event j, of k that the counts have left, answered alike
-  module _ (k : ℕ) (left : k ≡ countsLeft d) (some : k ≡ 0 → ⊥) (calm : Settled d) (r : Raw) (read : r ≡ eventAt i events) (tick : isTickRaw r ≡ true) (few : ℕ) (least-is : few ≡ least k (n - i)) where
+  module _ (k : ℕ) (left : k ≡ countsLeft d) (some : k ≡ 0 → ⊥) (calm : Settled d) (r : Raw) (read : r ≡ eventAt i events) (tick : isTickRaw r ≡ true) (few : ℕ)
+      (least-is : few ≡ least k (n - i)) where
     pub last-fits : (few ≤ n - i) × (few ≤ k) × (1 ≤ few)
     last-fits =
         let both = least-both k (n - i) few least-is in
         let rest : 1 ≤ n - i = omega (arith, within) in
         (both .1, both .0, both .2 (some-one k some) rest)
 
-    pub ticked : (j : ℕ) → i < j → j ≤ i + few → AllTicks (i + 1) j events → (a : Answer) → a ≡ kept 0 0 owner lines → (last : List ℕ) → length last ≡ length out → last ≡ withSame out i (j - i) a
+    pub ticked : (j : ℕ) → i < j → j ≤ i + few → AllTicks (i + 1) j events → (a : Answer) → a ≡ kept 0 0 owner lines → (last : List ℕ) → length last
+        ≡ length out → last ≡ withSame out i (j - i) a
         → (e : Device) → e ≡ afterTicks (j - i) d → Known settled events buffer n from last owner lines e j
     ticked j past till all a told last same put e moved =
         let fits = last-fits in
         let end : j ≤ n = omega (arith, till, fits .0, within) in
         let first : isTickRaw (eventAt i events) ≡ true = ap isTickRaw (sym read) ∙ tick in
         let found =
-        together from events buffer i j d e out last a calm (known .2) (known .3) (known .1) past (omega (arith, till, fits .1, left)) (omega (arith, end, enough)) (omega (arith, end, room))
+        together from events buffer i j d e out last a calm (known .2) (known .3) (known .1) past (omega (arith, till, fits .1, left))
+        (omega (arith, end, enough)) (omega (arith, end, room))
         (all-from i j events first all) (told ∙ ap₂ (kept 0 0) (known .5) (known .6)) put moved
         in
         (end, same ∙ known .1, found .0, found .1, λ h. found .2, known .5 ∙ found .3, known .6 ∙ found .4)
@@ -99,19 +105,27 @@ two-on l i v h = length-set l i v ∙ h
 
 -- ---- the same with the device in the loop's hands by its parts
 
-module _ (settled : Bool) (events buffer : List ℕ) (n : ℕ) (from : Device) (out : List ℕ) (owner lines : ℕ) (k : Kind) (l : List Side) (b : Bus) (a : Arbitration) (i : ℕ) (two : length l ≡ 2) (known : Known settled events buffer n from out owner lines (held k l b a) i) (within : i < n) (enough : eventBytes * n ≤ length events) (room : eventBytes * n ≤ length buffer) where
+module _ (settled : Bool) (events buffer : List ℕ) (n : ℕ) (from : Device) (out : List ℕ) (owner lines : ℕ) (k : Kind) (l : List Side) (b : Bus)
+    (a : Arbitration) (i : ℕ) (two : length l ≡ 2) (known : Known settled events buffer n from out owner lines (held k l b a) i) (within : i < n)
+    (enough : eventBytes * n ≤ length events) (room : eventBytes * n ≤ length buffer) where
   -- a step of the whole device
-  pub stepped-on : (s : Stepped) (r : Raw) → r ≡ eventAt i events → s ≡ step (held k l b a) r → (last : List ℕ) (x : Answer) → length last ≡ length out → last ≡ withAnswer out i x → x ≡ s .answer
-      → Known settled events buffer n from last (s .answer .owner) (s .answer .lines) (held k (set (set l 0 (s .device .side0)) 1 (s .device .side1)) (s .device .bus) (s .device .arb)) (i + 1)
+  pub stepped-on : (s : Stepped) (r : Raw) → r ≡ eventAt i events → s ≡ step (held k l b a) r → (last : List ℕ) (x : Answer) → length last ≡ length out → last
+      ≡ withAnswer out i x → x ≡ s .answer
+      → Known settled events buffer n from last (s .answer .owner) (s .answer .lines)
+      (held k (set (set l 0 (s .device .side0)) 1 (s .device .side1)) (s .device .bus) (s .device .arb)) (i + 1)
   stepped-on s r read stepped last x same put told =
-      subst (λ (d : Device). Known settled events buffer n from last (s .answer .owner) (s .answer .lines) d (i + 1)) (sym (step-apart k l two (held k l b a) r s stepped refl))
+      subst (λ (d : Device). Known settled events buffer n from last (s .answer .owner) (s .answer .lines) d (i + 1))
+      (sym (step-apart k l two (held k l b a) r s stepped refl))
       (turned settled events buffer n from out owner lines (held k l b a) i known within enough room s r read stepped last x same put told)
 
   -- TICKs together, which leave the sides
-  pub ticked-on : (d : Device) → d ≡ held k l b a → (left : ℕ) → left ≡ countsLeft d → (left ≡ 0 → ⊥) → Settled (held k l b a) → (r : Raw) → r ≡ eventAt i events → isTickRaw r ≡ true → (few : ℕ) → few ≡ least left (n - i)
-      → (j : ℕ) → i < j → j ≤ i + few → AllTicks (i + 1) j events → (x : Answer) → x ≡ kept 0 0 owner lines → (last : List ℕ) → length last ≡ length out → last ≡ withSame out i (j - i) x
+  pub ticked-on : (d : Device) → d ≡ held k l b a → (left : ℕ) → left ≡ countsLeft d → (left ≡ 0 → ⊥) → Settled (held k l b a) → (r : Raw) → r
+      ≡ eventAt i events → isTickRaw r ≡ true → (few : ℕ) → few ≡ least left (n - i)
+      → (j : ℕ) → i < j → j ≤ i + few → AllTicks (i + 1) j events → (x : Answer) → x ≡ kept 0 0 owner lines → (last : List ℕ) → length last ≡ length out → last
+      ≡ withSame out i (j - i) x
       → (e : Device) → e ≡ afterTicks (j - i) d → Known settled events buffer n from last owner lines (held k l (e .bus) (e .arb)) j
   ticked-on d is left counts some calm r read tick few least-is j past till all x told last same put e moved =
       let gone : e ≡ afterTicks (j - i) (held k l b a) = moved ∙ ap (afterTicks (j - i)) is in
       subst (λ (y : Device). Known settled events buffer n from last owner lines y j) (sym (ticks-apart k l b a (j - i) e gone))
-      (ticked settled events buffer n from out owner lines (held k l b a) i known within enough room left (counts ∙ ap countsLeft is) some calm r read tick few least-is j past till all x told last same put e gone)
+      (ticked settled events buffer n from out owner lines (held k l b a) i known within enough room left (counts ∙ ap countsLeft is) some calm r read tick few
+      least-is j past till all x told last same put e gone)

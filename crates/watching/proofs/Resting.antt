@@ -142,14 +142,20 @@ module _ (w : Watcher) (r : Ready (w .settings) (w .ear) 1) where
   ear-one : earAfter (w .settings) (w .ear .before) (w .ear) ≡ earRested (w .settings) (w .ear) 1
   unfolding earAfter earRested
   ear-one =
-      let both : bothMended (heardNow (w .settings) (w .ear .before) (w .ear) .both) ≡ w .ear .both = ap (λ (h : Heard). bothMended (h .both)) heard-none ∙ mended-both in
+      let both : bothMended (heardNow (w .settings) (w .ear .before) (w .ear) .both) ≡ w .ear .both = ap (λ (h : Heard). bothMended (h .both)) heard-none
+      ∙ mended-both in
       λ j. record { begun = sym (r .begun) j; before = w .ear .before; since = since-one j; both = both j }
 
   pub still-one : watchedAt (w .ear .before) w ≡ rested 1 w
   unfolding watchedAt heardBy followedAll rested withSample withSamples
   still-one =
       ap (λ (es : List Event). heardBy (w .ear .before) w (followedAll es w)) events-none
-      ∙ (λ j. record { settings = w .settings; ear = ear-one j; device = w .device; tally = (ap (λ (n : ℕ). withSample n (w .tally)) faults-none ∙ tally-one) j })
+      ∙ (λ j. record {
+        settings = w .settings;
+        ear = ear-one j;
+        device = w .device;
+        tally = (ap (λ (n : ℕ). withSample n (w .tally)) faults-none ∙ tally-one) j;
+      })
     where
       no-fault : (t : Tally) → faultWith 0 t ≡ t .fault
       no-fault t = simp (and-false (eqb (t .faults) 0))
@@ -248,7 +254,8 @@ taken-all [] y zs w r a = one-taken y zs w (one-alike (w .ear .before) y [] a .0
 taken-all (z ∷ ys) y zs w r a =
     let alike = one-alike (w .ear .before) y (z ∷ ys) a in
     let later = taken-all ys z zs (rested 1 w) (ready-next (length (z ∷ ys)) w r) (alike .1) in
-    let more : taken zs (rested (length (z ∷ ys)) (rested 1 w)) ≡ taken zs (rested (suc (length (z ∷ ys))) w) = ap (taken zs) (rested-more (length (z ∷ ys)) w) in
+    let more : taken zs (rested (length (z ∷ ys)) (rested 1 w)) ≡ taken zs (rested (suc (length (z ∷ ys))) w) =
+    ap (taken zs) (rested-more (length (z ∷ ys)) w) in
     let rest : ℕ = taken zs (rested (suc (length (z ∷ ys))) w) in
     let sum : 1 + (length (z ∷ ys) + rest) ≡ suc (length (z ∷ ys)) + rest = omega arith in
     one-taken y ((z ∷ ys) ++ zs) w (alike .0) (ready-first (length (z ∷ ys)) (w .settings) (w .ear) r)

@@ -7,15 +7,6 @@ use Rattle.quiet.proofs.Counts.{least-second}
 use Rattle.advance.proofs.go_on.Statement.{statement}
 use Rattle.advance.proofs.go_on.Tie as tie
 
-quiet-ticks-requires : tie.Need-quiet-ticks-requires
-quiet-ticks-requires c κs = search needs
-
-least-u16-requires : tie.Need-least-u16-requires
-least-u16-requires c κs = search needs
-
-tick-on-requires : tie.Need-tick-on-requires
-tick-on-requires c κs = search needs
-
 jump-on-requires : tie.Need-jump-on-requires
 jump-on-requires c κs = rw (c .before .least-u16 .ensures) (least-second _ _)
 
@@ -43,9 +34,7 @@ pub go-on-spec : {M : Type 1} → statement M
 go-on-spec =
     tie.close
     (tie.spec
-    quiet-ticks-requires
-    least-u16-requires
-    tick-on-requires
+    (λ c κs. search needs) (λ c κs. search needs) (λ c κs. search needs)
     jump-on-requires
     returns
     returns-2)

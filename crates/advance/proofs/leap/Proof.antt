@@ -20,9 +20,6 @@ Inv-loop n w₀ w =
 abbrev μ-loop : tie.MeasureT-loop
 μ-loop n w₀ w = w .left
 
-way-with-requires : tie.Need-way-with-requires Inv-loop μ-loop
-way-with-requires c κs = search needs
-
 loop-holds : tie.Need-loop-holds Inv-loop μ-loop
 loop-holds c =
     let e = c .way-with .ensures in (
@@ -47,9 +44,6 @@ loop-again c =
       omega (arith, ap (λ (w : Way). w .reported + w .left) e, kept .3, inv .2),
     )
 
-advanced-with-requires : tie.Need-advanced-with-requires Inv-loop μ-loop
-advanced-with-requires c κs = search needs
-
 returns : tie.Need-returns Inv-loop μ-loop
 returns c =
     let start = c .before .before .before .before .way-with .ensures in
@@ -62,10 +56,10 @@ leap-spec =
     (tie.spec
     Inv-loop
     μ-loop
-    way-with-requires
+    (λ c κs. search needs)
     loop-holds
     go-on-requires
     loop-less
     loop-again
-    advanced-with-requires
+    (λ c κs. search needs)
     returns)

@@ -5,12 +5,9 @@ use Rattle.arbiter.specs.Steps.{step}
 use Rattle.advance.proofs.ticked_once.Statement.{statement}
 use Rattle.advance.proofs.ticked_once.Tie as tie
 
-step-device-requires : tie.Need-step-device-requires
-step-device-requires c κs = search needs
-
 returns : tie.Need-returns
 unfolding step
 returns c = simp (c .before .step-device .ensures)
 
 pub ticked-once-spec : {M : Type 1} → statement M
-ticked-once-spec = tie.close (tie.spec step-device-requires returns)
+ticked-once-spec = tie.close (tie.spec (λ c κs. search needs) returns)

@@ -5,12 +5,6 @@ use borrow.Author.Needs.{needs}
 use Rattle.fields.proofs.limit_of.Statement.{statement}
 use Rattle.fields.proofs.limit_of.Tie as tie
 
-enum-told : tie.Need-enum-told
-enum-told c = search needs
-
-enum-told-2 : tie.Need-enum-told-2
-enum-told-2 c = search needs
-
 returns : tie.Need-returns
 unfolding rulesOf
 returns c = simp (c .enum-told .given .1)
@@ -20,4 +14,4 @@ unfolding rulesOf
 returns-2 c = simp (c .enum-told2 .given .1)
 
 pub limit-of-spec : {M : Type 1} → statement M
-limit-of-spec = tie.close (tie.spec enum-told enum-told-2 returns returns-2)
+limit-of-spec = tie.close (tie.spec (λ c. search needs) (λ c. search needs) returns returns-2)

@@ -5,33 +5,6 @@ use Rattle.layout.specs.Layout.{arbIn}
 use Rattle.image.proofs.arb_in.Statement.{statement}
 use Rattle.image.proofs.arb_in.Tie as tie
 
-byte-in-requires : tie.Need-byte-in-requires
-byte-in-requires c κs = search needs
-
-last-numbered-requires : tie.Need-last-numbered-requires
-last-numbered-requires c κs = search needs
-
-flag-in-requires : tie.Need-flag-in-requires
-flag-in-requires c κs = search needs
-
-byte-in-requires-2 : tie.Need-byte-in-requires-2
-byte-in-requires-2 c κs = search needs
-
-switch-numbered-requires : tie.Need-switch-numbered-requires
-switch-numbered-requires c κs = search needs
-
-byte-in-requires-3 : tie.Need-byte-in-requires-3
-byte-in-requires-3 c κs = search needs
-
-byte-in-requires-4 : tie.Need-byte-in-requires-4
-byte-in-requires-4 c κs = search needs
-
-turn-numbered-requires : tie.Need-turn-numbered-requires
-turn-numbered-requires c κs = search needs
-
-arb-with-requires : tie.Need-arb-with-requires
-arb-with-requires c κs = search needs
-
 returns : tie.Need-returns
 unfolding arbIn
 returns c =
@@ -51,13 +24,6 @@ pub arb-in-spec : {M : Type 1} → statement M
 arb-in-spec =
     tie.close
     (tie.spec
-    byte-in-requires
-    last-numbered-requires
-    flag-in-requires
-    byte-in-requires-2
-    switch-numbered-requires
-    byte-in-requires-3
-    byte-in-requires-4
-    turn-numbered-requires
-    arb-with-requires
+    (λ c κs. search needs) (λ c κs. search needs) (λ c κs. search needs) (λ c κs. search needs) (λ c κs. search needs)
+    (λ c κs. search needs) (λ c κs. search needs) (λ c κs. search needs) (λ c κs. search needs)
     returns)

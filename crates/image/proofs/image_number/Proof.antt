@@ -6,9 +6,6 @@ use Rattle.layout.specs.Images.{imageNumber}
 use Rattle.image.proofs.image_number.Statement.{statement}
 use Rattle.image.proofs.image_number.Tie as tie
 
-in-range-requires : tie.Need-in-range-requires
-in-range-requires c κs = search needs
-
 returns : tie.Need-returns
 unfolding imageNumber
 returns c = simp (c .if2 .taken, ← c .before .in-range .ensures, eq-eqb _ _ (c .before .before .if1 .taken))
@@ -22,4 +19,4 @@ unfolding imageNumber
 returns-3 c = simp (ne-eqb _ _ (c .if1 .left))
 
 pub image-number-spec : {M : Type 1} → statement M
-image-number-spec = tie.close (tie.spec in-range-requires returns returns-2 returns-3)
+image-number-spec = tie.close (tie.spec (λ c κs. search needs) returns returns-2 returns-3)

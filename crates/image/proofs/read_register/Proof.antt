@@ -6,21 +6,6 @@ use Rattle.layout.specs.Images.{shown}
 use Rattle.image.proofs.read_register.Statement.{statement}
 use Rattle.image.proofs.read_register.Tie as tie
 
-shown-number-requires : tie.Need-shown-number-requires
-shown-number-requires c κs = search needs
-
-register-at-requires : tie.Need-register-at-requires
-register-at-requires c κs = search needs
-
-master-of-requires : tie.Need-master-of-requires
-master-of-requires c κs = search needs
-
-read-image-requires : tie.Need-read-image-requires
-read-image-requires c κs = search needs
-
-reads-at-requires : tie.Need-reads-at-requires
-reads-at-requires c κs = search needs
-
 returns : tie.Need-returns
 unfolding shown
 returns c =
@@ -41,10 +26,6 @@ pub read-register-spec : {M : Type 1} → statement M
 read-register-spec =
     tie.close
     (tie.spec
-    shown-number-requires
-    register-at-requires
-    master-of-requires
-    read-image-requires
-    reads-at-requires
+    (λ c κs. search needs) (λ c κs. search needs) (λ c κs. search needs) (λ c κs. search needs) (λ c κs. search needs)
     returns
     returns-2)

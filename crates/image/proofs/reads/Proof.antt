@@ -5,15 +5,6 @@ use Rattle.image.proofs.Pointer.{at-pointer}
 use Rattle.image.proofs.reads.Statement.{statement}
 use Rattle.image.proofs.reads.Tie as tie
 
-port-of-requires : tie.Need-port-of-requires
-port-of-requires c κs = search needs
-
-side-with-requires : tie.Need-side-with-requires
-side-with-requires c κs = search needs
-
-register-byte-requires : tie.Need-register-byte-requires
-register-byte-requires c κs = search needs
-
 returns : tie.Need-returns
 returns c =
     let a = c .before .before .before .args in
@@ -21,5 +12,4 @@ returns c =
     (at-pointer (a .r) (a .granted) (a .theirs) (a .own) (a .other) (a .b) (a .initfail))
 
 pub reads-spec : {M : Type 1} → statement M
-reads-spec =
-    tie.close (tie.spec port-of-requires side-with-requires register-byte-requires returns)
+reads-spec = tie.close (tie.spec (λ c κs. search needs) (λ c κs. search needs) (λ c κs. search needs) returns)

@@ -6,9 +6,6 @@ use Rattle.layout.specs.Images.{shownNumber}
 use Rattle.image.proofs.shown_number.Statement.{statement}
 use Rattle.image.proofs.shown_number.Tie as tie
 
-image-number-requires : tie.Need-image-number-requires
-image-number-requires c κs = search needs
-
 returns : tie.Need-returns
 unfolding shownNumber
 returns c = simp (c .if2 .taken, eq-eqb _ _ (c .before .if1 .taken), ← c .before .before .image-number .ensures)
@@ -22,4 +19,4 @@ unfolding shownNumber
 returns-3 c = simp (ne-eqb _ _ (c .if1 .left), ← c .before .image-number .ensures)
 
 pub shown-number-spec : {M : Type 1} → statement M
-shown-number-spec = tie.close (tie.spec image-number-requires returns returns-2 returns-3)
+shown-number-spec = tie.close (tie.spec (λ c κs. search needs) returns returns-2 returns-3)

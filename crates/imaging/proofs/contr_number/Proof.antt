@@ -5,12 +5,9 @@ use Rattle.arbiter.specs.Registers.{contrByte}
 use Rattle.imaging.proofs.contr_number.Statement.{statement}
 use Rattle.imaging.proofs.contr_number.Tie as tie
 
-byte-of-requires : tie.Need-byte-of-requires
-byte-of-requires c κs = search needs
-
 returns : tie.Need-returns
 unfolding contrByte
 returns c = simp (c .byte-of .ensures)
 
 pub contr-number-spec : {M : Type 1} → statement M
-contr-number-spec = tie.close (tie.spec byte-of-requires returns)
+contr-number-spec = tie.close (tie.spec (λ c κs. search needs) returns)

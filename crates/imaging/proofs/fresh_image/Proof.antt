@@ -13,22 +13,10 @@ use Rattle.layout.specs.Images.{freshAfter, freshNumber}
 use Rattle.imaging.proofs.fresh_image.Statement.{statement}
 use Rattle.imaging.proofs.fresh_image.Tie as tie
 
-is-kind-requires : tie.Need-is-kind-requires
-is-kind-requires c κs = search needs
-
-kind-of-requires : tie.Need-kind-of-requires
-kind-of-requires c κs = search needs
-
-fresh-requires : tie.Need-fresh-requires
-fresh-requires c κs = search needs
-
 write-image-requires : tie.Need-write-image-requires
 write-image-requires c κs =
     let few = subst (λ (d : Device). pulses (d .arb .switch) < 9) (sym (c .before .fresh .ensures)) (fresh-pulses _) in
     (few, c .before .before .before .before .before .if1 .taken)
-
-same-length : tie.Need-same-length
-same-length c = search needs
 
 returns : tie.Need-returns
 unfolding freshNumber freshAfter
@@ -56,11 +44,9 @@ pub fresh-image-spec : {M : Type 1} → statement M
 fresh-image-spec =
     tie.close
     (tie.spec
-    is-kind-requires
-    kind-of-requires
-    fresh-requires
+    (λ c κs. search needs) (λ c κs. search needs) (λ c κs. search needs)
     write-image-requires
-    same-length
+    (λ c. search needs)
     returns
     returns-2
     returns-3)

@@ -13,21 +13,12 @@ use Rattle.layout.specs.Layout.{imageOf}
 use Rattle.imaging.proofs.step_good.Statement.{statement}
 use Rattle.imaging.proofs.step_good.Tie as tie
 
-read-image-requires : tie.Need-read-image-requires
-read-image-requires c κs = search needs
-
-step-device-requires : tie.Need-step-device-requires
-step-device-requires c κs = search needs
-
 write-image-requires : tie.Need-write-image-requires
 write-image-requires c κs =
     let start = c .before .before .before .before .before in
     let ran = c .before .step-device .ensures ∙ ap (λ (d : Device). step d (start .args .r)) (c .before .before .read-image .ensures) in
     let few = subst (λ (s : Stepped). pulses (s .device .arb .switch) < 9) (sym ran) (pulses-stay _ (start .args .r) (start .pre)) in
     (few, image-good _ (start .pre) .0)
-
-same-length : tie.Need-same-length
-same-length c = search needs
 
 returns : tie.Need-returns
 returns c =
@@ -38,5 +29,4 @@ returns c =
 
 pub step-good-spec : {M : Type 1} → statement M
 step-good-spec =
-    tie.close
-    (tie.spec read-image-requires step-device-requires write-image-requires same-length returns)
+    tie.close (tie.spec (λ c κs. search needs) (λ c κs. search needs) write-image-requires (λ c. search needs) returns)

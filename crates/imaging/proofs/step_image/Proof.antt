@@ -7,18 +7,9 @@ use Rattle.layout.specs.Images.{refusedBy, imageAnswer, imageAfter}
 use Rattle.imaging.proofs.step_image.Statement.{statement}
 use Rattle.imaging.proofs.step_image.Tie as tie
 
-image-number-requires : tie.Need-image-number-requires
-image-number-requires c κs = search needs
-
 step-good-requires : tie.Need-step-good-requires
 unfolding imageAnswer imageAfter
 step-good-requires c κs = simp (eq-eqb _ _ (c .before .if1 .taken), ← c .before .before .image-number .ensures)
-
-refused-by-requires : tie.Need-refused-by-requires
-refused-by-requires c κs = search needs
-
-same-length : tie.Need-same-length
-same-length c = search needs
 
 returns : tie.Need-returns
 unfolding imageAnswer imageAfter
@@ -26,9 +17,6 @@ returns c =
     let good = eq-eqb _ _ (sym (c .before .before .before .before .before .image-number .ensures) ∙ c .before .before .before .before .if1 .taken) in
     let done = c .before .before .step-good .ensures in
     (simp good (done .0), simp good (done .1))
-
-same-length-2 : tie.Need-same-length-2
-same-length-2 c = search needs
 
 returns-2 : tie.Need-returns-2
 unfolding imageAnswer imageAfter
@@ -41,10 +29,9 @@ pub step-image-spec : {M : Type 1} → statement M
 step-image-spec =
     tie.close
     (tie.spec
-    image-number-requires
+    (λ c κs. search needs)
     step-good-requires
-    refused-by-requires
-    same-length
+    (λ c κs. search needs) (λ c. search needs)
     returns
-    same-length-2
+    (λ c. search needs)
     returns-2)

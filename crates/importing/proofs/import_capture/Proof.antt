@@ -14,22 +14,10 @@ use borrow.Author.Needs.{needs}
 use Rattle.importing.proofs.import_capture.Statement.{statement}
 use Rattle.importing.proofs.import_capture.Tie as tie
 
-refused-requires : tie.Need-refused-requires
-refused-requires c κs = search needs
-
 returns : tie.Need-returns
 returns c =
     let s = c .before .before .before .before .args in
     refused-13 (s .address) (s .samples .now) (s .events .now) _ (c .before .if1 .taken) (c .refused .ensures)
-
-in-range-requires : tie.Need-in-range-requires
-in-range-requires c κs = search needs
-
-empty-list-requires : tie.Need-empty-list-requires
-empty-list-requires c κs = search needs
-
-slice-aggregate-walk : tie.Need-slice-aggregate-walk
-slice-aggregate-walk c = search needs
 
 walk-requires : tie.Need-walk-requires
 walk-requires c κs =
@@ -37,37 +25,39 @@ walk-requires c κs =
     let short : length (s .samples .now) ≤ 32768 = c .before .before .before .before .if1 .left in
     (short, omega (arith, most-captured (s .address) (s .samples .now) short, c .before .empty-list .ensures))
 
-is-any-cut-requires : tie.Need-is-any-cut-requires
-is-any-cut-requires c κs = search needs
-
-refused-requires-2 : tie.Need-refused-requires-2
-refused-requires-2 c κs = search needs
-
 returns-2 : tie.Need-returns-2
 returns-2 c =
-    let s = c .before .before .before .before .before .before .before .before .before .before .before .before .before .args in
-    let a = sym (c .before .before .before .before .before .before .before .before .before .in-range .ensures) ∙ c .before .before .before .before .before .before .before .before .if2 .taken in
-    let x = cut-found (s .address) (s .samples .now) _ _ (c .before .before .before .before .before .walk .ensures .0 .0) (c .before .before .is-any-cut .ensures) ∙ c .before .if3 .taken in
-    refused-12 (s .address) (s .samples .now) (s .events .now) (c .before .before .before .before .before .before .before .before .before .before .if1 .left) a _ x (c .refused2 .ensures)
-
-refused-requires-3 : tie.Need-refused-requires-3
-refused-requires-3 c κs = search needs
+    let back10 = c .before .before .before .before .before .before .before .before .before .before in
+    let s = back10 .before .before .before .args in
+    let a = sym (c .before .before .before .before .before .before .before .before .before .in-range .ensures)
+    ∙ c .before .before .before .before .before .before .before .before .if2 .taken in
+    let x = cut-found (s .address) (s .samples .now) _ _ (c .before .before .before .before .before .walk .ensures .0 .0)
+    (c .before .before .is-any-cut .ensures) ∙ c .before .if3 .taken in
+    refused-12 (s .address) (s .samples .now) (s .events .now) (back10 .if1 .left) a _ x (c .refused2 .ensures)
 
 returns-3 : tie.Need-returns-3
 returns-3 c =
-    let s = c .before .before .before .before .before .before .before .before .before .before .before .before .before .before .args in
+    let back10 = c .before .before .before .before .before .before .before .before .before .before in
+    let s = back10 .before .before .before .before .args in
     let found = c .before .before .before .before .before .before .walk .ensures .0 in
-    let a = sym (c .before .before .before .before .before .before .before .before .before .before .in-range .ensures) ∙ c .before .before .before .before .before .before .before .before .before .if2 .taken in
+    let a = sym (back10 .in-range .ensures) ∙ c .before .before .before .before .before .before .before .before .before .if2 .taken in
     let x = cut-found (s .address) (s .samples .now) _ _ (found .0) (c .before .before .before .is-any-cut .ensures) ∙ c .before .before .if3 .left in
     let room : length (s .events .now) < 4 * length (captured (s .address) (s .samples .now)) = omega (arith, found .1, c .before .if4 .taken) in
-    refused-9 (s .address) (s .samples .now) (s .events .now) (c .before .before .before .before .before .before .before .before .before .before .before .if1 .left) a _ x room (c .refused3 .ensures)
+    refused-9 (s .address) (s .samples .now) (s .events .now) (back10 .before .if1 .left) a _ x room (c .refused3 .ensures)
 
 array-share-prefix-list : tie.Need-array-share-prefix-list
 array-share-prefix-list c =
     let s = c .before .before .before .before .before .before .before .before .before .before .before .before .before .args in
     let w = c .before .before .before .before .before .walk .ensures in
     let most = most-captured (s .address) (s .samples .now) (c .before .before .before .before .before .before .before .before .before .before .if1 .left) in
-    omega (arith, most, w .0 .1, ap length (w .1), length-sets (c .before .before .before .before .before .before .before .empty-list .result) 0 (eventBytes (captured (s .address) (s .samples .now))), c .before .before .before .before .before .before .before .empty-list .ensures)
+    omega (
+      arith,
+      most,
+      w .0 .1,
+      ap length (w .1),
+      length-sets (c .before .before .before .before .before .before .before .empty-list .result) 0 (eventBytes (captured (s .address) (s .samples .now))),
+      c .before .before .before .before .before .before .before .empty-list .ensures,
+    )
 
 slice-aggregate-copy : tie.Need-slice-aggregate-copy
 slice-aggregate-copy c =
@@ -75,27 +65,27 @@ slice-aggregate-copy c =
 
 copy-requires : tie.Need-copy-requires
 copy-requires c κs =
-    let copied : length (take (c .before .before .before .before .before .before .before .walk .result .bytes) (c .before .before .before .before .before .before .before .walk .last .1 .1 .0)) ≡ c .before .before .before .before .before .before .before .walk .result .bytes = length-take-le _ _ (array-share-prefix-list (c .before .before)) in
+    let copied : length (take (c .before .before .before .before .before .before .before .walk .result .bytes)
+    (c .before .before .before .before .before .before .before .walk .last .1 .1 .0))
+    ≡ c .before .before .before .before .before .before .before .walk .result .bytes = length-take-le _ _ (array-share-prefix-list (c .before .before)) in
     omega (arith, copied, c .before .before .if4 .left)
-
-refused-requires-4 : tie.Need-refused-requires-4
-refused-requires-4 c κs = search needs
-
-same-length : tie.Need-same-length
-same-length c = search needs
 
 returns-4 : tie.Need-returns-4
 returns-4 c =
-    let s = c .before .before .before .before .before .before .before .before .before .before .before .before .before .before .before .before .before .before .args in
-    let w = c .before .before .before .before .before .before .before .before .before .before .walk .ensures in
+    let back10 = c .before .before .before .before .before .before .before .before .before .before in
+    let s = back10 .before .before .before .before .before .before .before .before .args in
+    let w = back10 .walk .ensures in
     let es = captured (s .address) (s .samples .now) in
-    let a = sym (c .before .before .before .before .before .before .before .before .before .before .before .before .before .before .in-range .ensures) ∙ c .before .before .before .before .before .before .before .before .before .before .before .before .before .if2 .taken in
-    let x = cut-found (s .address) (s .samples .now) _ _ (w .0 .0) (c .before .before .before .before .before .before .before .is-any-cut .ensures) ∙ c .before .before .before .before .before .before .if3 .left in
+    let a = sym (back10 .before .before .before .before .in-range .ensures) ∙ back10 .before .before .before .if2 .taken in
+    let x = cut-found (s .address) (s .samples .now) _ _ (w .0 .0) (c .before .before .before .before .before .before .before .is-any-cut .ensures)
+    ∙ c .before .before .before .before .before .before .if3 .left in
     let room : 4 * length es ≤ length (s .events .now) = omega (arith, w .0 .1, c .before .before .before .before .before .if4 .left) in
-    let most = most-captured (s .address) (s .samples .now) (c .before .before .before .before .before .before .before .before .before .before .before .before .before .before .before .if1 .left) in
-    let fits : c .before .before .before .before .before .before .before .before .before .before .walk .result .bytes ≤ length (c .before .before .before .before .before .before .before .before .before .before .before .before .empty-list .result) = omega (arith, most, w .0 .1, c .before .before .before .before .before .before .before .before .before .before .before .before .empty-list .ensures) in
-    let left = c .before .before .copy .ensures .1 ∙ front-copied (c .before .before .before .before .before .before .before .before .before .before .before .before .empty-list .result) (eventBytes es) _ (s .events .now) _ (w .1) (w .0 .1 ∙ sym (bytes-length es)) fits in
-    accepted (s .address) (s .samples .now) (s .events .now) (c .before .before .before .before .before .before .before .before .before .before .before .before .before .before .before .if1 .left) a _ _ x room (w .0 .1) left
+    let most = most-captured (s .address) (s .samples .now) (back10 .before .before .before .before .before .if1 .left) in
+    let fits : back10 .walk .result .bytes ≤ length (back10 .before .before .empty-list .result) =
+    omega (arith, most, w .0 .1, back10 .before .before .empty-list .ensures) in
+    let left = c .before .before .copy .ensures .1
+    ∙ front-copied (back10 .before .before .empty-list .result) (eventBytes es) _ (s .events .now) _ (w .1) (w .0 .1 ∙ sym (bytes-length es)) fits in
+    accepted (s .address) (s .samples .now) (s .events .now) (back10 .before .before .before .before .before .if1 .left) a _ _ x room (w .0 .1) left
 
 returns-5 : tie.Need-returns-5
 returns-5 c =
@@ -107,21 +97,17 @@ pub import-capture-spec : {M : Type 1} → statement M
 import-capture-spec =
     tie.close
     (tie.spec
-    refused-requires
+    (λ c κs. search needs)
     returns
-    in-range-requires
-    empty-list-requires
-    slice-aggregate-walk
+    (λ c κs. search needs) (λ c κs. search needs) (λ c. search needs)
     walk-requires
-    is-any-cut-requires
-    refused-requires-2
+    (λ c κs. search needs) (λ c κs. search needs)
     returns-2
-    refused-requires-3
+    (λ c κs. search needs)
     returns-3
     array-share-prefix-list
     slice-aggregate-copy
     copy-requires
-    refused-requires-4
-    same-length
+    (λ c κs. search needs) (λ c. search needs)
     returns-4
     returns-5)

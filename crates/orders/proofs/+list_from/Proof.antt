@@ -32,35 +32,11 @@ known t = (reach-reads.Asked, reach-reads.Learnt, below t, list-from.Post)
 returns : (t : ℕ) → lts.Need-returns (known t) (at t) list-from.Post
 returns t c = pour-full _ _ _ (c .if1 .taken)
 
-reach-requires : (t : ℕ) → lts.Need-reach-requires (known t) (at t) list-from.Post
-reach-requires t c κs = search needs
-
-sub-list-from : (t : ℕ) → lts.Need-sub-list-from (known t) (at t) list-from.Post
-sub-list-from t c = search needs
-
-part-list-from-start : (t : ℕ) → lts.Need-part-list-from-start (known t) (at t) list-from.Post
-part-list-from-start t c = search needs
-
-part-list-from-end : (t : ℕ) → lts.Need-part-list-from-end (known t) (at t) list-from.Post
-part-list-from-end t c = search needs
-
 list-from-requires : (t : ℕ) → lts.Need-list-from-requires (known t) (at t) list-from.Post
 list-from-requires t c κs =
     let left0 = c .before .before .before in
     let start = left0 .before .before .before .before .before in
     (omega (arith, one-less (start .args .script0 .now) (left0 .if2 .taken), start .pre .0), omega arith)
-
-reach-requires-2 : (t : ℕ) → lts.Need-reach-requires-2 (known t) (at t) list-from.Post
-reach-requires-2 t c κs = search needs
-
-sub-list-from-2 : (t : ℕ) → lts.Need-sub-list-from-2 (known t) (at t) list-from.Post
-sub-list-from-2 t c = search needs
-
-part-list-from-start-2 : (t : ℕ) → lts.Need-part-list-from-start-2 (known t) (at t) list-from.Post
-part-list-from-start-2 t c = search needs
-
-part-list-from-end-2 : (t : ℕ) → lts.Need-part-list-from-end-2 (known t) (at t) list-from.Post
-part-list-from-end-2 t c = search needs
 
 list-from-requires-2 : (t : ℕ) → lts.Need-list-from-requires-2 (known t) (at t) list-from.Post
 list-from-requires-2 t c κs =
@@ -101,31 +77,10 @@ returns-3 t c =
     by-0 (s .c) (s .script0 .now) (s .script1 .now) (s .limit) (s .out .now, s .at)
     (left0 .if2 .taken) _ (at0 .reach .ensures) _ (c .if3 .left) (first .list-from .ensures)
 
-slice-write-out : (t : ℕ) → lts.Need-slice-write-out (known t) (at t) list-from.Post
-slice-write-out t c = search needs
-
-add-result : (t : ℕ) → lts.Need-add-result (known t) (at t) list-from.Post
-add-result t c = search needs
-
-same-length-3 : (t : ℕ) → lts.Need-same-length-3 (known t) (at t) list-from.Post
-same-length-3 t c = search needs
-
 returns-4 : (t : ℕ) → lts.Need-returns-4 (known t) (at t) list-from.Post
 returns-4 t c =
     let s = c .before .before .before .before .before .before .args in
     by-none (s .c) (s .script0 .now) (s .script1 .now) (s .limit) (s .out .now, s .at) (c .before .if2 .left) (c .if4 .taken) (c .before .before .if1 .left)
-
-reach-requires-3 : (t : ℕ) → lts.Need-reach-requires-3 (known t) (at t) list-from.Post
-reach-requires-3 t c κs = search needs
-
-sub-list-from-3 : (t : ℕ) → lts.Need-sub-list-from-3 (known t) (at t) list-from.Post
-sub-list-from-3 t c = search needs
-
-part-list-from-start-3 : (t : ℕ) → lts.Need-part-list-from-start-3 (known t) (at t) list-from.Post
-part-list-from-start-3 t c = search needs
-
-part-list-from-end-3 : (t : ℕ) → lts.Need-part-list-from-end-3 (known t) (at t) list-from.Post
-part-list-from-end-3 t c = search needs
 
 list-from-requires-3 : (t : ℕ) → lts.Need-list-from-requires-3 (known t) (at t) list-from.Post
 list-from-requires-3 t c κs =
@@ -155,28 +110,28 @@ pub +list-from-spec : {M : Type 1} → statement M
     (at t)
     list-from.Post
     (returns t)
-    (reach-requires t)
-    (sub-list-from t)
-    (part-list-from-start t)
-    (part-list-from-end t)
+    (λ c κs. search needs)
+    (λ c. search needs)
+    (λ c. search needs)
+    (λ c. search needs)
     (list-from-requires t)
-    (reach-requires-2 t)
-    (sub-list-from-2 t)
-    (part-list-from-start-2 t)
-    (part-list-from-end-2 t)
+    (λ c κs. search needs)
+    (λ c. search needs)
+    (λ c. search needs)
+    (λ c. search needs)
     (list-from-requires-2 t)
     (same-length t)
     (returns-2 t)
     (same-length-2 t)
     (returns-3 t)
-    (slice-write-out t)
-    (add-result t)
-    (same-length-3 t)
+    (λ c. search needs)
+    (λ c. search needs)
+    (λ c. search needs)
     (returns-4 t)
-    (reach-requires-3 t)
-    (sub-list-from-3 t)
-    (part-list-from-start-3 t)
-    (part-list-from-end-3 t)
+    (λ c κs. search needs)
+    (λ c. search needs)
+    (λ c. search needs)
+    (λ c. search needs)
     (list-from-requires-3 t)
     (same-length-4 t)
     (returns-5 t)

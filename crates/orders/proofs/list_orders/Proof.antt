@@ -10,9 +10,6 @@ use Rattle.orders.proofs.Calls.{not-long, odd-bytes, long-script, no-ro
 use Rattle.orders.proofs.list_orders.Statement.{statement}
 use Rattle.orders.proofs.list_orders.Tie as tie
 
-refused-requires : tie.Need-refused-requires
-refused-requires c κs = search needs
-
 returns : tie.Need-returns
 returns c =
     let long = c .before in
@@ -23,12 +20,6 @@ returns c =
 
 orders-of-requires : tie.Need-orders-of-requires
 orders-of-requires c κs = let s = c .before .before .before .before .before .args in not-long (s .script0 .now) (s .script1 .now) (c .if2 .left)
-
-least-usize-requires : tie.Need-least-usize-requires
-least-usize-requires c κs = search needs
-
-refused-requires-2 : tie.Need-refused-requires-2
-refused-requires-2 c κs = search needs
 
 returns-2 : tie.Need-returns-2
 returns-2 c =
@@ -42,18 +33,6 @@ returns-2 c =
     no-room (s .script0 .now) (s .script1 .now) (s .limit) (s .out .now) (fours .if1 .taken) (short .if2 .left)
     (subst (λ (n : ℕ). length (s .out .now) < n) count (room .if3 .taken)) in
     (c .refused2 .ensures ∙ left .0, left .1)
-
-start-requires : tie.Need-start-requires
-start-requires c κs = search needs
-
-list-from-requires : tie.Need-list-from-requires
-list-from-requires c κs = search needs
-
-refused-requires-3 : tie.Need-refused-requires-3
-refused-requires-3 c κs = search needs
-
-same-length : tie.Need-same-length
-same-length c = search needs
 
 returns-3 : tie.Need-returns-3
 returns-3 c =
@@ -78,15 +57,11 @@ pub list-orders-spec : {M : Type 1} → statement M
 list-orders-spec =
     tie.close
     (tie.spec
-    refused-requires
+    (λ c κs. search needs)
     returns
     orders-of-requires
-    least-usize-requires
-    refused-requires-2
+    (λ c κs. search needs) (λ c κs. search needs)
     returns-2
-    start-requires
-    list-from-requires
-    refused-requires-3
-    same-length
+    (λ c κs. search needs) (λ c κs. search needs) (λ c κs. search needs) (λ c. search needs)
     returns-3
     returns-4)

@@ -14,12 +14,6 @@ fresh-byte : ownerByte (powerUp Pca9641) ≡ 0
 unfolding ownerByte powerUp
 fresh-byte = refl
 
-fresh-requires : tie.Need-fresh-requires
-fresh-requires c κs = search needs
-
-reached-with-requires : tie.Need-reached-with-requires
-reached-with-requires c κs = search needs
-
 returns : tie.Need-returns
 returns c =
     c .reached-with .ensures
@@ -27,4 +21,4 @@ returns c =
     ∙ ap (reachedWith (powerUp Pca9641)) (sym fresh-byte)
 
 pub start-spec : {M : Type 1} → statement M
-start-spec = tie.close (tie.spec fresh-requires reached-with-requires returns)
+start-spec = tie.close (tie.spec (λ c κs. search needs) (λ c κs. search needs) returns)

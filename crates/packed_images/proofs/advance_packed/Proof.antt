@@ -11,12 +11,6 @@ use borrow.Author.Needs.{needs}
 use Rattle.packed_images.proofs.advance_packed.Statement.{statement}
 use Rattle.packed_images.proofs.advance_packed.Tie as tie
 
-advance-image-requires : tie.Need-advance-image-requires
-advance-image-requires c κs = search needs
-
-wide-u32-requires : tie.Need-wide-u32-requires
-wide-u32-requires c κs = search needs
-
 mul-result : tie.Need-mul-result
 mul-result c =
     let few = subst (λ (t : Told). t .reported ≤ mostTicks) (sym (c .before .before .before .before .advance-image .ensures .0)) (told-few _ _) in
@@ -27,9 +21,6 @@ add-result c =
     let few = subst (λ (t : Told). t .reported ≤ mostTicks) (sym (c .before .before .before .before .advance-image .ensures .0)) (told-few _ _) in
     omega (arith, few)
 
-same-length : tie.Need-same-length
-same-length c = search needs
-
 returns : tie.Need-returns
 returns c =
     let got = c .before .before .before .before .advance-image .ensures in
@@ -37,5 +28,4 @@ returns c =
 
 pub advance-packed-spec : {M : Type 1} → statement M
 advance-packed-spec =
-    tie.close
-    (tie.spec advance-image-requires wide-u32-requires mul-result add-result same-length returns)
+    tie.close (tie.spec (λ c κs. search needs) (λ c κs. search needs) mul-result add-result (λ c. search needs) returns)

@@ -10,18 +10,6 @@ use Rattle.share.specs.Share.{together, addedWith, added}
 use Rattle.share.proofs.add_trace.Statement.{statement}
 use Rattle.share.proofs.add_trace.Tie as tie
 
-totals-of-requires : tie.Need-totals-of-requires
-totals-of-requires c κs = search needs
-
-put-together-requires : tie.Need-put-together-requires
-put-together-requires c κs = search needs
-
-added-with-requires : tie.Need-added-with-requires
-added-with-requires c κs = search needs
-
-added-with-requires-2 : tie.Need-added-with-requires-2
-added-with-requires-2 c κs = search needs
-
 returns : tie.Need-returns
 unfolding added
 returns c =
@@ -40,9 +28,6 @@ pub add-trace-spec : {M : Type 1} → statement M
 add-trace-spec =
     tie.close
     (tie.spec
-    totals-of-requires
-    put-together-requires
-    added-with-requires
-    added-with-requires-2
+    (λ c κs. search needs) (λ c κs. search needs) (λ c κs. search needs) (λ c κs. search needs)
     returns
     returns-2)

@@ -8,18 +8,6 @@ use Rattle.share.proofs.Joined.{call-past, call-in}
 use Rattle.share.proofs.join.Statement.{statement}
 use Rattle.share.proofs.join.Tie as tie
 
-plus-of-requires : tie.Need-plus-of-requires
-plus-of-requires c κs = search needs
-
-added-with-requires : tie.Need-added-with-requires
-added-with-requires c κs = search needs
-
-put-together-requires : tie.Need-put-together-requires
-put-together-requires c κs = search needs
-
-added-with-requires-2 : tie.Need-added-with-requires-2
-added-with-requires-2 c κs = search needs
-
 returns : tie.Need-returns
 returns c = c .added-with .ensures ∙ call-past _ _ _ (c .before .before .plus-of .ensures) (c .before .if1 .taken)
 
@@ -33,9 +21,6 @@ pub join-spec : {M : Type 1} → statement M
 join-spec =
     tie.close
     (tie.spec
-    plus-of-requires
-    added-with-requires
-    put-together-requires
-    added-with-requires-2
+    (λ c κs. search needs) (λ c κs. search needs) (λ c κs. search needs) (λ c κs. search needs)
     returns
     returns-2)

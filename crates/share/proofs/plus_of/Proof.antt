@@ -6,12 +6,6 @@ use Rattle.share.proofs.Numbers.{plus-past, plus-in}
 use Rattle.share.proofs.plus_of.Statement.{statement}
 use Rattle.share.proofs.plus_of.Tie as tie
 
-sub-if1 : tie.Need-sub-if1
-sub-if1 c = search needs
-
-add-result : tie.Need-add-result
-add-result c = search needs
-
 returns : tie.Need-returns
 returns c = plus-past _ _ (omega arith)
 
@@ -19,4 +13,4 @@ returns-2 : tie.Need-returns-2
 returns-2 c = plus-in _ _ (omega arith)
 
 pub plus-of-spec : {M : Type 1} → statement M
-plus-of-spec = tie.close (tie.spec sub-if1 add-result returns returns-2)
+plus-of-spec = tie.close (tie.spec (λ c. search needs) (λ c. search needs) returns returns-2)

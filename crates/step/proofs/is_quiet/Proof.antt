@@ -5,36 +5,6 @@ use borrow.Author.Needs.{needs}
 use Rattle.step.proofs.is_quiet.Statement.{statement}
 use Rattle.step.proofs.is_quiet.Tie as tie
 
-turn-of-requires : tie.Need-turn-of-requires
-turn-of-requires c κs = search needs
-
-switch-stays-requires : tie.Need-switch-stays-requires
-switch-stays-requires c κs = search needs
-
-turn-of-requires-2 : tie.Need-turn-of-requires-2
-turn-of-requires-2 c κs = search needs
-
-no-grant-requires : tie.Need-no-grant-requires
-no-grant-requires c κs = search needs
-
-turn-of-requires-3 : tie.Need-turn-of-requires-3
-turn-of-requires-3 c κs = search needs
-
-no-claim-requires : tie.Need-no-claim-requires
-no-claim-requires c κs = search needs
-
-turn-of-requires-4 : tie.Need-turn-of-requires-4
-turn-of-requires-4 c κs = search needs
-
-no-cut-requires : tie.Need-no-cut-requires
-no-cut-requires c κs = search needs
-
-turn-of-requires-5 : tie.Need-turn-of-requires-5
-turn-of-requires-5 c κs = search needs
-
-no-loss-requires : tie.Need-no-loss-requires
-no-loss-requires c κs = search needs
-
 returns : tie.Need-returns
 unfolding isQuiet
 returns c =
@@ -55,14 +25,6 @@ pub is-quiet-spec : {M : Type 1} → statement M
 is-quiet-spec =
     tie.close
     (tie.spec
-    turn-of-requires
-    switch-stays-requires
-    turn-of-requires-2
-    no-grant-requires
-    turn-of-requires-3
-    no-claim-requires
-    turn-of-requires-4
-    no-cut-requires
-    turn-of-requires-5
-    no-loss-requires
+    (λ c κs. search needs) (λ c κs. search needs) (λ c κs. search needs) (λ c κs. search needs) (λ c κs. search needs)
+    (λ c κs. search needs) (λ c κs. search needs) (λ c κs. search needs) (λ c κs. search needs) (λ c κs. search needs)
     returns)

@@ -6,18 +6,6 @@ use native.Mathlib.Nat.{add-zero}
 use Rattle.step.proofs.switch_bits.Statement.{statement}
 use Rattle.step.proofs.switch_bits.Tie as tie
 
-enum-told : tie.Need-enum-told
-enum-told c = search needs
-
-enum-told-2 : tie.Need-enum-told-2
-enum-told-2 c = search needs
-
-enum-known-w : tie.Need-enum-known-w
-enum-known-w c = search needs
-
-bits-2-and-3-requires : tie.Need-bits-2-and-3-requires
-bits-2-and-3-requires c κs = search needs
-
 returns : tie.Need-returns
 returns c = (simp (c .enum-told .given .1), search needs)
 
@@ -30,4 +18,8 @@ returns-3 c = (simp (c .bits-2-and-3 .ensures .0, c .before .before .w .given .1
 pub switch-bits-spec : {M : Type 1} → statement M
 switch-bits-spec =
     tie.close
-    (tie.spec enum-told enum-told-2 enum-known-w bits-2-and-3-requires returns returns-2 returns-3)
+    (tie.spec
+    (λ c. search needs) (λ c. search needs) (λ c. search needs) (λ c κs. search needs)
+    returns
+    returns-2
+    returns-3)

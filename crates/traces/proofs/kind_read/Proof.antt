@@ -7,18 +7,9 @@ use Rattle.traces.specs.Bodies.{kindRead}
 use Rattle.traces.proofs.kind_read.Statement.{statement}
 use Rattle.traces.proofs.kind_read.Tie as tie
 
-whole-bytes-requires : tie.Need-whole-bytes-requires
-whole-bytes-requires c κs = search needs
-
 returns : tie.Need-returns
 unfolding kindRead
 returns c = simp (lt-ltb _ _ (c .if1 .taken), ← c .before .whole-bytes .ensures)
-
-is-kind-requires : tie.Need-is-kind-requires
-is-kind-requires c κs = search needs
-
-whole-bytes-requires-2 : tie.Need-whole-bytes-requires-2
-whole-bytes-requires-2 c κs = search needs
 
 returns-2 : tie.Need-returns-2
 unfolding kindRead
@@ -30,9 +21,6 @@ returns-2 c =
       sym (known .before .is-kind .ensures) ∙ known .if2 .taken,
       le-ltb _ _ (rw (cut .before .whole-bytes .ensures) at (cut .if1 .left)),
     )
-
-mul-if4 : tie.Need-mul-if4
-mul-if4 c = search needs
 
 returns-3 : tie.Need-returns-3
 unfolding kindRead
@@ -46,9 +34,6 @@ returns-3 c =
       sym (known .before .is-kind .ensures) ∙ known .if2 .taken,
       le-ltb _ _ (rw (cut .before .whole-bytes .ensures) at (cut .if1 .left)),
     )
-
-kind-of-requires : tie.Need-kind-of-requires
-kind-of-requires c κs = search needs
 
 returns-4 : tie.Need-returns-4
 unfolding kindRead
@@ -73,13 +58,12 @@ pub kind-read-spec : {M : Type 1} → statement M
 kind-read-spec =
     tie.close
     (tie.spec
-    whole-bytes-requires
+    (λ c κs. search needs)
     returns
-    is-kind-requires
-    whole-bytes-requires-2
+    (λ c κs. search needs) (λ c κs. search needs)
     returns-2
-    mul-if4
+    (λ c. search needs)
     returns-3
-    kind-of-requires
+    (λ c κs. search needs)
     returns-4
     returns-5)

@@ -20,23 +20,11 @@ Inv-loop events answers₀ i last a at₀ answers at =
 abbrev μ-loop : tie.MeasureT-loop
 μ-loop events answers₀ i last a at₀ answers at = last - at
 
-put-answer-requires : tie.Need-put-answer-requires Inv-loop μ-loop
-put-answer-requires c κs = search needs
-
 add-at : tie.Need-add-at Inv-loop μ-loop
 add-at c = omega arith
 
 loop-holds : tie.Need-loop-holds Inv-loop μ-loop
 loop-holds c = (omega arith, omega arith, refl, λ k f t. absurd (omega arith), same-none _ _ _)
-
-event-at-requires : tie.Need-event-at-requires Inv-loop μ-loop
-event-at-requires c κs = search needs
-
-is-tick-requires : tie.Need-is-tick-requires Inv-loop μ-loop
-is-tick-requires c κs = search needs
-
-put-answer-requires-2 : tie.Need-put-answer-requires-2 Inv-loop μ-loop
-put-answer-requires-2 c κs = search needs
 
 add-at-2 : tie.Need-add-at-2 Inv-loop μ-loop
 add-at-2 c = omega arith
@@ -70,8 +58,13 @@ returns c =
     let at = c .before .before .before .before in
     let inv = at .loop .inv in
     let start = at .before .before .before .before .before .before .before .args in
-    let first = at .before .before .before .put-answer .ensures in
-    (inv .0, inv .1, inv .3, inv .4 ∙ ap (λ (l : List ℕ). withSame l (start .i + 1) (at .loop .at - (start .i + 1)) (start .a)) first ∙ same-from _ _ _ _ (inv .0))
+    let first = at .before .before .before .put-answer .ensures in (
+      inv .0,
+      inv .1,
+      inv .3,
+      inv .4 ∙ ap (λ (l : List ℕ). withSame l (start .i + 1) (at .loop .at - (start .i + 1)) (start .a)) first
+          ∙ same-from _ _ _ _ (inv .0),
+    )
 
 same-length-2 : tie.Need-same-length-2 Inv-loop μ-loop
 same-length-2 c =
@@ -83,8 +76,13 @@ returns-2 c =
     let at = c .before in
     let inv = at .loop .inv in
     let start = at .before .before .before .before .before .before .before .args in
-    let first = at .before .before .before .put-answer .ensures in
-    (inv .0, inv .1, inv .3, inv .4 ∙ ap (λ (l : List ℕ). withSame l (start .i + 1) (at .loop .at - (start .i + 1)) (start .a)) first ∙ same-from _ _ _ _ (inv .0))
+    let first = at .before .before .before .put-answer .ensures in (
+      inv .0,
+      inv .1,
+      inv .3,
+      inv .4 ∙ ap (λ (l : List ℕ). withSame l (start .i + 1) (at .loop .at - (start .i + 1)) (start .a)) first
+          ∙ same-from _ _ _ _ (inv .0),
+    )
 
 pub play-ticks-spec : {M : Type 1} → statement M
 play-ticks-spec =
@@ -92,12 +90,10 @@ play-ticks-spec =
     (tie.spec
     Inv-loop
     μ-loop
-    put-answer-requires
+    (λ c κs. search needs)
     add-at
     loop-holds
-    event-at-requires
-    is-tick-requires
-    put-answer-requires-2
+    (λ c κs. search needs) (λ c κs. search needs) (λ c κs. search needs)
     add-at-2
     loop-less
     loop-again

@@ -10,18 +10,9 @@ returns : tie.Need-returns
 unfolding readCounted
 returns c = simp (lt-ltb _ _ (c .if1 .taken))
 
-count-in-requires : tie.Need-count-in-requires
-count-in-requires c κs = search needs
-
-cast-if2 : tie.Need-cast-if2
-cast-if2 c = search needs
-
 returns-2 : tie.Need-returns-2
 unfolding readCounted
 returns-2 c = simp (lt-ltb _ _ (c .if2 .taken), ← c .before .count-in .ensures, le-ltb _ _ (c .before .before .if1 .left))
-
-events-end-requires : tie.Need-events-end-requires
-events-end-requires c κs = search needs
 
 returns-3 : tie.Need-returns-3
 unfolding readCounted
@@ -33,9 +24,6 @@ returns-3 c =
       ← c .before .before .before .count-in .ensures,
       le-ltb _ _ (c .before .before .before .before .if1 .left),
     )
-
-read-kind-requires : tie.Need-read-kind-requires
-read-kind-requires c κs = search needs
 
 returns-4 : tie.Need-returns-4
 unfolding readCounted
@@ -54,10 +42,9 @@ read-counted-spec =
     tie.close
     (tie.spec
     returns
-    count-in-requires
-    cast-if2
+    (λ c κs. search needs) (λ c. search needs)
     returns-2
-    events-end-requires
+    (λ c κs. search needs)
     returns-3
-    read-kind-requires
+    (λ c κs. search needs)
     returns-4)

@@ -8,24 +8,9 @@ use Rattle.traces.specs.Bodies.{kindRead}
 use Rattle.traces.proofs.read_kind.Statement.{statement}
 use Rattle.traces.proofs.read_kind.Tie as tie
 
-events-end-requires : tie.Need-events-end-requires
-events-end-requires c κs = search needs
-
-add-if1 : tie.Need-add-if1
-add-if1 c = search needs
-
 returns : tie.Need-returns
 unfolding readKind
 returns c = simp (lt-ltb _ _ (c .if1 .taken), ← c .before .events-end .ensures)
-
-kind-count-at-requires : tie.Need-kind-count-at-requires
-kind-count-at-requires c κs = search needs
-
-kind-at-requires : tie.Need-kind-at-requires
-kind-at-requires c κs = search needs
-
-kind-read-requires : tie.Need-kind-read-requires
-kind-read-requires c κs = search needs
 
 returns-2 : tie.Need-returns-2
 unfolding readKind kindRead
@@ -52,11 +37,8 @@ pub read-kind-spec : {M : Type 1} → statement M
 read-kind-spec =
     tie.close
     (tie.spec
-    events-end-requires
-    add-if1
+    (λ c κs. search needs) (λ c. search needs)
     returns
-    kind-count-at-requires
-    kind-at-requires
-    kind-read-requires
+    (λ c κs. search needs) (λ c κs. search needs) (λ c κs. search needs)
     returns-2
     returns-3)

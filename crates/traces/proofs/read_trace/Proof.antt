@@ -11,27 +11,9 @@ returns : tie.Need-returns
 unfolding readTrace readStrapped
 returns c = numbered _ _ _ (simp (lt-ltb _ _ (c .if1 .taken)))
 
-shared-slice-read-if2 : tie.Need-shared-slice-read-if2
-shared-slice-read-if2 c = search needs
-
 returns-2 : tie.Need-returns-2
 unfolding readTrace readStrapped
 returns-2 c = numbered _ _ _ (simp (lt-ltb _ _ (c .if3 .taken), eq-eqb _ _ (c .before .if2 .taken), le-ltb _ _ (c .before .before .before .if1 .left)))
-
-pins-in-requires : tie.Need-pins-in-requires
-pins-in-requires c κs = search needs
-
-address-of-requires : tie.Need-address-of-requires
-address-of-requires c κs = search needs
-
-enum-known-strapped : tie.Need-enum-known-strapped
-enum-known-strapped c = search needs
-
-read-counted-requires : tie.Need-read-counted-requires
-read-counted-requires c κs = search needs
-
-enum-told : tie.Need-enum-told
-enum-told c = search needs
 
 returns-3 : tie.Need-returns-3
 unfolding readTrace readStrapped
@@ -73,13 +55,9 @@ read-trace-spec =
     tie.close
     (tie.spec
     returns
-    shared-slice-read-if2
+    (λ c. search needs)
     returns-2
-    pins-in-requires
-    address-of-requires
-    enum-known-strapped
-    read-counted-requires
-    enum-told
+    (λ c κs. search needs) (λ c κs. search needs) (λ c. search needs) (λ c κs. search needs) (λ c. search needs)
     returns-3
     returns-4
     returns-5)

@@ -6,17 +6,8 @@ use Rattle.light.proofs.Told.{settled-told}
 use Rattle.traces.proofs.run_events.Statement.{statement}
 use Rattle.traces.proofs.run_events.Tie as tie
 
-is-settled-requires : tie.Need-is-settled-requires
-is-settled-requires c κs = search needs
-
 run-from-requires : tie.Need-run-from-requires
 run-from-requires c κs = λ h. settled-told _ (sym (c .before .is-settled .ensures) ∙ h)
 
-same-length : tie.Need-same-length
-same-length c = search needs
-
-returns : tie.Need-returns
-returns c = search needs
-
 pub run-events-spec : {M : Type 1} → statement M
-run-events-spec = tie.close (tie.spec is-settled-requires run-from-requires same-length returns)
+run-events-spec = tie.close (tie.spec (λ c κs. search needs) run-from-requires (λ c. search needs) (λ c. search needs))

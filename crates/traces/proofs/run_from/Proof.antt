@@ -13,19 +13,10 @@ use Rattle.traces.proofs.Runs.{odd-ran, short-ran, all-ran, part-answer
 use Rattle.traces.proofs.run_from.Statement.{statement}
 use Rattle.traces.proofs.run_from.Tie as tie
 
-ran-with-requires : tie.Need-ran-with-requires
-ran-with-requires c κs = search needs
-
 returns : tie.Need-returns
 returns c =
     let left = short-ran _ _ _ (c .before .before .if1 .taken) (c .before .if2 .taken) in
     (c .ran-with .ensures ∙ left .0, left .1)
-
-mul-end : tie.Need-mul-end
-mul-end c = search needs
-
-slice-relend-prefix-play : tie.Need-slice-relend-prefix-play
-slice-relend-prefix-play c = search needs
 
 slice-aggregate-play : tie.Need-slice-aggregate-play
 slice-aggregate-play c = sym (length-take-le _ _ (omega arith))
@@ -36,15 +27,6 @@ play-requires c κs =
     let n = eventCount (start .events .now) in
     let fits : eventBytes * n ≤ length (start .answers .now) = omega arith in
     (omega arith, subst (λ (k : ℕ). eventBytes * n ≤ k) (sym (length-take-le _ _ fits)) (le-refl _), c .before .before .before .before .before .pre)
-
-ran-with-requires-2 : tie.Need-ran-with-requires-2
-ran-with-requires-2 c κs = search needs
-
-ran-with-requires-3 : tie.Need-ran-with-requires-3
-ran-with-requires-3 c κs = search needs
-
-same-length : tie.Need-same-length
-same-length c = search needs
 
 returns-2 : tie.Need-returns-2
 returns-2 c =
@@ -66,14 +48,11 @@ pub run-from-spec : {M : Type 1} → statement M
 run-from-spec =
     tie.close
     (tie.spec
-    ran-with-requires
+    (λ c κs. search needs)
     returns
-    mul-end
-    slice-relend-prefix-play
+    (λ c. search needs) (λ c. search needs)
     slice-aggregate-play
     play-requires
-    ran-with-requires-2
-    ran-with-requires-3
-    same-length
+    (λ c κs. search needs) (λ c κs. search needs) (λ c. search needs)
     returns-2
     returns-3)

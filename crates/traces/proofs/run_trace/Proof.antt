@@ -1,4 +1,5 @@
--- `traces::run_trace` meets its contract: the events of an accepted trace are run from power-up, where a device is settled; a refused one leaves everything as it was.
+-- `traces::run_trace` meets its contract: the events of an accepted trace are run from power-up, where a device is settled; a refused one leaves everything as
+-- it was.
 -- Assumes nothing.
 use borrow.Author.Needs.{needs}
 use mathlib.Core.Path.{sym, subst, _∙_}
@@ -8,35 +9,8 @@ use Rattle.traces.proofs.Reading.{played-report, played-buffer, refused
 use Rattle.traces.proofs.run_trace.Statement.{statement}
 use Rattle.traces.proofs.run_trace.Tie as tie
 
-read-trace-requires : tie.Need-read-trace-requires
-read-trace-requires c κs = search needs
-
-enum-known-read : tie.Need-enum-known-read
-enum-known-read c = search needs
-
-refusal-number-requires : tie.Need-refusal-number-requires
-refusal-number-requires c κs = search needs
-
-fresh-requires : tie.Need-fresh-requires
-fresh-requires c κs = search needs
-
-reported-requires : tie.Need-reported-requires
-reported-requires c κs = search needs
-
-enum-known-read-2 : tie.Need-enum-known-read-2
-enum-known-read-2 c = search needs
-
-fresh-requires-2 : tie.Need-fresh-requires-2
-fresh-requires-2 c κs = search needs
-
-events-in-requires : tie.Need-events-in-requires
-events-in-requires c κs = search needs
-
 run-from-requires : tie.Need-run-from-requires
 run-from-requires c κs = λ h. subst Settled (sym (c .before .before .fresh2 .ensures)) (settled-at-power-up _)
-
-reported-requires-2 : tie.Need-reported-requires-2
-reported-requires-2 c κs = search needs
 
 returns : tie.Need-returns
 returns c =
@@ -45,9 +19,6 @@ returns c =
       simp (c .reported .ensures, c .before .fresh .ensures, c .before .before .refusal-number .ensures) (refused-report _ _ _ h),
       refused-buffer _ _ _ h,
     )
-
-same-length : tie.Need-same-length
-same-length c = search needs
 
 returns-2 : tie.Need-returns-2
 returns-2 c =
@@ -64,16 +35,10 @@ pub run-trace-spec : {M : Type 1} → statement M
 run-trace-spec =
     tie.close
     (tie.spec
-    read-trace-requires
-    enum-known-read
-    refusal-number-requires
-    fresh-requires
-    reported-requires
-    enum-known-read-2
-    fresh-requires-2
-    events-in-requires
+    (λ c κs. search needs) (λ c. search needs) (λ c κs. search needs) (λ c κs. search needs) (λ c κs. search needs)
+    (λ c. search needs) (λ c κs. search needs) (λ c κs. search needs)
     run-from-requires
-    reported-requires-2
+    (λ c κs. search needs)
     returns
-    same-length
+    (λ c. search needs)
     returns-2)

@@ -6,12 +6,6 @@ use Rattle.watchlayout.specs.Calls.{freshNumber}
 use Rattle.watchimage.proofs.fresh_number.Statement.{statement}
 use Rattle.watchimage.proofs.fresh_number.Tie as tie
 
-is-kind-requires : tie.Need-is-kind-requires
-is-kind-requires c κs = search needs
-
-in-range-requires : tie.Need-in-range-requires
-in-range-requires c κs = search needs
-
 returns : tie.Need-returns
 unfolding freshNumber
 returns c =
@@ -44,4 +38,4 @@ returns-4 c = simp (ne-eqb _ _ (c .if1 .left))
 
 pub fresh-number-spec : {M : Type 1} → statement M
 fresh-number-spec =
-    tie.close (tie.spec is-kind-requires in-range-requires returns returns-2 returns-3 returns-4)
+    tie.close (tie.spec (λ c κs. search needs) (λ c κs. search needs) returns returns-2 returns-3 returns-4)

@@ -22,9 +22,6 @@ abbrev μ-loop : tie.MeasureT-loop
 sub-least-usize : tie.Need-sub-least-usize Inv-loop μ-loop
 sub-least-usize c = omega (arith, c .before .pre)
 
-least-usize-requires : tie.Need-least-usize-requires Inv-loop μ-loop
-least-usize-requires c κs = search needs
-
 loop-holds : tie.Need-loop-holds Inv-loop μ-loop
 unfolding areAll
 loop-holds c =
@@ -74,7 +71,7 @@ count-still-spec =
     Inv-loop
     μ-loop
     sub-least-usize
-    least-usize-requires
+    (λ c κs. search needs)
     loop-holds
     add-if1
     shared-slice-read-if1

@@ -5,12 +5,9 @@ use Rattle.watching.specs.Resting.{earRested}
 use Rattle.watching.proofs.ear_rested.Statement.{statement}
 use Rattle.watching.proofs.ear_rested.Tie as tie
 
-since-more-requires : tie.Need-since-more-requires
-since-more-requires c κs = search needs
-
 returns : tie.Need-returns
 unfolding earRested
 returns c = simp (c .since-more .ensures)
 
 pub ear-rested-spec : {M : Type 1} → statement M
-ear-rested-spec = tie.close (tie.spec since-more-requires returns)
+ear-rested-spec = tie.close (tie.spec (λ c κs. search needs) returns)

@@ -5,15 +5,9 @@ use Rattle.watching.specs.Resting.{rested}
 use Rattle.watching.proofs.rest.Statement.{statement}
 use Rattle.watching.proofs.rest.Tie as tie
 
-ear-rested-requires : tie.Need-ear-rested-requires
-ear-rested-requires c κs = search needs
-
-with-samples-requires : tie.Need-with-samples-requires
-with-samples-requires c κs = search needs
-
 returns : tie.Need-returns
 unfolding rested
 returns c = simp (c .with-samples .ensures, c .before .before .ear-rested .ensures)
 
 pub rest-spec : {M : Type 1} → statement M
-rest-spec = tie.close (tie.spec ear-rested-requires with-samples-requires returns)
+rest-spec = tie.close (tie.spec (λ c κs. search needs) (λ c κs. search needs) returns)

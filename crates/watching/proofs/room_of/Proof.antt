@@ -13,15 +13,6 @@ returns : tie.Need-returns
 unfolding isReady
 returns c = simp (eq-eqb _ _ (c .if2 .taken), c .before .before .if1 .taken)
 
-sub-result : tie.Need-sub-result
-sub-result c = search needs
-
-sub-result-2 : tie.Need-sub-result-2
-sub-result-2 c = search needs
-
-cast-result : tie.Need-cast-result
-cast-result c = search needs
-
 returns-2 : tie.Need-returns-2
 unfolding isReady
 returns-2 c =
@@ -29,12 +20,11 @@ returns-2 c =
     let left = s .args .c .every - s .args .e .since - 1 in
     simp (c .before .before .before .before .before .before .before .if1 .taken, soon-room _ _ (c .before .before .if3 .taken), or-true (eqb left 0))
 
-returns-3 : tie.Need-returns-3
-returns-3 c = search needs
-
-returns-4 : tie.Need-returns-4
-returns-4 c = search needs
-
 pub room-of-spec : {M : Type 1} → statement M
 room-of-spec =
-    tie.close (tie.spec returns sub-result sub-result-2 cast-result returns-2 returns-3 returns-4)
+    tie.close
+    (tie.spec
+    returns
+    (λ c. search needs) (λ c. search needs) (λ c. search needs)
+    returns-2
+    (λ c. search needs) (λ c. search needs))

@@ -12,30 +12,9 @@ use Rattle.watching.proofs.Turns.{turn-one, one-goes, turn-still, still
 use Rattle.watching.proofs.turn.Statement.{statement}
 use Rattle.watching.proofs.turn.Tie as tie
 
-room-of-requires : tie.Need-room-of-requires
-room-of-requires c κs = search needs
-
-count-still-requires : tie.Need-count-still-requires
-count-still-requires c κs = search needs
-
-shared-slice-read-watch-sample : tie.Need-shared-slice-read-watch-sample
-shared-slice-read-watch-sample c = search needs
-
-watch-sample-requires : tie.Need-watch-sample-requires
-watch-sample-requires c κs = search needs
-
-is-told-requires : tie.Need-is-told-requires
-is-told-requires c κs = search needs
-
-add-t13 : tie.Need-add-t13
-add-t13 c = search needs
-
 rest-requires : tie.Need-rest-requires
 rest-requires c κs =
     ready-still _ _ _ _ (c .before .before .room-of .ensures) (c .before .count-still .ensures .0) (c .if1 .left)
-
-add-t14 : tie.Need-add-t14
-add-t14 c = search needs
 
 returns : tie.Need-returns
 returns c =
@@ -71,13 +50,9 @@ pub turn-spec : {M : Type 1} → statement M
 turn-spec =
     tie.close
     (tie.spec
-    room-of-requires
-    count-still-requires
-    shared-slice-read-watch-sample
-    watch-sample-requires
-    is-told-requires
-    add-t13
+    (λ c κs. search needs) (λ c κs. search needs) (λ c. search needs) (λ c κs. search needs) (λ c κs. search needs)
+    (λ c. search needs)
     rest-requires
-    add-t14
+    (λ c. search needs)
     returns
     returns-2)

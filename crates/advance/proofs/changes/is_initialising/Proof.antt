@@ -4,28 +4,13 @@ use borrow.Author.Needs.{needs}
 use Rattle.advance.proofs.changes.is_initialising.Statement.{statement}
 use Rattle.advance.proofs.changes.is_initialising.Tie as tie
 
-enum-told : tie.Need-enum-told
-enum-told c = search needs
-
-enum-known-w : tie.Need-enum-known-w
-enum-known-w c = search needs
-
-same-master-requires : tie.Need-same-master-requires
-same-master-requires c κs = search needs
-
-enum-told-2 : tie.Need-enum-told-2
-enum-told-2 c = search needs
-
-returns : tie.Need-returns
-returns c = search needs
-
 returns-2 : tie.Need-returns-2
 returns-2 c = simp (← c .same-master .ensures, c .before .before .w .given .1)
-
-returns-3 : tie.Need-returns-3
-returns-3 c = search needs
 
 pub is-initialising-spec : {M : Type 1} → statement M
 is-initialising-spec =
     tie.close
-    (tie.spec enum-told enum-known-w same-master-requires enum-told-2 returns returns-2 returns-3)
+    (tie.spec
+    (λ c. search needs) (λ c. search needs) (λ c κs. search needs) (λ c. search needs) (λ c. search needs)
+    returns-2
+    (λ c. search needs))

@@ -5,21 +5,6 @@ use Rattle.advance.specs.Changes.{sameButCounts}
 use Rattle.advance.proofs.changes.same_but_counts.Statement.{statement}
 use Rattle.advance.proofs.changes.same_but_counts.Tie as tie
 
-same-kind-requires : tie.Need-same-kind-requires
-same-kind-requires c κs = search needs
-
-same-side-requires : tie.Need-same-side-requires
-same-side-requires c κs = search needs
-
-same-side-requires-2 : tie.Need-same-side-requires-2
-same-side-requires-2 c κs = search needs
-
-same-lines-requires : tie.Need-same-lines-requires
-same-lines-requires c κs = search needs
-
-same-arb-requires : tie.Need-same-arb-requires
-same-arb-requires c κs = search needs
-
 returns : tie.Need-returns
 unfolding sameButCounts
 returns c =
@@ -35,9 +20,5 @@ pub same-but-counts-spec : {M : Type 1} → statement M
 same-but-counts-spec =
     tie.close
     (tie.spec
-    same-kind-requires
-    same-side-requires
-    same-side-requires-2
-    same-lines-requires
-    same-arb-requires
+    (λ c κs. search needs) (λ c κs. search needs) (λ c κs. search needs) (λ c κs. search needs) (λ c κs. search needs)
     returns)

@@ -4,14 +4,8 @@ use borrow.Author.Needs.{needs}
 use Rattle.advance.proofs.changes.same_kind.Statement.{statement}
 use Rattle.advance.proofs.changes.same_kind.Tie as tie
 
-kind-number-requires : tie.Need-kind-number-requires
-kind-number-requires c κs = search needs
-
-kind-number-requires-2 : tie.Need-kind-number-requires-2
-kind-number-requires-2 c κs = search needs
-
 returns : tie.Need-returns
 returns c = simp (c .kind-number2 .ensures, c .before .kind-number .ensures)
 
 pub same-kind-spec : {M : Type 1} → statement M
-same-kind-spec = tie.close (tie.spec kind-number-requires kind-number-requires-2 returns)
+same-kind-spec = tie.close (tie.spec (λ c κs. search needs) (λ c κs. search needs) returns)

@@ -4,24 +4,6 @@ use borrow.Author.Needs.{needs}
 use Rattle.advance.proofs.changes.same_lines.Statement.{statement}
 use Rattle.advance.proofs.changes.same_lines.Tie as tie
 
-agrees-requires : tie.Need-agrees-requires
-agrees-requires c κs = search needs
-
-agrees-requires-2 : tie.Need-agrees-requires-2
-agrees-requires-2 c κs = search needs
-
-agrees-requires-3 : tie.Need-agrees-requires-3
-agrees-requires-3 c κs = search needs
-
-agrees-requires-4 : tie.Need-agrees-requires-4
-agrees-requires-4 c κs = search needs
-
-agrees-requires-5 : tie.Need-agrees-requires-5
-agrees-requires-5 c κs = search needs
-
-agrees-requires-6 : tie.Need-agrees-requires-6
-agrees-requires-6 c κs = search needs
-
 returns : tie.Need-returns
 returns c =
     simp (
@@ -37,10 +19,6 @@ pub same-lines-spec : {M : Type 1} → statement M
 same-lines-spec =
     tie.close
     (tie.spec
-    agrees-requires
-    agrees-requires-2
-    agrees-requires-3
-    agrees-requires-4
-    agrees-requires-5
-    agrees-requires-6
+    (λ c κs. search needs) (λ c κs. search needs) (λ c κs. search needs) (λ c κs. search needs) (λ c κs. search needs)
+    (λ c κs. search needs)
     returns)

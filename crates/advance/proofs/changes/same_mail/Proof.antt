@@ -4,11 +4,8 @@ use borrow.Author.Needs.{needs}
 use Rattle.advance.proofs.changes.same_mail.Statement.{statement}
 use Rattle.advance.proofs.changes.same_mail.Tie as tie
 
-agrees-requires : tie.Need-agrees-requires
-agrees-requires c κs = search needs
-
 returns : tie.Need-returns
 returns c = simp (c .agrees .ensures)
 
 pub same-mail-spec : {M : Type 1} → statement M
-same-mail-spec = tie.close (tie.spec agrees-requires returns)
+same-mail-spec = tie.close (tie.spec (λ c κs. search needs) returns)

@@ -21,24 +21,6 @@ closed-same m Apart = refl
 closed-same m (Initialising k n) = refl
 closed-same m (Closed k) = refl
 
-enum-told : tie.Need-enum-told
-enum-told c = search needs
-
-is-apart-requires : tie.Need-is-apart-requires
-is-apart-requires c κs = search needs
-
-enum-known-v : tie.Need-enum-known-v
-enum-known-v c = search needs
-
-is-initialising-requires : tie.Need-is-initialising-requires
-is-initialising-requires c κs = search needs
-
-enum-known-v-2 : tie.Need-enum-known-v-2
-enum-known-v-2 c = search needs
-
-closed-for-requires : tie.Need-closed-for-requires
-closed-for-requires c κs = search needs
-
 returns : tie.Need-returns
 returns c = simp (← (c .is-apart .ensures ∙ apart-same (c .before .before .before .args .w)), c .before .enum-told .given .1)
 
@@ -52,12 +34,8 @@ pub same-switch-spec : {M : Type 1} → statement M
 same-switch-spec =
     tie.close
     (tie.spec
-    enum-told
-    is-apart-requires
-    enum-known-v
-    is-initialising-requires
-    enum-known-v-2
-    closed-for-requires
+    (λ c. search needs) (λ c κs. search needs) (λ c. search needs) (λ c κs. search needs) (λ c. search needs)
+    (λ c κs. search needs)
     returns
     returns-2
     returns-3)

@@ -4,11 +4,8 @@ use borrow.Author.Needs.{needs}
 use Rattle.image.proofs.fitting.fits.Statement.{statement}
 use Rattle.image.proofs.fitting.fits.Tie as tie
 
-byte-at-requires : tie.Need-byte-at-requires
-byte-at-requires c κs = search needs
-
 returns : tie.Need-returns
 returns c = simp (c .byte-at .ensures)
 
 pub fits-spec : {M : Type 1} → statement M
-fits-spec = tie.close (tie.spec byte-at-requires returns)
+fits-spec = tie.close (tie.spec (λ c κs. search needs) returns)

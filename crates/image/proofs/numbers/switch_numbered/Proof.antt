@@ -14,9 +14,6 @@ returns-2 c = simp (eq-eqb _ _ (c .if2 .taken), ne-eqb _ _ (c .before .if1 .left
 returns-3 : tie.Need-returns-3
 returns-3 c = simp (eq-eqb _ _ (c .if3 .taken), ne-eqb _ _ (c .before .if2 .left), ne-eqb _ _ (c .before .before .if1 .left))
 
-sub-t7 : tie.Need-sub-t7
-sub-t7 c = search needs
-
 returns-4 : tie.Need-returns-4
 returns-4 c =
     simp (
@@ -36,4 +33,4 @@ returns-5 c =
     )
 
 pub switch-numbered-spec : {M : Type 1} → statement M
-switch-numbered-spec = tie.close (tie.spec returns returns-2 returns-3 sub-t7 returns-4 returns-5)
+switch-numbered-spec = tie.close (tie.spec returns returns-2 returns-3 (λ c. search needs) returns-4 returns-5)

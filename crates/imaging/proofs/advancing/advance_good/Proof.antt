@@ -13,18 +13,6 @@ use Rattle.imaging.proofs.OnImages.{in-few, past-few}
 use Rattle.imaging.proofs.advancing.advance_good.Statement.{statement}
 use Rattle.imaging.proofs.advancing.advance_good.Tie as tie
 
-told-with-requires : tie.Need-told-with-requires
-told-with-requires c κs = search needs
-
-cast-leap : tie.Need-cast-leap
-cast-leap c = search needs
-
-leap-requires : tie.Need-leap-requires
-leap-requires c κs = search needs
-
-told-with-requires-2 : tie.Need-told-with-requires-2
-told-with-requires-2 c κs = search needs
-
 returns : tie.Need-returns
 returns c =
     let start = c .before .before .before in
@@ -32,9 +20,6 @@ returns c =
       c .told-with .ensures ∙ ap toldOf (sym past),
       sym (laid-out-back _ (start .pre)) ∙ ap (λ (a : Advanced). imageOf (a .device)) (sym past),
     )
-
-same-length : tie.Need-same-length
-same-length c = search needs
 
 returns-2 : tie.Need-returns-2
 returns-2 c =
@@ -50,10 +35,7 @@ pub advance-good-spec : {M : Type 1} → statement M
 advance-good-spec =
     tie.close
     (tie.spec
-    told-with-requires
-    cast-leap
-    leap-requires
-    told-with-requires-2
+    (λ c κs. search needs) (λ c. search needs) (λ c κs. search needs) (λ c κs. search needs)
     returns
-    same-length
+    (λ c. search needs)
     returns-2)

@@ -7,18 +7,9 @@ use Rattle.imaging.specs.Advancing.{toldWith, imageTold, imageAdvanced}
 use Rattle.imaging.proofs.advancing.advance_image.Statement.{statement}
 use Rattle.imaging.proofs.advancing.advance_image.Tie as tie
 
-image-number-requires : tie.Need-image-number-requires
-image-number-requires c κs = search needs
-
 advance-good-requires : tie.Need-advance-good-requires
 unfolding imageTold imageAdvanced
 advance-good-requires c κs = simp (eq-eqb _ _ (c .before .if1 .taken), ← c .before .before .image-number .ensures)
-
-told-with-requires : tie.Need-told-with-requires
-told-with-requires c κs = search needs
-
-same-length : tie.Need-same-length
-same-length c = search needs
 
 returns : tie.Need-returns
 unfolding imageTold imageAdvanced
@@ -26,9 +17,6 @@ returns c =
     let good = eq-eqb _ _ (sym (c .before .before .before .before .before .image-number .ensures) ∙ c .before .before .before .before .if1 .taken) in
     let done = c .before .before .advance-good .ensures in
     (simp good (done .0), simp good (done .1))
-
-same-length-2 : tie.Need-same-length-2
-same-length-2 c = search needs
 
 returns-2 : tie.Need-returns-2
 unfolding imageTold imageAdvanced
@@ -41,10 +29,9 @@ pub advance-image-spec : {M : Type 1} → statement M
 advance-image-spec =
     tie.close
     (tie.spec
-    image-number-requires
+    (λ c κs. search needs)
     advance-good-requires
-    told-with-requires
-    same-length
+    (λ c κs. search needs) (λ c. search needs)
     returns
-    same-length-2
+    (λ c. search needs)
     returns-2)

@@ -17,17 +17,11 @@ slice-aggregate-same c = let start = c .before .before .before in sym (length-ta
 slice-aggregate-same-2 : tie.Need-slice-aggregate-same-2
 slice-aggregate-same-2 c = let start = c .before .before .before .before in sym (length-take-le 14 (start .args .after .now) (omega arith))
 
-same-requires : tie.Need-same-requires
-same-requires c κs = search needs
-
 sub-same : tie.Need-sub-same
 sub-same c = omega arith
 
 part-same-start : tie.Need-part-same-start
 part-same-start c = omega arith
-
-part-same-end : tie.Need-part-same-end
-part-same-end c = search needs
 
 sub-same-2 : tie.Need-sub-same-2
 sub-same-2 c = omega arith
@@ -35,28 +29,14 @@ sub-same-2 c = omega arith
 part-same-start-2 : tie.Need-part-same-start-2
 part-same-start-2 c = omega arith
 
-part-same-end-2 : tie.Need-part-same-end-2
-part-same-end-2 c = search needs
-
-same-requires-2 : tie.Need-same-requires-2
-same-requires-2 c κs = search needs
-
-read-image-requires : tie.Need-read-image-requires
-read-image-requires c κs = search needs
-
-read-image-requires-2 : tie.Need-read-image-requires-2
-read-image-requires-2 c κs = search needs
-
-shows-alike-requires : tie.Need-shows-alike-requires
-shows-alike-requires c κs = search needs
-
 returns : tie.Need-returns
 unfolding changes
 returns c =
     let start = c .before .before .before .before .before .before .before .before .before .before .before in
     let first = c .before .before .before .before .before .before .same .ensures in
     let rest = c .before .before .before .same2 .ensures in
-    let shown = c .shows-alike .ensures ∙ ap₂ (λ (d e : Device). sameShown (d .bus) (e .bus)) (c .before .before .read-image .ensures) (c .before .read-image2 .ensures) in
+    let shown = c .shows-alike .ensures ∙ ap₂ (λ (d e : Device). sameShown (d .bus) (e .bus)) (c .before .before .read-image .ensures)
+    (c .before .read-image2 .ensures) in
     ap₂ (λ (x y : Bool). not (x && y)) (alike _ _ _ _ (start .pre .0) (start .pre .1) first rest) shown
 
 pub is-changed-in-spec : {M : Type 1} → statement M
@@ -65,15 +45,11 @@ is-changed-in-spec =
     (tie.spec
     slice-aggregate-same
     slice-aggregate-same-2
-    same-requires
+    (λ c κs. search needs)
     sub-same
     part-same-start
-    part-same-end
+    (λ c. search needs)
     sub-same-2
     part-same-start-2
-    part-same-end-2
-    same-requires-2
-    read-image-requires
-    read-image-requires-2
-    shows-alike-requires
+    (λ c. search needs) (λ c κs. search needs) (λ c κs. search needs) (λ c κs. search needs) (λ c κs. search needs)
     returns)

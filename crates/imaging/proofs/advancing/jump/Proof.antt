@@ -11,39 +11,16 @@ use Rattle.imaging.proofs.Leaps.{jumped, counts-fill}
 use Rattle.imaging.proofs.advancing.jump.Statement.{statement}
 use Rattle.imaging.proofs.advancing.jump.Tie as tie
 
-read-image-requires : tie.Need-read-image-requires
-read-image-requires c κs = search needs
-
-after-ticks-requires : tie.Need-after-ticks-requires
-after-ticks-requires c κs = search needs
-
-counts-of-requires : tie.Need-counts-of-requires
-counts-of-requires c κs = search needs
-
-slice-aggregate-copy : tie.Need-slice-aggregate-copy
-slice-aggregate-copy c = search needs
-
-sub-copy : tie.Need-sub-copy
-sub-copy c = search needs
-
-part-copy-start : tie.Need-part-copy-start
-part-copy-start c = search needs
-
 part-copy-end : tie.Need-part-copy-end
 part-copy-end c = omega arith
-
-copy-requires : tie.Need-copy-requires
-copy-requires c κs = search needs
-
-same-length : tie.Need-same-length
-same-length c = search needs
 
 returns : tie.Need-returns
 returns c =
     let start = c .before .before .before .before .before .before .before .before .before .before in
     let image = start .args .image .now in
     let j = start .args .j in
-    let after = c .before .before .before .before .before .before .after-ticks .ensures ∙ ap (afterTicks j) (c .before .before .before .before .before .before .before .read-image .ensures) in
+    let after = c .before .before .before .before .before .before .after-ticks .ensures
+    ∙ ap (afterTicks j) (c .before .before .before .before .before .before .before .read-image .ensures) in
     let made = c .before .before .before .before .before .counts-of .ensures ∙ ap (laidOut counts) after in
     let put = c .before .before .copy .ensures .1 ∙ copied _ _ (counts-fill image _ _ (start .pre .1) made) ∙ made in
     ap (putMid 14 7 image) put ∙ jumped image j (start .pre .0)
@@ -52,13 +29,8 @@ pub jump-spec : {M : Type 1} → statement M
 jump-spec =
     tie.close
     (tie.spec
-    read-image-requires
-    after-ticks-requires
-    counts-of-requires
-    slice-aggregate-copy
-    sub-copy
-    part-copy-start
+    (λ c κs. search needs) (λ c κs. search needs) (λ c κs. search needs) (λ c. search needs) (λ c. search needs)
+    (λ c. search needs)
     part-copy-end
-    copy-requires
-    same-length
+    (λ c κs. search needs) (λ c. search needs)
     returns)

@@ -30,9 +30,6 @@ loop-holds c =
     let none = at-start (start .args .image .now) (start .args .n) (start .pre) in
     (omega arith, none .0, none .1)
 
-quiet-in-requires : tie.Need-quiet-in-requires Inv-loop μ-loop
-quiet-in-requires c κs = search needs
-
 tick-on-requires : tie.Need-tick-on-requires Inv-loop μ-loop
 tick-on-requires c κs =
     let start = c .before .before .before .before .before .before .before in
@@ -109,7 +106,7 @@ leap-spec =
     Inv-loop
     μ-loop
     loop-holds
-    quiet-in-requires
+    (λ c κs. search needs)
     tick-on-requires
     add-reported
     sub-left

@@ -16,17 +16,8 @@ use Rattle.imaging.proofs.Leaps.{tick-leaves, tick-stays, tick-back}
 use Rattle.imaging.proofs.advancing.tick_on.Statement.{statement}
 use Rattle.imaging.proofs.advancing.tick_on.Tie as tie
 
-slice-aggregate-copy : tie.Need-slice-aggregate-copy
-slice-aggregate-copy c = search needs
-
 copy-requires : tie.Need-copy-requires
 copy-requires c κs = omega arith
-
-step-image-requires : tie.Need-step-image-requires
-step-image-requires c κs = search needs
-
-slice-aggregate-is-changed-in : tie.Need-slice-aggregate-is-changed-in
-slice-aggregate-is-changed-in c = search needs
 
 is-changed-in-requires : tie.Need-is-changed-in-requires
 is-changed-in-requires c κs =
@@ -37,12 +28,6 @@ is-changed-in-requires c κs =
     let still = subst (λ (l : List ℕ). isImage l ≡ true) (sym was) good in
     let stays = subst (λ (l : List ℕ). isImage l ≡ true) (sym left) (tick-stays _ good) in
     (still, stays, image-good _ still .0, image-good _ stays .0)
-
-one-if-u32-requires : tie.Need-one-if-u32-requires
-one-if-u32-requires c κs = search needs
-
-same-length : tie.Need-same-length
-same-length c = search needs
 
 returns : tie.Need-returns
 returns c =
@@ -57,11 +42,9 @@ pub tick-on-spec : {M : Type 1} → statement M
 tick-on-spec =
     tie.close
     (tie.spec
-    slice-aggregate-copy
+    (λ c. search needs)
     copy-requires
-    step-image-requires
-    slice-aggregate-is-changed-in
+    (λ c κs. search needs) (λ c. search needs)
     is-changed-in-requires
-    one-if-u32-requires
-    same-length
+    (λ c κs. search needs) (λ c. search needs)
     returns)

@@ -20,16 +20,11 @@ Inv-loop events n p₀ p =
 abbrev μ-loop : tie.MeasureT-loop
 μ-loop events n p₀ p = n - p .at
 
-empty-tally-requires : tie.Need-empty-tally-requires Inv-loop μ-loop
-empty-tally-requires c κs = search needs
-
-point-with-requires : tie.Need-point-with-requires Inv-loop μ-loop
-point-with-requires c κs = search needs
-
 loop-holds : tie.Need-loop-holds Inv-loop μ-loop
 loop-holds c =
     let start = c .before .before .before in
-    let at = begun (start .args .events .now) (start .args .n) (start .pre .0) (start .args .from) _ (c .point-with .result) (c .before .empty-tally .ensures) (c .point-with .ensures) in
+    let at = begun (start .args .events .now) (start .args .n) (start .pre .0) (start .args .from) _ (c .point-with .result) (c .before .empty-tally .ensures)
+    (c .point-with .ensures) in
     (at .0, at .1, refl)
 
 take-next-requires : tie.Need-take-next-requires Inv-loop μ-loop
@@ -50,7 +45,8 @@ returns c =
     let new = at .before in
     let start = new .before .before .before in
     let e : at .loop .p .at ≡ start .args .n = omega arith in
-    ended (start .args .events .now) (start .args .n) (start .pre .0) (start .args .from) _ (new .point-with .result) (at .loop .p) (new .before .empty-tally .ensures) (new .point-with .ensures)
+    ended (start .args .events .now) (start .args .n) (start .pre .0) (start .args .from) _ (new .point-with .result) (at .loop .p)
+    (new .before .empty-tally .ensures) (new .point-with .ensures)
     (at .loop .inv .2) e
 
 pub count-all-spec : {M : Type 1} → statement M
@@ -59,8 +55,7 @@ count-all-spec =
     (tie.spec
     Inv-loop
     μ-loop
-    empty-tally-requires
-    point-with-requires
+    (λ c κs. search needs) (λ c κs. search needs)
     loop-holds
     take-next-requires
     loop-less

@@ -6,9 +6,6 @@ use Rattle.share.proofs.Own.{counted-all, counted-none, counted-enough}
 use Rattle.share.proofs.counting.count_events.Statement.{statement}
 use Rattle.share.proofs.counting.count_events.Tie as tie
 
-empty-tally-requires : tie.Need-empty-tally-requires
-empty-tally-requires c κs = search needs
-
 returns : tie.Need-returns
 returns c = c .empty-tally .ensures ∙ sym (counted-none _ _ _ (c .before .if1 .taken))
 
@@ -22,4 +19,4 @@ returns-2 c =
     c .count-all .ensures ∙ sym (counted-all _ _ _ (few .1) (few .0))
 
 pub count-events-spec : {M : Type 1} → statement M
-count-events-spec = tie.close (tie.spec empty-tally-requires returns count-all-requires returns-2)
+count-events-spec = tie.close (tie.spec (λ c κs. search needs) returns count-all-requires returns-2)

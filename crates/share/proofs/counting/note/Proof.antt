@@ -5,42 +5,6 @@ use Rattle.share.specs.Walk.{noted}
 use Rattle.share.proofs.counting.note.Statement.{statement}
 use Rattle.share.proofs.counting.note.Tie as tie
 
-waited-on-requires : tie.Need-waited-on-requires
-waited-on-requires c κs = search needs
-
-waited-on-requires-2 : tie.Need-waited-on-requires-2
-waited-on-requires-2 c κs = search needs
-
-raised-requires : tie.Need-raised-requires
-raised-requires c κs = search needs
-
-raised-requires-2 : tie.Need-raised-requires-2
-raised-requires-2 c κs = search needs
-
-raised-requires-3 : tie.Need-raised-requires-3
-raised-requires-3 c κs = search needs
-
-raised-requires-4 : tie.Need-raised-requires-4
-raised-requires-4 c κs = search needs
-
-raised-requires-5 : tie.Need-raised-requires-5
-raised-requires-5 c κs = search needs
-
-raised-requires-6 : tie.Need-raised-requires-6
-raised-requires-6 c κs = search needs
-
-raised-requires-7 : tie.Need-raised-requires-7
-raised-requires-7 c κs = search needs
-
-raised-requires-8 : tie.Need-raised-requires-8
-raised-requires-8 c κs = search needs
-
-longer-of-requires : tie.Need-longer-of-requires
-longer-of-requires c κs = search needs
-
-longer-of-requires-2 : tie.Need-longer-of-requires-2
-longer-of-requires-2 c κs = search needs
-
 returns : tie.Need-returns
 unfolding noted
 returns c =
@@ -63,16 +27,7 @@ pub note-spec : {M : Type 1} → statement M
 note-spec =
     tie.close
     (tie.spec
-    waited-on-requires
-    waited-on-requires-2
-    raised-requires
-    raised-requires-2
-    raised-requires-3
-    raised-requires-4
-    raised-requires-5
-    raised-requires-6
-    raised-requires-7
-    raised-requires-8
-    longer-of-requires
-    longer-of-requires-2
+    (λ c κs. search needs) (λ c κs. search needs) (λ c κs. search needs) (λ c κs. search needs) (λ c κs. search needs)
+    (λ c κs. search needs) (λ c κs. search needs) (λ c κs. search needs) (λ c κs. search needs) (λ c κs. search needs)
+    (λ c κs. search needs) (λ c κs. search needs)
     returns)

@@ -8,15 +8,6 @@ use Rattle.share.specs.Walk.{noted}
 use Rattle.share.proofs.counting.note_after.Statement.{statement}
 use Rattle.share.proofs.counting.note_after.Tie as tie
 
-is-tick-requires : tie.Need-is-tick-requires
-is-tick-requires c κs = search needs
-
-see-requires : tie.Need-see-requires
-see-requires c κs = search needs
-
-note-requires : tie.Need-note-requires
-note-requires c κs = search needs
-
 returns : tie.Need-returns
 returns c =
     let start = c .before .before .before .before .args in
@@ -29,4 +20,4 @@ returns-2 c = sym (if-false _ _ (sym (c .before .is-tick .ensures) ∙ c .if1 .l
 
 pub note-after-spec : {M : Type 1} → statement M
 note-after-spec =
-    tie.close (tie.spec is-tick-requires see-requires note-requires returns returns-2)
+    tie.close (tie.spec (λ c κs. search needs) (λ c κs. search needs) (λ c κs. search needs) returns returns-2)

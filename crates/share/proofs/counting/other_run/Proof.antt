@@ -25,12 +25,6 @@ cast-event-at c = omega arith
 add-event-at : tie.Need-add-event-at Inv-loop μ-loop
 add-event-at c = omega arith
 
-event-at-requires : tie.Need-event-at-requires Inv-loop μ-loop
-event-at-requires c κs = search needs
-
-is-tick-requires : tie.Need-is-tick-requires Inv-loop μ-loop
-is-tick-requires c κs = search needs
-
 add-k : tie.Need-add-k Inv-loop μ-loop
 add-k c = omega arith
 
@@ -41,14 +35,11 @@ loop-again : tie.Need-loop-again Inv-loop μ-loop
 loop-again c =
     let told = c .before in
     let at = told .before .before .before in
-    let start = at .before .before .args in
-    (omega arith, others-more (at .loop .k) (start .at) (start .events .now) _ (at .loop .inv .1) (told .before .event-at .ensures) (sym (told .is-tick .ensures) ∙ not-true _ (c .if1 .taken)))
-
-returns : tie.Need-returns Inv-loop μ-loop
-returns c = search needs
-
-returns-2 : tie.Need-returns-2 Inv-loop μ-loop
-returns-2 c = search needs
+    let start = at .before .before .args in (
+      omega arith,
+      others-more (at .loop .k) (start .at) (start .events .now) _ (at .loop .inv .1) (told .before .event-at .ensures)
+          (sym (told .is-tick .ensures) ∙ not-true _ (c .if1 .taken)),
+    )
 
 pub other-run-spec : {M : Type 1} → statement M
 other-run-spec =
@@ -59,10 +50,8 @@ other-run-spec =
     loop-holds
     cast-event-at
     add-event-at
-    event-at-requires
-    is-tick-requires
+    (λ c κs. search needs) (λ c κs. search needs)
     add-k
     loop-less
     loop-again
-    returns
-    returns-2)
+    (λ c. search needs) (λ c. search needs))

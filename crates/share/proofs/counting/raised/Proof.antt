@@ -5,9 +5,6 @@ use borrow.Author.Needs.{needs}
 use Rattle.share.proofs.counting.raised.Statement.{statement}
 use Rattle.share.proofs.counting.raised.Tie as tie
 
-add-result : tie.Need-add-result
-add-result c = search needs
-
 returns : tie.Need-returns
 returns c = simp (c .if1 .taken)
 
@@ -15,4 +12,4 @@ returns-2 : tie.Need-returns-2
 returns-2 c = simp (c .if1 .left) (omega arith)
 
 pub raised-spec : {M : Type 1} → statement M
-raised-spec = tie.close (tie.spec add-result returns returns-2)
+raised-spec = tie.close (tie.spec (λ c. search needs) returns returns-2)

@@ -6,20 +6,8 @@ use Rattle.share.proofs.Others.{others-onward}
 use Rattle.share.proofs.counting.take_next.Statement.{statement}
 use Rattle.share.proofs.counting.take_next.Tie as tie
 
-sub-smaller-of : tie.Need-sub-smaller-of
-sub-smaller-of c = search needs
-
-smaller-of-requires : tie.Need-smaller-of-requires
-smaller-of-requires c κs = search needs
-
 other-run-requires : tie.Need-other-run-requires
 other-run-requires c κs = omega (arith, c .smaller-of .ensures .1)
-
-take-ticks-requires : tie.Need-take-ticks-requires
-take-ticks-requires c κs = search needs
-
-take-others-requires : tie.Need-take-others-requires
-take-others-requires c κs = search needs
 
 returns : tie.Need-returns
 returns c = c .take-ticks .ensures
@@ -30,16 +18,15 @@ returns-2 c =
     let run = test .before .other-run .ensures in
     let few = test .before .before .smaller-of .ensures in
     let start = test .before .before .before .before in
-    others-onward (start .args .events .now) (start .args .n) (start .pre .2) (start .args .p) _ _ (test .if1 .left) (start .pre .3) (omega (arith, run .0, few .1, start .pre .0)) (run .1) (c .take-others .ensures)
+    others-onward (start .args .events .now) (start .args .n) (start .pre .2) (start .args .p) _ _ (test .if1 .left) (start .pre .3)
+    (omega (arith, run .0, few .1, start .pre .0)) (run .1) (c .take-others .ensures)
 
 pub take-next-spec : {M : Type 1} → statement M
 take-next-spec =
     tie.close
     (tie.spec
-    sub-smaller-of
-    smaller-of-requires
+    (λ c. search needs) (λ c κs. search needs)
     other-run-requires
-    take-ticks-requires
-    take-others-requires
+    (λ c κs. search needs) (λ c κs. search needs)
     returns
     returns-2)

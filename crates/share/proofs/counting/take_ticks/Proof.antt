@@ -5,15 +5,6 @@ use Rattle.share.proofs.Quiet.{one-onward, quiet-onward}
 use Rattle.share.proofs.counting.take_ticks.Statement.{statement}
 use Rattle.share.proofs.counting.take_ticks.Tie as tie
 
-quiet-run-requires : tie.Need-quiet-run-requires
-quiet-run-requires c κs = search needs
-
-take-one-requires : tie.Need-take-one-requires
-take-one-requires c κs = search needs
-
-take-quiet-requires : tie.Need-take-quiet-requires
-take-quiet-requires c κs = search needs
-
 returns : tie.Need-returns
 returns c =
     let start = c .before .before .before .before in
@@ -24,8 +15,9 @@ returns-2 c =
     let test = c .before in
     let run = test .before .quiet-run .ensures in
     let start = test .before .before .before in
-    quiet-onward (start .args .events .now) (start .args .n) (start .pre .2) (start .args .p) _ _ (test .if1 .left) (start .pre .3) (run .0) (run .1) (run .2) (c .take-quiet .ensures)
+    quiet-onward (start .args .events .now) (start .args .n) (start .pre .2) (start .args .p) _ _ (test .if1 .left) (start .pre .3) (run .0) (run .1) (run .2)
+    (c .take-quiet .ensures)
 
 pub take-ticks-spec : {M : Type 1} → statement M
 take-ticks-spec =
-    tie.close (tie.spec quiet-run-requires take-one-requires take-quiet-requires returns returns-2)
+    tie.close (tie.spec (λ c κs. search needs) (λ c κs. search needs) (λ c κs. search needs) returns returns-2)

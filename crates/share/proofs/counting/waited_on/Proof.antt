@@ -5,9 +5,6 @@ use Rattle.share.specs.Walk.{waitedOn}
 use Rattle.share.proofs.counting.waited_on.Statement.{statement}
 use Rattle.share.proofs.counting.waited_on.Tie as tie
 
-add-result : tie.Need-add-result
-add-result c = search needs
-
 returns : tie.Need-returns
 unfolding waitedOn
 returns c = simp (c .if1 .taken)
@@ -17,4 +14,4 @@ unfolding waitedOn
 returns-2 c = simp (c .if1 .left)
 
 pub waited-on-spec : {M : Type 1} → statement M
-waited-on-spec = tie.close (tie.spec add-result returns returns-2)
+waited-on-spec = tie.close (tie.spec (λ c. search needs) returns returns-2)

@@ -5,18 +5,6 @@ use Rattle.share.proofs.Buffers.{lent-taken, lent-refused}
 use Rattle.share.proofs.lent.add_totals.Statement.{statement}
 use Rattle.share.proofs.lent.add_totals.Tie as tie
 
-totals-in-requires : tie.Need-totals-in-requires
-totals-in-requires c κs = search needs
-
-add-trace-requires : tie.Need-add-trace-requires
-add-trace-requires c κs = search needs
-
-put-totals-requires : tie.Need-put-totals-requires
-put-totals-requires c κs = search needs
-
-same-length : tie.Need-same-length
-same-length c = search needs
-
 returns : tie.Need-returns
 returns c =
     let put = c .before .before in
@@ -33,9 +21,6 @@ pub add-totals-spec : {M : Type 1} → statement M
 add-totals-spec =
     tie.close
     (tie.spec
-    totals-in-requires
-    add-trace-requires
-    put-totals-requires
-    same-length
+    (λ c κs. search needs) (λ c κs. search needs) (λ c κs. search needs) (λ c. search needs)
     returns
     returns-2)

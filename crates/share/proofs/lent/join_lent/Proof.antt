@@ -21,17 +21,11 @@ totals-in-requires-2 c κs =
     let second = both-second (start .totals .now) (start .other .now) (if1 .if1 .taken) in
     search (first, second)
 
-join-requires : tie.Need-join-requires
-join-requires c κs = search needs
-
 put-totals-requires : tie.Need-put-totals-requires
 put-totals-requires c κs =
     let if1 = c .before .before .before .before .before in
     let start = if1 .before .before .before .args in
     both-first (start .totals .now) (start .other .now) (if1 .if1 .taken)
-
-same-length : tie.Need-same-length
-same-length c = search needs
 
 returns : tie.Need-returns
 returns c =
@@ -41,7 +35,8 @@ returns c =
     let old = other .before in
     let if1 = old .before .before in
     let start = if1 .before .before .before .args in
-    join-taken (start .totals .now) (start .other .now) _ _ _ _ (if1 .if1 .taken) (old .totals-in .ensures) (other .totals-in2 .ensures) (new .join .ensures) (put .put-totals .ensures)
+    join-taken (start .totals .now) (start .other .now) _ _ _ _ (if1 .if1 .taken) (old .totals-in .ensures) (other .totals-in2 .ensures) (new .join .ensures)
+    (put .put-totals .ensures)
 
 returns-2 : tie.Need-returns-2
 returns-2 c = let start = c .before .before .before .args in join-refused (start .totals .now) (start .other .now) (c .if1 .left)
@@ -52,8 +47,8 @@ join-lent-spec =
     (tie.spec
     totals-in-requires
     totals-in-requires-2
-    join-requires
+    (λ c κs. search needs)
     put-totals-requires
-    same-length
+    (λ c. search needs)
     returns
     returns-2)

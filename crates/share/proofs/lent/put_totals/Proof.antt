@@ -59,9 +59,6 @@ slice-write-b-16 c = simp length-set (omega arith)
 slice-write-b-17 : tie.Need-slice-write-b-17
 slice-write-b-17 c = simp length-set (omega arith)
 
-same-length : tie.Need-same-length
-same-length c = search needs
-
 returns : tie.Need-returns
 unfolding totalsList
 returns c = stored-whole (c .args .x) (c .args .b .now) (c .pre)
@@ -87,5 +84,5 @@ put-totals-spec =
     slice-write-b-15
     slice-write-b-16
     slice-write-b-17
-    same-length
+    (λ c. search needs)
     returns)

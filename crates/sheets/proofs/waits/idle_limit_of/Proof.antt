@@ -4,14 +4,8 @@ use borrow.Author.Needs.{needs}
 use Rattle.sheets.proofs.waits.idle_limit_of.Statement.{statement}
 use Rattle.sheets.proofs.waits.idle_limit_of.Tie as tie
 
-limit-of-requires : tie.Need-limit-of-requires
-limit-of-requires c κs = search needs
-
-wide-u16-requires : tie.Need-wide-u16-requires
-wide-u16-requires c κs = search needs
-
 returns : tie.Need-returns
 returns c = simp (c .wide-u16 .ensures .0, c .before .limit-of .ensures)
 
 pub idle-limit-of-spec : {M : Type 1} → statement M
-idle-limit-of-spec = tie.close (tie.spec limit-of-requires wide-u16-requires returns)
+idle-limit-of-spec = tie.close (tie.spec (λ c κs. search needs) (λ c κs. search needs) returns)

@@ -4,14 +4,8 @@ use borrow.Author.Needs.{needs}
 use Rattle.traces.proofs.sides.bus_lined.Statement.{statement}
 use Rattle.traces.proofs.sides.bus_lined.Tie as tie
 
-outside-of-requires : tie.Need-outside-of-requires
-outside-of-requires c κs = search needs
-
-settled-bus-requires : tie.Need-settled-bus-requires
-settled-bus-requires c κs = search needs
-
 returns : tie.Need-returns
 returns c = simp (c .settled-bus .ensures, c .before .outside-of .ensures)
 
 pub bus-lined-spec : {M : Type 1} → statement M
-bus-lined-spec = tie.close (tie.spec outside-of-requires settled-bus-requires returns)
+bus-lined-spec = tie.close (tie.spec (λ c κs. search needs) (λ c κs. search needs) returns)

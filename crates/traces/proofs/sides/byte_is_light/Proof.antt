@@ -4,36 +4,6 @@ use borrow.Author.Needs.{needs}
 use Rattle.traces.proofs.sides.byte_is_light.Statement.{statement}
 use Rattle.traces.proofs.sides.byte_is_light.Tie as tie
 
-enum-told : tie.Need-enum-told
-enum-told c = search needs
-
-enum-told-2 : tie.Need-enum-told-2
-enum-told-2 c = search needs
-
-bit-0-requires : tie.Need-bit-0-requires
-bit-0-requires c κs = search needs
-
-leaves-turn-requires : tie.Need-leaves-turn-requires
-leaves-turn-requires c κs = search needs
-
-enum-told-3 : tie.Need-enum-told-3
-enum-told-3 c = search needs
-
-enum-told-4 : tie.Need-enum-told-4
-enum-told-4 c = search needs
-
-enum-told-5 : tie.Need-enum-told-5
-enum-told-5 c = search needs
-
-enum-told-6 : tie.Need-enum-told-6
-enum-told-6 c = search needs
-
-enum-told-7 : tie.Need-enum-told-7
-enum-told-7 c = search needs
-
-enum-told-8 : tie.Need-enum-told-8
-enum-told-8 c = search needs
-
 returns : tie.Need-returns
 returns c = simp (c .enum-told .given .1)
 
@@ -59,4 +29,16 @@ returns-8 : tie.Need-returns-8
 returns-8 c = simp (c .enum-told8 .given .1)
 
 pub byte-is-light-spec : {M : Type 1} → statement M
-byte-is-light-spec = tie.close (tie.spec enum-told enum-told-2 bit-0-requires leaves-turn-requires enum-told-3 enum-told-4 enum-told-5 enum-told-6 enum-told-7 enum-told-8 returns returns-2 returns-3 returns-4 returns-5 returns-6 returns-7 returns-8)
+byte-is-light-spec =
+    tie.close
+    (tie.spec
+    (λ c. search needs) (λ c. search needs) (λ c κs. search needs) (λ c κs. search needs) (λ c. search needs)
+    (λ c. search needs) (λ c. search needs) (λ c. search needs) (λ c. search needs) (λ c. search needs)
+    returns
+    returns-2
+    returns-3
+    returns-4
+    returns-5
+    returns-6
+    returns-7
+    returns-8)

@@ -4,11 +4,8 @@ use borrow.Author.Needs.{needs}
 use Rattle.traces.proofs.sides.is_granted_at_rest.Statement.{statement}
 use Rattle.traces.proofs.sides.is_granted_at_rest.Tie as tie
 
-claims-at-requires : tie.Need-claims-at-requires
-claims-at-requires c κs = search needs
-
 returns : tie.Need-returns
 returns c = simp (c .before .claims-at .ensures)
 
 pub is-granted-at-rest-spec : {M : Type 1} → statement M
-is-granted-at-rest-spec = tie.close (tie.spec claims-at-requires returns)
+is-granted-at-rest-spec = tie.close (tie.spec (λ c κs. search needs) returns)

@@ -5,27 +5,6 @@ use Rattle.step.specs.Carried.{isQuiet}
 use Rattle.traces.proofs.sides.is_settled.Statement.{statement}
 use Rattle.traces.proofs.sides.is_settled.Tie as tie
 
-is-still-requires : tie.Need-is-still-requires
-is-still-requires c κs = search needs
-
-turn-of-requires : tie.Need-turn-of-requires
-turn-of-requires c κs = search needs
-
-is-calm-requires : tie.Need-is-calm-requires
-is-calm-requires c κs = search needs
-
-turn-of-requires-2 : tie.Need-turn-of-requires-2
-turn-of-requires-2 c κs = search needs
-
-no-cut-requires : tie.Need-no-cut-requires
-no-cut-requires c κs = search needs
-
-turn-of-requires-3 : tie.Need-turn-of-requires-3
-turn-of-requires-3 c κs = search needs
-
-no-loss-requires : tie.Need-no-loss-requires
-no-loss-requires c κs = search needs
-
 returns : tie.Need-returns
 unfolding isQuiet
 returns c =
@@ -43,11 +22,6 @@ pub is-settled-spec : {M : Type 1} → statement M
 is-settled-spec =
     tie.close
     (tie.spec
-    is-still-requires
-    turn-of-requires
-    is-calm-requires
-    turn-of-requires-2
-    no-cut-requires
-    turn-of-requires-3
-    no-loss-requires
+    (λ c κs. search needs) (λ c κs. search needs) (λ c κs. search needs) (λ c κs. search needs) (λ c κs. search needs)
+    (λ c κs. search needs) (λ c κs. search needs)
     returns)

@@ -4,11 +4,8 @@ use borrow.Author.Needs.{needs}
 use Rattle.traces.proofs.sides.second_fits.Statement.{statement}
 use Rattle.traces.proofs.sides.second_fits.Tie as tie
 
-pick-bool-requires : tie.Need-pick-bool-requires
-pick-bool-requires c κs = search needs
-
 returns : tie.Need-returns
 returns c = simp (c .pick-bool .ensures)
 
 pub second-fits-spec : {M : Type 1} → statement M
-second-fits-spec = tie.close (tie.spec pick-bool-requires returns)
+second-fits-spec = tie.close (tie.spec (λ c κs. search needs) returns)

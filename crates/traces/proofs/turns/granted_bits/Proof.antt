@@ -8,15 +8,6 @@ use Rattle.traces.proofs.Owners.{bits-starting, bits-closed, bits-apart
 use Rattle.traces.proofs.turns.granted_bits.Statement.{statement}
 use Rattle.traces.proofs.turns.granted_bits.Tie as tie
 
-number-at-requires : tie.Need-number-at-requires
-number-at-requires c κs = search needs
-
-add-result : tie.Need-add-result
-add-result c = search needs
-
-mul-result : tie.Need-mul-result
-mul-result c = search needs
-
 returns : tie.Need-returns
 returns c =
     let given = c .before .before .before .args in
@@ -36,4 +27,5 @@ returns-3 c =
     (n .ensures .0 ∙ bits-apart (given .x) (given .c) (c .if1 .left), omega (arith, n .ensures .1))
 
 pub granted-bits-spec : {M : Type 1} → statement M
-granted-bits-spec = tie.close (tie.spec number-at-requires add-result mul-result returns returns-2 returns-3)
+granted-bits-spec =
+    tie.close (tie.spec (λ c κs. search needs) (λ c. search needs) (λ c. search needs) returns returns-2 returns-3)

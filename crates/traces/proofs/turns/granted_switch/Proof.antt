@@ -10,8 +10,5 @@ returns c = simp (c .if2 .taken, c .before .if1 .taken)
 returns-2 : tie.Need-returns-2
 returns-2 c = simp (c .if2 .left, c .before .if1 .taken)
 
-returns-3 : tie.Need-returns-3
-returns-3 c = search needs
-
 pub granted-switch-spec : {M : Type 1} → statement M
-granted-switch-spec = tie.close (tie.spec returns returns-2 returns-3)
+granted-switch-spec = tie.close (tie.spec returns returns-2 (λ c. search needs))

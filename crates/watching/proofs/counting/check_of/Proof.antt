@@ -5,24 +5,6 @@ use Rattle.watch.specs.Stream.{checkOf}
 use Rattle.watching.proofs.counting.check_of.Statement.{statement}
 use Rattle.watching.proofs.counting.check_of.Tie as tie
 
-enum-told : tie.Need-enum-told
-enum-told c = search needs
-
-pointer-of-requires : tie.Need-pointer-of-requires
-pointer-of-requires c κs = search needs
-
-check-with-requires : tie.Need-check-with-requires
-check-with-requires c κs = search needs
-
-enum-told-2 : tie.Need-enum-told-2
-enum-told-2 c = search needs
-
-pointer-of-requires-2 : tie.Need-pointer-of-requires-2
-pointer-of-requires-2 c κs = search needs
-
-check-with-requires-2 : tie.Need-check-with-requires-2
-check-with-requires-2 c κs = search needs
-
 returns : tie.Need-returns
 unfolding checkOf
 returns c =
@@ -39,11 +21,7 @@ pub check-of-spec : {M : Type 1} → statement M
 check-of-spec =
     tie.close
     (tie.spec
-    enum-told
-    pointer-of-requires
-    check-with-requires
-    enum-told-2
-    pointer-of-requires-2
-    check-with-requires-2
+    (λ c. search needs) (λ c κs. search needs) (λ c κs. search needs) (λ c. search needs) (λ c κs. search needs)
+    (λ c κs. search needs)
     returns
     returns-2)

@@ -4,9 +4,6 @@ use borrow.Author.Needs.{needs}
 use Rattle.watching.proofs.counting.first_with.Statement.{statement}
 use Rattle.watching.proofs.counting.first_with.Tie as tie
 
-is-different-requires : tie.Need-is-different-requires
-is-different-requires c κs = search needs
-
 returns : tie.Need-returns
 returns c = simp (c .if1 .taken, ← c .before .is-different .ensures)
 
@@ -14,4 +11,4 @@ returns-2 : tie.Need-returns-2
 returns-2 c = simp (c .before .if1 .left, ← c .before .before .is-different .ensures)
 
 pub first-with-spec : {M : Type 1} → statement M
-first-with-spec = tie.close (tie.spec is-different-requires returns returns-2)
+first-with-spec = tie.close (tie.spec (λ c κs. search needs) returns returns-2)

@@ -9,70 +9,10 @@ use Rattle.watch.specs.Stream.{tallyWith}
 use Rattle.watching.proofs.counting.tally_with.Statement.{statement}
 use Rattle.watching.proofs.counting.tally_with.Tie as tie
 
-enum-told : tie.Need-enum-told
-enum-told c = search needs
-
-with-event-requires : tie.Need-with-event-requires
-with-event-requires c κs = search needs
-
-enum-told-2 : tie.Need-enum-told-2
-enum-told-2 c = search needs
-
-with-event-requires-2 : tie.Need-with-event-requires-2
-with-event-requires-2 c κs = search needs
-
-enum-known-e : tie.Need-enum-known-e
-enum-known-e c = search needs
-
 check-of-requires : tie.Need-check-of-requires
 check-of-requires c κs =
     let start = c .before .before .before in
     start .pre ∙ ap (λ (e : Event). step (start .args .d) (rawOf e) .answer .read) (c .before .e .given .1)
-
-with-read-requires : tie.Need-with-read-requires
-with-read-requires c κs = search needs
-
-enum-told-3 : tie.Need-enum-told-3
-enum-told-3 c = search needs
-
-with-event-requires-3 : tie.Need-with-event-requires-3
-with-event-requires-3 c κs = search needs
-
-enum-told-4 : tie.Need-enum-told-4
-enum-told-4 c = search needs
-
-with-event-requires-4 : tie.Need-with-event-requires-4
-with-event-requires-4 c κs = search needs
-
-enum-told-5 : tie.Need-enum-told-5
-enum-told-5 c = search needs
-
-with-event-requires-5 : tie.Need-with-event-requires-5
-with-event-requires-5 c κs = search needs
-
-enum-told-6 : tie.Need-enum-told-6
-enum-told-6 c = search needs
-
-with-event-requires-6 : tie.Need-with-event-requires-6
-with-event-requires-6 c κs = search needs
-
-enum-told-7 : tie.Need-enum-told-7
-enum-told-7 c = search needs
-
-with-event-requires-7 : tie.Need-with-event-requires-7
-with-event-requires-7 c κs = search needs
-
-enum-told-8 : tie.Need-enum-told-8
-enum-told-8 c = search needs
-
-with-event-requires-8 : tie.Need-with-event-requires-8
-with-event-requires-8 c κs = search needs
-
-enum-told-9 : tie.Need-enum-told-9
-enum-told-9 c = search needs
-
-with-event-requires-9 : tie.Need-with-event-requires-9
-with-event-requires-9 c κs = search needs
 
 returns : tie.Need-returns
 unfolding tallyWith
@@ -118,27 +58,11 @@ pub tally-with-spec : {M : Type 1} → statement M
 tally-with-spec =
     tie.close
     (tie.spec
-    enum-told
-    with-event-requires
-    enum-told-2
-    with-event-requires-2
-    enum-known-e
+    (λ c. search needs) (λ c κs. search needs) (λ c. search needs) (λ c κs. search needs) (λ c. search needs)
     check-of-requires
-    with-read-requires
-    enum-told-3
-    with-event-requires-3
-    enum-told-4
-    with-event-requires-4
-    enum-told-5
-    with-event-requires-5
-    enum-told-6
-    with-event-requires-6
-    enum-told-7
-    with-event-requires-7
-    enum-told-8
-    with-event-requires-8
-    enum-told-9
-    with-event-requires-9
+    (λ c κs. search needs) (λ c. search needs) (λ c κs. search needs) (λ c. search needs) (λ c κs. search needs)
+    (λ c. search needs) (λ c κs. search needs) (λ c. search needs) (λ c κs. search needs) (λ c. search needs)
+    (λ c κs. search needs) (λ c. search needs) (λ c κs. search needs) (λ c. search needs) (λ c κs. search needs)
     returns
     returns-2
     returns-3

@@ -5,12 +5,9 @@ use Rattle.watch.specs.Stream.{withEvent}
 use Rattle.watching.proofs.counting.with_event.Statement.{statement}
 use Rattle.watching.proofs.counting.with_event.Tie as tie
 
-plus-of-requires : tie.Need-plus-of-requires
-plus-of-requires c κs = search needs
-
 returns : tie.Need-returns
 unfolding withEvent
 returns c = simp (c .plus-of .ensures)
 
 pub with-event-spec : {M : Type 1} → statement M
-with-event-spec = tie.close (tie.spec plus-of-requires returns)
+with-event-spec = tie.close (tie.spec (λ c κs. search needs) returns)

@@ -4,14 +4,8 @@ use borrow.Author.Needs.{needs}
 use Rattle.watching.proofs.sample.both_mended.Statement.{statement}
 use Rattle.watching.proofs.sample.both_mended.Tie as tie
 
-mended-of-requires : tie.Need-mended-of-requires
-mended-of-requires c κs = search needs
-
-mended-of-requires-2 : tie.Need-mended-of-requires-2
-mended-of-requires-2 c κs = search needs
-
 returns : tie.Need-returns
 returns c = simp (c .mended-of2 .ensures, c .before .mended-of .ensures)
 
 pub both-mended-spec : {M : Type 1} → statement M
-both-mended-spec = tie.close (tie.spec mended-of-requires mended-of-requires-2 returns)
+both-mended-spec = tie.close (tie.spec (λ c κs. search needs) (λ c κs. search needs) returns)

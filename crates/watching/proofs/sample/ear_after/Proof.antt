@@ -5,15 +5,9 @@ use Rattle.watch.specs.Sample.{earAfter}
 use Rattle.watching.proofs.sample.ear_after.Statement.{statement}
 use Rattle.watching.proofs.sample.ear_after.Tie as tie
 
-both-mended-requires : tie.Need-both-mended-requires
-both-mended-requires c κs = search needs
-
-since-after-requires : tie.Need-since-after-requires
-since-after-requires c κs = search needs
-
 returns : tie.Need-returns
 unfolding earAfter
 returns c = simp (c .since-after .ensures, c .before .both-mended .ensures, c .before .before .pre)
 
 pub ear-after-spec : {M : Type 1} → statement M
-ear-after-spec = tie.close (tie.spec both-mended-requires since-after-requires returns)
+ear-after-spec = tie.close (tie.spec (λ c κs. search needs) (λ c κs. search needs) returns)

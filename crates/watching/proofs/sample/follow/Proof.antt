@@ -5,12 +5,6 @@ use Rattle.watch.specs.Stream.{followed}
 use Rattle.watching.proofs.sample.follow.Statement.{statement}
 use Rattle.watching.proofs.sample.follow.Tie as tie
 
-raw-of-requires : tie.Need-raw-of-requires
-raw-of-requires c κs = search needs
-
-step-device-requires : tie.Need-step-device-requires
-step-device-requires c κs = search needs
-
 tally-with-requires : tie.Need-tally-with-requires
 unfolding followed
 tally-with-requires c κs = simp (c .before .step-device .ensures, c .before .before .raw-of .ensures)
@@ -20,4 +14,4 @@ unfolding followed
 returns c = simp (c .tally-with .ensures, c .before .before .step-device .ensures, c .before .before .before .raw-of .ensures)
 
 pub follow-spec : {M : Type 1} → statement M
-follow-spec = tie.close (tie.spec raw-of-requires step-device-requires tally-with-requires returns)
+follow-spec = tie.close (tie.spec (λ c κs. search needs) (λ c κs. search needs) tally-with-requires returns)

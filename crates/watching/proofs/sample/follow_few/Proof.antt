@@ -5,24 +5,6 @@ use Rattle.watch.specs.Stream.{followedAll}
 use Rattle.watching.proofs.sample.follow_few.Statement.{statement}
 use Rattle.watching.proofs.sample.follow_few.Tie as tie
 
-enum-told : tie.Need-enum-told
-enum-told c = search needs
-
-enum-known-f : tie.Need-enum-known-f
-enum-known-f c = search needs
-
-follow-requires : tie.Need-follow-requires
-follow-requires c κs = search needs
-
-enum-known-f-2 : tie.Need-enum-known-f-2
-enum-known-f-2 c = search needs
-
-follow-requires-2 : tie.Need-follow-requires-2
-follow-requires-2 c κs = search needs
-
-follow-requires-3 : tie.Need-follow-requires-3
-follow-requires-3 c κs = search needs
-
 returns : tie.Need-returns
 unfolding followedAll
 returns c = simp (c .enum-told .given .1)
@@ -39,12 +21,8 @@ pub follow-few-spec : {M : Type 1} → statement M
 follow-few-spec =
     tie.close
     (tie.spec
-    enum-told
-    enum-known-f
-    follow-requires
-    enum-known-f-2
-    follow-requires-2
-    follow-requires-3
+    (λ c. search needs) (λ c. search needs) (λ c κs. search needs) (λ c. search needs) (λ c κs. search needs)
+    (λ c κs. search needs)
     returns
     returns-2
     returns-3)

@@ -5,12 +5,6 @@ use Rattle.watch.specs.Sample.{heardNow}
 use Rattle.watching.proofs.sample.heard_now.Statement.{statement}
 use Rattle.watching.proofs.sample.heard_now.Tie as tie
 
-hear-watched-requires : tie.Need-hear-watched-requires
-hear-watched-requires c κs = search needs
-
-nothing-given-requires : tie.Need-nothing-given-requires
-nothing-given-requires c κs = search needs
-
 returns : tie.Need-returns
 unfolding heardNow
 returns c = simp (← c .hear-watched .ensures, c .before .if1 .taken)
@@ -20,4 +14,4 @@ unfolding heardNow
 returns-2 c = simp (← c .nothing-given .ensures, c .before .if1 .left)
 
 pub heard-now-spec : {M : Type 1} → statement M
-heard-now-spec = tie.close (tie.spec hear-watched-requires nothing-given-requires returns returns-2)
+heard-now-spec = tie.close (tie.spec (λ c κs. search needs) (λ c κs. search needs) returns returns-2)

@@ -5,9 +5,6 @@ use Rattle.watching.proofs.Sums.{due-soon, due-past}
 use Rattle.watching.proofs.sample.is_due.Statement.{statement}
 use Rattle.watching.proofs.sample.is_due.Tie as tie
 
-sub-result : tie.Need-sub-result
-sub-result c = search needs
-
 returns : tie.Need-returns
 returns c = due-soon _ _ (c .before .before .if1 .taken)
 
@@ -15,4 +12,4 @@ returns-2 : tie.Need-returns-2
 returns-2 c = due-past _ _ (c .if1 .left)
 
 pub is-due-spec : {M : Type 1} → statement M
-is-due-spec = tie.close (tie.spec sub-result returns returns-2)
+is-due-spec = tie.close (tie.spec (λ c. search needs) returns returns-2)

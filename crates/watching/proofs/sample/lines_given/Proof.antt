@@ -5,15 +5,6 @@ use Rattle.watch.specs.Sample.{linesGiven}
 use Rattle.watching.proofs.sample.lines_given.Statement.{statement}
 use Rattle.watching.proofs.sample.lines_given.Tie as tie
 
-below-before-requires : tie.Need-below-before-requires
-below-before-requires c κs = search needs
-
-levels-below-requires : tie.Need-levels-below-requires
-levels-below-requires c κs = search needs
-
-lines-in-requires : tie.Need-lines-in-requires
-lines-in-requires c κs = search needs
-
 returns : tie.Need-returns
 unfolding linesGiven
 returns c =
@@ -30,5 +21,4 @@ returns-2 c = simp (c .if1 .left, ← c .before .before .levels-below .ensures, 
 
 pub lines-given-spec : {M : Type 1} → statement M
 lines-given-spec =
-    tie.close
-    (tie.spec below-before-requires levels-below-requires lines-in-requires returns returns-2)
+    tie.close (tie.spec (λ c κs. search needs) (λ c κs. search needs) (λ c κs. search needs) returns returns-2)

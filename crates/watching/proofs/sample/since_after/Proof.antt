@@ -7,12 +7,6 @@ use Rattle.watching.proofs.Sums.{due-far}
 use Rattle.watching.proofs.sample.since_after.Statement.{statement}
 use Rattle.watching.proofs.sample.since_after.Tie as tie
 
-is-timed-requires : tie.Need-is-timed-requires
-is-timed-requires c κs = search needs
-
-is-due-requires : tie.Need-is-due-requires
-is-due-requires c κs = search needs
-
 add-result : tie.Need-add-result
 add-result c =
     let s = c .before .before .before .before in
@@ -30,5 +24,4 @@ unfolding sinceAfter
 returns-2 c = simp (c .if1 .left, ← c .before .is-due .ensures, ← c .before .before .is-timed .ensures)
 
 pub since-after-spec : {M : Type 1} → statement M
-since-after-spec =
-    tie.close (tie.spec is-timed-requires is-due-requires add-result returns returns-2)
+since-after-spec = tie.close (tie.spec (λ c κs. search needs) (λ c κs. search needs) add-result returns returns-2)

@@ -5,12 +5,6 @@ use Rattle.watch.specs.Sample.{ticksGiven}
 use Rattle.watching.proofs.sample.ticks_given.Statement.{statement}
 use Rattle.watching.proofs.sample.ticks_given.Tie as tie
 
-is-timed-requires : tie.Need-is-timed-requires
-is-timed-requires c κs = search needs
-
-is-due-requires : tie.Need-is-due-requires
-is-due-requires c κs = search needs
-
 returns : tie.Need-returns
 unfolding ticksGiven
 returns c = simp (c .if1 .taken, ← c .before .is-due .ensures, ← c .before .before .is-timed .ensures)
@@ -20,4 +14,4 @@ unfolding ticksGiven
 returns-2 c = simp (c .if1 .left, ← c .before .is-due .ensures, ← c .before .before .is-timed .ensures)
 
 pub ticks-given-spec : {M : Type 1} → statement M
-ticks-given-spec = tie.close (tie.spec is-timed-requires is-due-requires returns returns-2)
+ticks-given-spec = tie.close (tie.spec (λ c κs. search needs) (λ c κs. search needs) returns returns-2)

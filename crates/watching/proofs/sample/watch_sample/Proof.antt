@@ -7,27 +7,6 @@ use Rattle.watching.proofs.Parts.{sample-watched}
 use Rattle.watching.proofs.sample.watch_sample.Statement.{statement}
 use Rattle.watching.proofs.sample.watch_sample.Tie as tie
 
-heard-now-requires : tie.Need-heard-now-requires
-heard-now-requires c κs = search needs
-
-lines-given-requires : tie.Need-lines-given-requires
-lines-given-requires c κs = search needs
-
-follow-few-requires : tie.Need-follow-few-requires
-follow-few-requires c κs = search needs
-
-few-heard-requires : tie.Need-few-heard-requires
-few-heard-requires c κs = search needs
-
-follow-few-requires-2 : tie.Need-follow-few-requires-2
-follow-few-requires-2 c κs = search needs
-
-ticks-given-requires : tie.Need-ticks-given-requires
-ticks-given-requires c κs = search needs
-
-follow-few-requires-3 : tie.Need-follow-few-requires-3
-follow-few-requires-3 c κs = search needs
-
 heard-by-requires : tie.Need-heard-by-requires
 heard-by-requires c κs = ap (λ (h : Heard). h .both) (c .before .before .before .before .before .before .heard-now .ensures)
 
@@ -48,12 +27,7 @@ pub watch-sample-spec : {M : Type 1} → statement M
 watch-sample-spec =
     tie.close
     (tie.spec
-    heard-now-requires
-    lines-given-requires
-    follow-few-requires
-    few-heard-requires
-    follow-few-requires-2
-    ticks-given-requires
-    follow-few-requires-3
+    (λ c κs. search needs) (λ c κs. search needs) (λ c κs. search needs) (λ c κs. search needs) (λ c κs. search needs)
+    (λ c κs. search needs) (λ c κs. search needs)
     heard-by-requires
     returns)
