@@ -7,6 +7,7 @@ use Rattle.arbitration.proofs.losses.cut_at.Reads as cut-at
 use Rattle.arbitration.proofs.losses.no_cut.Reads as no-cut
 use Rattle.arbitration.proofs.claims.claim_of.Reads as claim-of
 use Rattle.arbitration.proofs.claims.no_claim.Reads as no-claim
+use Rattle.arbitration.proofs.claims.ground_in.Reads as ground-in
 use Rattle.arbitration.proofs.claims.grant_of.Reads as grant-of
 use Rattle.arbitration.proofs.claims.no_grant.Reads as no-grant
 
@@ -27,6 +28,9 @@ claim-of-once κ a x y s t p q = once p q
 
 pub no-claim-once : OneResult no-claim.Post
 no-claim-once κ a x y s t p q = once p q
+
+pub ground-in-once : OneResult ground-in.Post
+ground-in-once κ a x y s t p q = once p q
 
 pub grant-of-once : OneResult grant-of.Post
 grant-of-once κ a x y s t p q = once p q

@@ -167,7 +167,7 @@ fn pick_master(test: bool, x: Master, y: Master) -> Master
 }
 
 // The ground of the present claim. Where there is none, nothing depends on it.
-fn ground_in(t: Turn) -> Ground
+pub fn ground_in(t: Turn) -> Ground
     ensures { λ r. ⌜ r ≡ groundIn t ⌝ }
 {
     match t {

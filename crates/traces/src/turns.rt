@@ -7,7 +7,6 @@ ghost use Rattle.arbiter.specs.Parts.{withTurn};
 ghost use Rattle.arbiter.specs.Steps.{masterNumber};
 ghost use Rattle.arbiter.specs.declared.Ground.the-variants.{Sole};
 ghost use Rattle.arbiter.specs.declared.Turn.the-variants.{Claims};
-ghost use Rattle.arbitration.specs.Cleared.{groundIn};
 ghost use Rattle.light.specs.Turns.{sideGranted, switchGranted, arbGranted, isContr, isNobody};
 ghost use Rattle.traces.specs.Turns.{stopGrants, grantedBits, byteClaims};
 use crate::sides::fits_byte;
@@ -27,6 +26,7 @@ use arbiter::Register;
 use arbiter::Side;
 use arbiter::Switch;
 use arbiter::Turn;
+use arbitration::claims::ground_in;
 use bits::bit_0;
 use fields::arb_with;
 use fields::master_of;
@@ -75,17 +75,6 @@ fn granted_switch(m: Master, c: Control) -> Switch
     }
 }
 
-// The ground of the present claim. Where there is none, nothing depends on it.
-fn ground_of(t: Turn) -> Ground
-    ensures { λ r. ⌜ r ≡ groundIn t ⌝ }
-{
-    match t {
-        Turn::Nobody => Ground::Sole,
-        Turn::Claims(_, g) => g,
-        Turn::Owns(_, g) => g,
-    }
-}
-
 // The arbitration after the grant to master x, whose side is s.
 pub(crate) fn granted_arb(x: u8, s: Side, a: Arbitration) -> Arbitration
     ensures { λ r. ⌜ r ≡ arbGranted (master x) s a ⌝ }
@@ -96,7 +85,7 @@ pub(crate) fn granted_arb(x: u8, s: Side, a: Arbitration) -> Arbitration
         !(s.contr.busconnect & s.contr.businit) & a.initfail,
         granted_switch(m, s.contr),
         s.rt,
-        Turn::Owns(m, ground_of(turn_of(a))),
+        Turn::Owns(m, ground_in(turn_of(a))),
     )
 }
 

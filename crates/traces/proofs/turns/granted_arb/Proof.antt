@@ -8,7 +8,7 @@ returns : tie.Need-returns
 returns c =
     simp (
       c .arb-with .ensures,
-      c .before .ground-of .ensures,
+      c .before .ground-in .ensures,
       c .before .before .turn-of .ensures,
       c .before .before .before .granted-switch .ensures,
       c .before .before .before .before .before .before .master-of .ensures,
