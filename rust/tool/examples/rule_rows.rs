@@ -9,9 +9,8 @@ use gunwaleish::{Event, Part};
 use gunwaleish_tool::script::read_script;
 
 const HEAD: &str = "\
--- The scripts of traces/rules/, each with the answers of its listing, in one table that proofs/Rows.antt proves. It is written from them, and a
--- test tells when it is stale:
---     cargo run --release --offline --manifest-path rust/tool/Cargo.toml --example rule_rows -- traces/rules > crates/rulebook/specs/Rows.antt
+-- The scripts of traces/rules/, each with the answers of its listing, in one table that proofs/Rows.antt proves. It is written from them
+-- by the commands of docs/RULES.md, and a test tells when it is stale.
 -- Assumes nothing.
 use mathlib.Core.Path.{_≡_}
 use mathlib.Core.List.{List, [], _∷_, map}

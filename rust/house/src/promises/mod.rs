@@ -30,7 +30,8 @@ const DEVICES: usize = 5;
 const MOST_WORDS: usize = 15;
 const WORDS_OF_PAGE: usize = 4000;
 
-const COMMAND: &str = "cargo run --release --offline --manifest-path rust/house/Cargo.toml --bin promises >docs/PROMISES.md";
+const COMMAND: &str = "mkdir -p build && cargo run --release --offline --manifest-path rust/house/Cargo.toml --bin promises \
+    >build/PROMISES.md && mv build/PROMISES.md docs/PROMISES.md";
 
 /// What is wrong with contracts, edits or exceptions, a sentence each; and where nothing is, with the page.
 pub fn faults(tree: &Tree) -> Vec<String> {
