@@ -1,20 +1,19 @@
 -- The arms of the loop over events, one by one: what each makes of the two sides, the bus and the answer is the step of its event.
 -- Assumes nothing.
-use Prim.Native.Nat.{ℕ, zero, suc, _+_, _-_, _*_, _%_, _≤_, _<_}
+use Prim.Native.Nat.{ℕ, _+_, _-_, _*_, _%_, _≤_}
 use mathlib.Core.Path.{_≡_, refl, sym, ap, ap₂, _∙_}
 use mathlib.Core.Bool.{Bool, true, false, not, _&&_, _||_, false≢true, and-eq-true-iff}
-use mathlib.Core.List.{List, [], _∷_}
+use mathlib.Core.List.{List}
 use native.Mathlib.Omega.{arith}
 use lib.Bits.{or-zero-r}
 use lib.Dec.{eqb}
-use lib.ListN.{length, getD, set}
-use borrow.Author.Tests.{ltb-true, eqb-true}
+use lib.ListN.{length, set}
 use Rattle.arbiter.specs.Words.{if_then_else_, bit, partner, side, device}
 use Rattle.arbiter.specs.Parts.{withPort, withPointer, withSide, withInts, withIdle, withTurn}
 use Rattle.arbiter.specs.State.{claimsTurn, ownsTurn, isInitialising, atRest, forWriting, sclHigh, sdaHigh}
-use Rattle.arbiter.specs.Registers.{mailEmptiedInt, raised, registerByte, ownWritten, mailWritten}
+use Rattle.arbiter.specs.Registers.{registerByte, ownWritten, mailWritten}
 use Rattle.arbiter.specs.Rules.{rolls}
-use Rattle.arbiter.specs.Events.{unused, zeroOrOne, level, master, goodCommand, writable, softReset, fitting, decode, decodedNumber, rawNumber, inSequence}
+use Rattle.arbiter.specs.Events.{zeroOrOne, level, master, goodCommand, writable, softReset, decode, decodedNumber, rawNumber, inSequence}
 use Rattle.arbiter.specs.Events.{acknowledged, outcome, outcomeNumber}
 use Rattle.arbiter.specs.Effects.{afterWrite, commanded, writeRisen, written, paired, empties, readerSide, senderSide, wasRead, intInFallen, lined, freshSide}
 use Rattle.arbiter.specs.Effects.{freshBus, freshArb, wasReset, holdAsked, effect}
@@ -35,172 +34,26 @@ use Rattle.arbiter.specs.declared.Device.{Device}
 use Rattle.arbiter.specs.declared.Raw.{Raw}
 use Rattle.arbiter.specs.declared.Clock.the-variants.{NoClock}
 use Rattle.arbiter.specs.declared.Event.{Event}
-use Rattle.arbiter.specs.declared.Event.the-variants.{Command, Write, Read, Stop, Pair, Lines, Tick, Pulse, Reset, GeneralCall}
+use Rattle.arbiter.specs.declared.Event.the-variants.{Command, Write, Read, Stop, Pair, Lines, Pulse, Reset, GeneralCall}
 use Rattle.arbiter.specs.declared.Decoded.{Decoded}
 use Rattle.arbiter.specs.declared.Decoded.the-variants.{Reads, UnknownKind, BadField}
 use Rattle.arbiter.specs.declared.Outcome.the-variants.{Done, NotAcknowledged, OutOfSequence}
 use Rattle.arbiter.specs.declared.Answer.{Answer}
-use Rattle.arbiter.specs.declared.Stepped.{Stepped}
-use Rattle.arbiter.proofs.Choice.{not-true}
 use Rattle.events.proofs.Numbers.{raw-told}
 use Rattle.arbitration.specs.Cleared.{groundIn}
 use Rattle.arbitration.specs.Quiet.{noLoss}
 use Rattle.step.specs.Carried.{partsThreeToSeven, steppedWith, kept}
 use Rattle.light.specs.Light.{Settled}
-use Rattle.light.specs.Ended.{leavesTurn, writeIsLight, linedBus, endsItself, keepsLines, itsEnd}
+use Rattle.light.specs.Ended.{writeIsLight, linedBus, endsItself, keepsLines, itsEnd}
 use Rattle.light.specs.Turns.{sideGranted, arbGranted, isContr, isNobody}
 use Rattle.light.proofs.Fits.{fits-self, fits-settles, same-lines}
 use Rattle.light.proofs.Light.{written-sides, paired-sides}
 use Rattle.light.proofs.Ended.{ended-is-step}
 use Rattle.light.proofs.Turns.{granted-at-stop, claimed-by-write}
-use Rattle.traces.specs.Sides.{kindTold, byteIsLight, linesShown, deviceOf}
-use Rattle.traces.specs.Turns.{stopGrants, grantedBits, byteClaims}
+use Rattle.traces.specs.Sides.{byteIsLight, linesShown, deviceOf}
+use Rattle.traces.specs.Turns.{grantedBits}
 use Rattle.traces.proofs.Owners.{nobody-foreign, owner-waits, waits-below, claimed-byte}
-
--- ---- two sides in an array
-
--- what the code would find past the end of it
-abbrev pub noSide : Side
-noSide =
-    record {
-      pointer = Id;
-      rt = 0;
-      contr = record { priority = false; smbusdis = false; idletimer = false; swrst = false; businit = false; busconnect = false; lockreq = false };
-      ints = 0;
-      mail = record { low = 0; high = 0; full = false };
-      auto = false;
-      port = Rest;
-      mask = 0;
-    }
-
-abbrev pub sideAt : List Side → ℕ → Side
-sideAt l n = getD l n noSide
-
-abbrev pub held : Kind → List Side → Bus → Arbitration → Device
-held k l b a = deviceOf k (sideAt l 0) (sideAt l 1) b a
-
-of-two : (P : List Side → Type 0) → ((s0 s1 : Side) → P (s0 ∷ s1 ∷ [])) → (l : List Side) → length l ≡ 2 → P l
-of-two P f [] h = absurd (omega (arith, h))
-of-two P f (s ∷ []) h = absurd (omega (arith, h))
-of-two P f (s0 ∷ s1 ∷ []) h = f s0 s1
-of-two P f (s0 ∷ s1 ∷ s2 ∷ l) h = absurd (omega (arith, h))
-
-by-master : (P : ℕ → Type 0) → P 0 → P 1 → (x : ℕ) → zeroOrOne x ≡ true → P x
-by-master P p q zero h = p
-by-master P p q (suc zero) h = q
-by-master P p q (suc (suc x)) h = absurd (omega (arith, ltb-true (suc (suc x)) 2 h))
-
-module _ (k : Kind) (b : Bus) (a : Arbitration) where
-  side-at : (l : List Side) (x : ℕ) → zeroOrOne x ≡ true → side (master x) (held k l b a) ≡ sideAt l (x % 2)
-  side-at l = by-master (λ x. side (master x) (held k l b a) ≡ sideAt l (x % 2)) refl refl
-
-  partner-at : (l : List Side) (x : ℕ) → zeroOrOne x ≡ true → side (partner (master x)) (held k l b a) ≡ sideAt l (1 - x % 2)
-  partner-at l = by-master (λ x. side (partner (master x)) (held k l b a) ≡ sideAt l (1 - x % 2)) refl refl
-
-  set-one : (l : List Side) → length l ≡ 2 → (x : ℕ) → zeroOrOne x ≡ true → (v : Side) → held k (set l (x % 2) v) b a ≡ withSide (master x) v (held k l b a)
-  set-one l two x h v =
-      of-two (λ m. held k (set m (x % 2) v) b a ≡ withSide (master x) v (held k m b a))
-      (λ s0 s1. by-master (λ n. held k (set (s0 ∷ s1 ∷ []) (n % 2) v) b a ≡ withSide (master n) v (held k (s0 ∷ s1 ∷ []) b a)) refl refl x h) l two
-
-  set-both : (l : List Side) → length l ≡ 2 → (x : ℕ) → zeroOrOne x ≡ true → (v w : Side) → held k (set (set l (x % 2) v) (1 - x % 2) w) b a
-      ≡ device (master x) v w b a (held k l b a)
-  set-both l two x h v w =
-      of-two (λ m. held k (set (set m (x % 2) v) (1 - x % 2) w) b a ≡ device (master x) v w b a (held k m b a))
-      (λ s0 s1. by-master (λ n. held k (set (set (s0 ∷ s1 ∷ []) (n % 2) v) (1 - n % 2) w) b a ≡ device (master n) v w b a (held k (s0 ∷ s1 ∷ []) b a)) refl refl
-      x h) l two
-
-  pub set-all : (l : List Side) → length l ≡ 2 → (v w : Side) → held k (set (set l 0 v) 1 w) b a ≡ deviceOf k v w b a
-  set-all l two v w = of-two (λ m. held k (set (set m 0 v) 1 w) b a ≡ deviceOf k v w b a) (λ s0 s1. refl) l two
-
-lines-of : (k : Kind) (s0 s1 : Side) (b : Bus) (a : Arbitration) → linesShown s0 s1 b ≡ linesByte (deviceOf k s0 s1 b a)
-unfolding linesByte
-lines-of k s0 s1 b a = refl
-
--- ---- what the tests of the code tell
-
--- a kind below 255 was told of a settled device
-pub told : (settled : Bool) (r : Raw) (w k : ℕ) → w ≡ kindTold settled r → w ≡ k → k < 255 → (settled ≡ true) × (r .kind ≡ k)
-told true r w k e f h = (refl, sym e ∙ f)
-told false r w k e f h = absurd (omega (arith, sym f ∙ e, h))
-
-pub first-holds : (p q : Bool) → p && q ≡ true → p ≡ true
-first-holds true q h = refl
-first-holds false q h = h
-
-four-hold : (p q u v : Bool) → p && q && u && v ≡ true → (p ≡ true) × (q ≡ true) × (u ≡ true) × (v ≡ true)
-four-hold true true true v h = (refl, refl, refl, h)
-four-hold true true false v h = absurd (false≢true h)
-four-hold true false u v h = absurd (false≢true h)
-four-hold false q u v h = absurd (false≢true h)
-
--- what the two tests for a move of the turn tell
-pub stop-told : (what : ℕ) (r : Raw) (b : Bus) (a : Arbitration) (s : Side) → stopGrants what r b a s ≡ true
-    → (what ≡ 3) × (zeroOrOne (r .x) && unused (r .y) && unused (r .z) ≡ true) × (not (atRest (s .port)) ≡ true)
-    × (claimsTurn (master (r .x)) (a .turn) && eqb (b .hold) 0 ≡ true)
-stop-told what r b a s h =
-    let all = four-hold (eqb what 3) (zeroOrOne (r .x) && unused (r .y) && unused (r .z)) (not (atRest (s .port)))
-    (claimsTurn (master (r .x)) (a .turn) && eqb (b .hold) 0) h in
-    (eqb-true what 3 (all .0), all .1, all .2, all .3)
-
-pub claim-told : (what : ℕ) (r : Raw) (a : Arbitration) (s : Side) → byteClaims what r a s ≡ true
-    → (what ≡ 1) × (zeroOrOne (r .x) && unused (r .z) ≡ true) × (forWriting (s .port) ≡ true) × (isContr (s .pointer) ≡ true) × (bit 0 (r .y) ≡ true)
-    × (isNobody (a .turn) ≡ true)
-claim-told what r a s h =
-    let last = and-eq-true-iff (eqb what 1 && (zeroOrOne (r .x) && unused (r .z)) && forWriting (s .port) && isContr (s .pointer) && bit 0 (r .y))
-    (isNobody (a .turn)) .0 h in
-    let most = and-eq-true-iff (eqb what 1 && (zeroOrOne (r .x) && unused (r .z)) && forWriting (s .port) && isContr (s .pointer)) (bit 0 (r .y)) .0
-    (last .0) in
-    let all = four-hold (eqb what 1) (zeroOrOne (r .x) && unused (r .z)) (forWriting (s .port)) (isContr (s .pointer)) (most .0) in
-    (eqb-true what 1 (all .0), all .1, all .2, all .3, most .1, last .1)
-
-module _ (r : Raw) (k : ℕ) (kind : r .kind ≡ k) where
-  abbrev same : Decoded
-  same = decode (record { kind = k; x = r .x; y = r .y; z = r .z })
-
-  as-kind : decode r ≡ same
-  as-kind = ap (λ (n : ℕ). decode (record { kind = n; x = r .x; y = r .y; z = r .z })) kind
-
--- the event of a kind whose fields fit
-fitted : (e : Event) (t : Bool) → t ≡ true → fitting t e ≡ Reads e
-fitted e t h = ap (λ (b : Bool). fitting b e) h
-
-module _ (r : Raw) where
-  pub reads-command : r .kind ≡ 0 → zeroOrOne (r .x) && unused (r .z) ≡ true → decode r ≡ Reads (Command (master (r .x)) (r .y))
-  unfolding decode
-  reads-command k h = as-kind r 0 k ∙ fitted _ _ h
-
-  pub reads-write : r .kind ≡ 1 → zeroOrOne (r .x) && unused (r .z) ≡ true → decode r ≡ Reads (Write (master (r .x)) (r .y))
-  unfolding decode
-  reads-write k h = as-kind r 1 k ∙ fitted _ _ h
-
-  pub reads-read : r .kind ≡ 2 → zeroOrOne (r .x) && unused (r .y) && unused (r .z) ≡ true → decode r ≡ Reads (Read (master (r .x)))
-  unfolding decode
-  reads-read k h = as-kind r 2 k ∙ fitted _ _ h
-
-  pub reads-stop : r .kind ≡ 3 → zeroOrOne (r .x) && unused (r .y) && unused (r .z) ≡ true → decode r ≡ Reads (Stop (master (r .x)))
-  unfolding decode
-  reads-stop k h = as-kind r 3 k ∙ fitted _ _ h
-
-  pub reads-pair : r .kind ≡ 4 → unused (r .z) ≡ true → decode r ≡ Reads (Pair (r .x) (r .y))
-  unfolding decode
-  reads-pair k h = as-kind r 4 k ∙ fitted _ _ h
-
-  pub reads-lines : r .kind ≡ 5 → zeroOrOne (r .x) && zeroOrOne (r .y) && zeroOrOne (r .z) ≡ true → decode r
-      ≡ Reads (Lines (level (r .x)) (level (r .y)) (level (r .z)))
-  unfolding decode
-  reads-lines k h = as-kind r 5 k ∙ fitted _ _ h
-
-  pub reads-pulse : r .kind ≡ 7 → zeroOrOne (r .x) && unused (r .y) && unused (r .z) ≡ true → decode r ≡ Reads (Pulse (level (r .x)))
-  unfolding decode
-  reads-pulse k h = as-kind r 7 k ∙ fitted _ _ h
-
-  pub reads-reset : r .kind ≡ 8 → unused (r .x) && unused (r .y) && unused (r .z) ≡ true → decode r ≡ Reads Reset
-  unfolding decode
-  reads-reset k h = as-kind r 8 k ∙ fitted _ _ h
-
-  pub reads-call : r .kind ≡ 9 → zeroOrOne (r .x) && unused (r .z) ≡ true → decode r ≡ Reads (GeneralCall (master (r .x)) (r .y))
-  unfolding decode
-  reads-call k h = as-kind r 9 k ∙ fitted _ _ h
+use Rattle.traces.proofs.TwoSides.{sideAt, held, side-at, partner-at, set-one, set-both, set-all, lines-of}
 
 -- ---- an answer, part by part
 

@@ -1,6 +1,8 @@
 pub mod Runs
 pub mod Batch
 pub mod Owners
+pub mod TwoSides
+pub mod Asked
 pub mod Arms
 pub mod Turn
 pub mod Reading

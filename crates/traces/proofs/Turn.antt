@@ -28,7 +28,7 @@ use Rattle.traces.specs.Sides.{deviceOf}
 use Rattle.traces.specs.Ticks.{isTickRaw, AllTicks, withSame}
 use Rattle.traces.proofs.Runs.{again-device, again-out}
 use Rattle.traces.proofs.Batch.{least-both, some-one, all-from, together}
-use Rattle.traces.proofs.Arms.{sideAt, held, set-all}
+use Rattle.traces.proofs.TwoSides.{held, set-all}
 
 -- what the loop knows before event i, of n: the device is the one after i events, their answers stand before the untouched rest, and the last two answer
 -- bytes are the device's

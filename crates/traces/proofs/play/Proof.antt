@@ -17,10 +17,11 @@ use Rattle.arbiter.specs.declared.Answer.{Answer}
 use Rattle.arbiter.specs.declared.Device.{Device}
 use Rattle.step.specs.Carried.{steppedWith, kept}
 use Rattle.traces.proofs.Batch.{least-both, some-one}
-use Rattle.traces.proofs.Arms.{sideAt, held, told as told-kind, first-holds, stop-told, claim-told, reads-command, reads-write, reads-read, reads-stop}
-use Rattle.traces.proofs.Arms.{reads-pair, reads-lines, reads-pulse, reads-reset, reads-call, command-arm, stop-refused, stop-arm, write-refused}
-use Rattle.traces.proofs.Arms.{write-arm, read-emptying, read-arm, pair-refused, pair-arm, pulse-refused, lines-arm, call-arm, soft-arm, reset-arm}
-use Rattle.traces.proofs.Arms.{unread-arm, grant-room, grant-arm, claim-arm}
+use Rattle.traces.proofs.TwoSides.{sideAt, held}
+use Rattle.traces.proofs.Asked.{told as told-kind, first-holds, stop-told, claim-told, reads-command, reads-write, reads-read, reads-stop, reads-pair}
+use Rattle.traces.proofs.Asked.{reads-lines, reads-pulse, reads-reset, reads-call}
+use Rattle.traces.proofs.Arms.{command-arm, stop-refused, stop-arm, write-refused, write-arm, read-emptying, read-arm, pair-refused, pair-arm}
+use Rattle.traces.proofs.Arms.{pulse-refused, lines-arm, call-arm, soft-arm, reset-arm, unread-arm, grant-room, grant-arm, claim-arm}
 use Rattle.traces.proofs.Turn.{Known, turned, stepped-on, ticked-on, two-on}
 use Rattle.traces.proofs.play.Statement.{statement}
 use Rattle.traces.proofs.play.Tie as tie
