@@ -23,7 +23,7 @@ use printing::print_listing;
 use step::fresh;
 use text::high_digit;
 use text::low_digit;
-use traces::read_trace;
+use traces::reading::read_trace;
 
 const NAME: [u8; 5] = [b'b', b'e', b'n', b'c', b'h'];
 

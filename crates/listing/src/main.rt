@@ -6,7 +6,7 @@ use format::ANSWER_ROOM;
 use format::MOST_BYTES;
 use libc::STDIN_FILENO;
 use printing::print_listing;
-use traces::read_trace;
+use traces::reading::read_trace;
 
 const NAME: [u8; 7] = [b'l', b'i', b's', b't', b'i', b'n', b'g'];
 

@@ -18,7 +18,7 @@ use Rattle.arbiter.specs.declared.Kind.{Kind}
 use Rattle.arbiter.specs.declared.Refusal.{Refusal}
 use Rattle.arbiter.specs.declared.TraceRead.{TraceRead}
 use Rattle.arbiter.specs.declared.TraceRead.the-variants.{Accepted, Refused}
-use Rattle.traces.proofs.Reading.{Fits, accepted-fits}
+use Rattle.traces.proofs.Accepted.{Fits, accepted-fits}
 use Rattle.share.specs.declared.Totals.{Totals}
 use Rattle.share.specs.declared.Tally.{Tally}
 use Rattle.share.specs.declared.Added.{Added}

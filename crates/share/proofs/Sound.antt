@@ -18,7 +18,7 @@ use Rattle.arbiter.specs.declared.Refusal.{Refusal}
 use Rattle.arbiter.specs.declared.TraceRead.{TraceRead}
 use Rattle.arbiter.specs.declared.TraceRead.the-variants.{Accepted, Refused}
 use Rattle.arbiter.proofs.Choice.{either}
-use Rattle.traces.proofs.Reading.{accepted-fits}
+use Rattle.traces.proofs.Accepted.{accepted-fits}
 use lib.ListN.{length, drop}
 use Rattle.share.specs.declared.Totals.{Totals}
 use Rattle.share.specs.declared.Added.{Added}

@@ -16,7 +16,7 @@ use format::ANSWER_ROOM;
 use format::HEAD_BYTES;
 use format::refusal_number;
 use step::fresh;
-use traces::read_trace;
+use traces::reading::read_trace;
 
 // Totals are over so many traces at most.
 pub const MOST_TRACES: u64 = 65535;

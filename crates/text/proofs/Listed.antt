@@ -19,7 +19,7 @@ use Rattle.arbiter.specs.declared.Refusal.{Refusal}
 use Rattle.arbiter.specs.declared.Refusal.the-variants.{TraceCut, TooManyEvents, BytesAfterEnd, BadStraps, NoRoom, BadCount, UnknownPart}
 use Rattle.arbiter.specs.declared.TraceRead.{TraceRead}
 use Rattle.arbiter.specs.declared.TraceRead.the-variants.{Accepted, Refused}
-use Rattle.traces.proofs.Reading.{accepted-fits}
+use Rattle.traces.proofs.Accepted.{accepted-fits}
 use Rattle.text.specs.Written.{linesIn, refusalLine}
 use Rattle.text.proofs.Lines.{listed-length}
 

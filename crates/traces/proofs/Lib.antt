@@ -5,5 +5,5 @@ pub mod TwoSides
 pub mod Asked
 pub mod Arms
 pub mod Turn
-pub mod Reading
+pub mod Accepted
 pub mod Unique

@@ -2,7 +2,7 @@
 -- Assumes nothing.
 use denote.Ref.{now}
 use Rattle.arbiter.proofs.Once.{OneResult, OneLeft, once}
-use Rattle.traces.proofs.read_trace.Reads as read-trace
+use Rattle.traces.proofs.reading.read_trace.Reads as read-trace
 use Rattle.traces.proofs.run_events.Reads as run-events
 use Rattle.traces.proofs.run_trace.Reads as run-trace
 use Rattle.traces.proofs.answer_trace.Reads as answer-trace

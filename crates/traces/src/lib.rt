@@ -1,54 +1,48 @@
-// A trace: read from its bytes, or refused by number, and run event by event into a lent answer buffer.
+// A trace run event by event into a lent answer buffer. It is read from its bytes, or refused by number, in `reading`.
+mod raws;
+pub mod reading;
 mod sides;
 mod turns;
 
-ghost use Prim.Native.Nat.{ℕ, _+_, _-_, _*_, _≤_, _<_};
+ghost use Prim.Native.Nat.{_+_, _-_, _*_, _≤_, _<_};
 ghost use mathlib.Core.Path.{_≡_};
 ghost use mathlib.Core.Bool.{true, false};
-ghost use mathlib.Core.List.{List, _++_};
+ghost use mathlib.Core.List.{_++_};
 ghost use lib.ListN.{length, drop};
 ghost use Rattle.arbiter.specs.Steps.{step, runFrom, answersFrom};
-ghost use Rattle.arbiter.specs.Traces.{eventBytes, rawsIn, readKind, readCounted, readTrace, readNumber, bytesOf, report, bufferAfter, ran, bufferRan};
+ghost use Rattle.arbiter.specs.Traces.{eventBytes, rawsIn, bytesOf, report, bufferAfter, ran, bufferRan};
 ghost use Rattle.light.specs.Light.{Settled};
-ghost use Rattle.traces.specs.Bodies.{kindRead, ranWith, reportWith, headOf};
+ghost use Rattle.traces.specs.Bodies.{ranWith, reportWith, headOf};
 ghost use Rattle.traces.specs.Ticks.{isTickRaw, AllTicks, withSame};
 use arbiter::Answer;
 use arbiter::Device;
 use arbiter::Kind;
 use arbiter::Ran;
 use arbiter::Raw;
-use arbiter::Refusal;
 use arbiter::Report;
 use arbiter::Stepped;
-use arbiter::Strapped;
 use arbiter::TraceRead;
 use bits::least_usize;
 use bits::wide_u32;
 use bus::idle_kept;
 use fields::rolls_over;
 use format::EVENT_BYTES;
-use format::HEAD_BYTES;
-use format::KIND_COUNT;
-use format::MOST_EVENTS;
-use format::PIN_BYTES;
-use format::PIN_COUNT;
-use format::count_in;
 use format::event_at;
-use format::events_end;
 use format::events_in;
-use format::is_kind;
-use format::kind_at;
 use format::kind_byte;
-use format::kind_count_at;
-use format::kind_of;
-use format::pins_in;
 use format::put_answer;
 use format::refusal_number;
-use format::whole_bytes;
 use ports::commanded_side;
 use ports::stopped_side;
 use quiet::after_ticks;
 use quiet::settled_ticks;
+use raws::fits_byte;
+use raws::fits_levels;
+use raws::fits_none;
+use raws::fits_one;
+use raws::kind_told;
+use raws::unread_number;
+use reading::read_trace;
 use registers::empties_own;
 use registers::fallen_side;
 use registers::reader_side;
@@ -60,10 +54,6 @@ use sides::byte_read;
 use sides::commanded_number;
 use sides::device_of;
 use sides::ends_no_grant;
-use sides::fits_byte;
-use sides::fits_levels;
-use sides::fits_none;
-use sides::fits_one;
 use sides::granted_at;
 use sides::hold_asked;
 use sides::intin_fell;
@@ -71,20 +61,17 @@ use sides::is_granted_at_rest;
 use sides::is_initialising;
 use sides::is_resting;
 use sides::is_settled;
-use sides::kind_told;
 use sides::lines_shown;
 use sides::pair_side;
 use sides::paired_number;
 use sides::pairs_lightly;
 use sides::partner_written;
 use sides::takes_bytes;
-use sides::unread_number;
 use sides::writes_lightly;
 use sides::written_number;
 use step::answered;
 use step::fresh;
 use step::step_device;
-use straps::address_of;
 use turns::byte_claims;
 use turns::claimed_arb;
 use turns::granted_arb;
@@ -101,80 +88,6 @@ pub struct Head {
     pub events: usize,
     pub kind: u8,
 }
-
-// ---- reading
-
-// From the kind's byte on.
-fn kind_read(address: u8, n: u16, len: usize, kind: u8, room: usize) -> TraceRead
-    ensures { λ r. ⌜ r ≡ kindRead address n len kind room ⌝ }
-{
-    if len < whole_bytes(n) {
-        return TraceRead::Refused(Refusal::TraceCut);
-    }
-    if is_kind(kind) {
-        if whole_bytes(n) < len {
-            return TraceRead::Refused(Refusal::BytesAfterEnd);
-        }
-        if room < EVENT_BYTES * (n as usize) {
-            return TraceRead::Refused(Refusal::NoRoom);
-        }
-        return TraceRead::Accepted(address, n as usize, kind_of(kind));
-    }
-    TraceRead::Refused(Refusal::UnknownPart)
-}
-
-// From the third section on.
-fn read_kind(address: u8, n: u16, t: &[u8], room: usize) -> TraceRead
-    ensures { λ r. ⌜ r ≡ readKind address n (now (t .entry)) room ⌝ }
-{
-    if t.len() < events_end(n) + 1 {
-        return TraceRead::Refused(Refusal::TraceCut);
-    }
-    if kind_count_at(t, n) == KIND_COUNT {
-        return kind_read(address, n, t.len(), kind_at(t, n), room);
-    }
-    TraceRead::Refused(Refusal::BadCount)
-}
-
-// From the count of events on.
-fn read_counted(address: u8, t: &[u8], room: usize) -> TraceRead
-    ensures { λ r. ⌜ r ≡ readCounted address (now (t .entry)) room ⌝ }
-{
-    if t.len() < HEAD_BYTES {
-        return TraceRead::Refused(Refusal::TraceCut);
-    }
-    let n = count_in(t);
-    if MOST_EVENTS < (n as usize) {
-        return TraceRead::Refused(Refusal::TooManyEvents);
-    }
-    if t.len() < events_end(n) {
-        return TraceRead::Refused(Refusal::TraceCut);
-    }
-    read_kind(address, n, t, room)
-}
-
-// A trace and the room for its answers: accepted, or refused in the order of document 01 and request #105.
-pub fn read_trace(t: &[u8], room: usize) -> TraceRead
-    ensures { λ r. ⌜ (r ≡ readTrace (now (t .entry)) room) × ((buffer : List ℕ) → length buffer ≡ room → readNumber r ≡ report (now (t .entry)) buffer .number) ⌝ }
-{
-    if t.len() < 1 {
-        return TraceRead::Refused(Refusal::TraceCut);
-    }
-    if t[0] == PIN_COUNT {
-        if t.len() < PIN_BYTES {
-            return TraceRead::Refused(Refusal::TraceCut);
-        }
-        let strapped = address_of(pins_in(t));
-        match strapped {
-            Strapped::Address(address) => read_counted(address, t, room),
-            Strapped::Unlisted => TraceRead::Refused(Refusal::BadStraps),
-        }
-    } else {
-        TraceRead::Refused(Refusal::BadCount)
-    }
-}
-
-// ---- running
 
 // The four bytes as one number, low first: one load and one test in machine code.
 fn is_tick(r: Raw) -> bool

@@ -16,7 +16,7 @@ use Rattle.arbiter.specs.declared.Pins.{Pins}
 use Rattle.arbiter.specs.declared.Raw.{Raw}
 use Rattle.arbiter.specs.declared.TraceRead.the-variants.{Accepted}
 use Rattle.arbiter.proofs.Traces.{accepts, raws-before}
-use Rattle.traces.proofs.Reading.{Fits, accepted-fits, accepted-first}
+use Rattle.traces.proofs.Accepted.{Fits, accepted-fits, accepted-first}
 
 -- ---- events as bytes and back
 

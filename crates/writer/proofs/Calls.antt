@@ -22,7 +22,7 @@ use Rattle.arbiter.specs.declared.Strapped.the-variants.{Address, Unlisted}
 use Rattle.arbiter.specs.declared.TraceRead.{TraceRead}
 use Rattle.arbiter.specs.declared.TraceRead.the-variants.{Accepted, Refused}
 use Rattle.arbiter.proofs.Choice.{passed}
-use Rattle.traces.proofs.Reading.{Fits, accepted-fits, accepted-first}
+use Rattle.traces.proofs.Accepted.{Fits, accepted-fits, accepted-first}
 use Rattle.writer.specs.Calls.{traceLeft, WrittenReadBack, ReadWrittenBack, CallsUndo}
 use Rattle.writer.proofs.Back.{raws-length, raws-back, bytes-length, reads-back, writes-back}
 use Rattle.writer.proofs.Laws.{zero-fits}

@@ -3,7 +3,7 @@
 use mathlib.Core.Path.{sym, _∙_}
 use native.Mathlib.Omega.{arith}
 use borrow.Author.Needs.{needs}
-use Rattle.traces.proofs.Reading.{accepted-fits, part-length}
+use Rattle.traces.proofs.Accepted.{accepted-fits, part-length}
 use Rattle.bench.proofs.print_trace.Statement.{statement}
 use Rattle.bench.proofs.print_trace.Tie as tie
 

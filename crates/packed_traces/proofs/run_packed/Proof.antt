@@ -5,7 +5,7 @@ use Prim.Native.Nat.{_+_, _*_, _≤_}
 use native.Mathlib.Omega.{arith}
 use Rattle.arbiter.specs.Traces.{mostEvents}
 use Rattle.traces.specs.declared.Head.{Head}
-use Rattle.traces.proofs.Reading.{report-few}
+use Rattle.traces.proofs.Accepted.{report-few}
 use borrow.Author.Needs.{needs}
 use Rattle.packed_traces.proofs.run_packed.Statement.{statement}
 use Rattle.packed_traces.proofs.run_packed.Tie as tie

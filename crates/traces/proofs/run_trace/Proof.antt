@@ -5,7 +5,7 @@ use borrow.Author.Needs.{needs}
 use mathlib.Core.Path.{sym, subst, _∙_}
 use Rattle.light.specs.Light.{Settled}
 use Rattle.light.proofs.Settles.{settled-at-power-up}
-use Rattle.traces.proofs.Reading.{played-report, played-buffer, refused-report, refused-buffer}
+use Rattle.traces.proofs.Accepted.{played-report, played-buffer, refused-report, refused-buffer}
 use Rattle.traces.proofs.run_trace.Statement.{statement}
 use Rattle.traces.proofs.run_trace.Tie as tie
 

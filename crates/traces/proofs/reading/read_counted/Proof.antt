@@ -1,10 +1,10 @@
--- `traces::read_counted` meets its contract.
+-- `traces::reading::read_counted` meets its contract.
 -- Assumes nothing.
 use borrow.Author.Needs.{needs}
 use borrow.Author.Tests.{le-ltb, lt-ltb}
 use Rattle.arbiter.specs.Traces.{readCounted}
-use Rattle.traces.proofs.read_counted.Statement.{statement}
-use Rattle.traces.proofs.read_counted.Tie as tie
+use Rattle.traces.proofs.reading.read_counted.Statement.{statement}
+use Rattle.traces.proofs.reading.read_counted.Tie as tie
 
 returns : tie.Need-returns
 unfolding readCounted

@@ -1,8 +1,8 @@
--- `traces::sides::first_fits` meets its contract.
+-- `traces::raws::first_fits` meets its contract.
 -- Assumes nothing.
 use borrow.Author.Needs.{needs}
-use Rattle.traces.proofs.sides.first_fits.Statement.{statement}
-use Rattle.traces.proofs.sides.first_fits.Tie as tie
+use Rattle.traces.proofs.raws.first_fits.Statement.{statement}
+use Rattle.traces.proofs.raws.first_fits.Tie as tie
 
 returns : tie.Need-returns
 returns c = simp (c .pick-bool .ensures)

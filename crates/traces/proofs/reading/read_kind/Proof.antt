@@ -1,12 +1,12 @@
--- `traces::read_kind` meets its contract.
+-- `traces::reading::read_kind` meets its contract.
 -- Assumes nothing.
 use mathlib.Core.Path.{sym, _∙_}
 use borrow.Author.Needs.{needs}
 use borrow.Author.Tests.{eq-eqb, le-ltb, lt-ltb, ne-eqb}
 use Rattle.arbiter.specs.Traces.{readKind}
 use Rattle.traces.specs.Bodies.{kindRead}
-use Rattle.traces.proofs.read_kind.Statement.{statement}
-use Rattle.traces.proofs.read_kind.Tie as tie
+use Rattle.traces.proofs.reading.read_kind.Statement.{statement}
+use Rattle.traces.proofs.reading.read_kind.Tie as tie
 
 returns : tie.Need-returns
 unfolding readKind

@@ -1,11 +1,11 @@
--- `traces::read_trace` meets its contract.
+-- `traces::reading::read_trace` meets its contract.
 -- Assumes nothing.
 use borrow.Author.Tests.{eq-eqb, le-ltb, lt-ltb, ne-eqb}
 use Rattle.arbiter.specs.Traces.{readTrace, readStrapped}
 use borrow.Author.Needs.{needs}
-use Rattle.traces.proofs.Reading.{numbered}
-use Rattle.traces.proofs.read_trace.Statement.{statement}
-use Rattle.traces.proofs.read_trace.Tie as tie
+use Rattle.traces.proofs.Accepted.{numbered}
+use Rattle.traces.proofs.reading.read_trace.Statement.{statement}
+use Rattle.traces.proofs.reading.read_trace.Tie as tie
 
 returns : tie.Need-returns
 unfolding readTrace readStrapped

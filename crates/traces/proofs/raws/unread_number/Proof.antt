@@ -1,10 +1,10 @@
--- `traces::sides::unread_number` meets its contract.
+-- `traces::raws::unread_number` meets its contract.
 -- Assumes nothing.
 use borrow.Author.Tests.{lt-ltb, le-ltb}
 use Rattle.arbiter.specs.Events.{rawNumber}
 use borrow.Author.Needs.{needs}
-use Rattle.traces.proofs.sides.unread_number.Statement.{statement}
-use Rattle.traces.proofs.sides.unread_number.Tie as tie
+use Rattle.traces.proofs.raws.unread_number.Statement.{statement}
+use Rattle.traces.proofs.raws.unread_number.Tie as tie
 
 returns : tie.Need-returns
 unfolding rawNumber

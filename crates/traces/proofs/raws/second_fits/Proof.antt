@@ -1,8 +1,8 @@
--- `traces::sides::second_fits` meets its contract.
+-- `traces::raws::second_fits` meets its contract.
 -- Assumes nothing.
 use borrow.Author.Needs.{needs}
-use Rattle.traces.proofs.sides.second_fits.Statement.{statement}
-use Rattle.traces.proofs.sides.second_fits.Tie as tie
+use Rattle.traces.proofs.raws.second_fits.Statement.{statement}
+use Rattle.traces.proofs.raws.second_fits.Tie as tie
 
 returns : tie.Need-returns
 returns c = simp (c .pick-bool .ensures)

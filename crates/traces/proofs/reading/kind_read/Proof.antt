@@ -1,11 +1,11 @@
--- `traces::kind_read` meets its contract.
+-- `traces::reading::kind_read` meets its contract.
 -- Assumes nothing.
 use mathlib.Core.Path.{sym, _∙_}
 use borrow.Author.Needs.{needs}
 use borrow.Author.Tests.{le-ltb, lt-ltb}
 use Rattle.traces.specs.Bodies.{kindRead}
-use Rattle.traces.proofs.kind_read.Statement.{statement}
-use Rattle.traces.proofs.kind_read.Tie as tie
+use Rattle.traces.proofs.reading.kind_read.Statement.{statement}
+use Rattle.traces.proofs.reading.kind_read.Tie as tie
 
 returns : tie.Need-returns
 unfolding kindRead
