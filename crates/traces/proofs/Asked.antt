@@ -1,6 +1,6 @@
--- What the tests of the loop over events tell: the kind of an event in a settled device, a move of the turn, and which event four bytes are.
+-- What the tests of the loop over events tell: a move of the turn, and which event four bytes are.
 -- Assumes nothing.
-use Prim.Native.Nat.{ℕ, _<_}
+use Prim.Native.Nat.{ℕ}
 use mathlib.Core.Path.{_≡_, refl, sym, ap, _∙_}
 use mathlib.Core.Bool.{Bool, true, false, not, _&&_, false≢true, and-eq-true-iff}
 use native.Mathlib.Omega.{arith}
@@ -18,13 +18,7 @@ use Rattle.arbiter.specs.declared.Event.the-variants.{Command, Write, Read, Sto
 use Rattle.arbiter.specs.declared.Decoded.{Decoded}
 use Rattle.arbiter.specs.declared.Decoded.the-variants.{Reads}
 use Rattle.light.specs.Turns.{isContr, isNobody}
-use Rattle.traces.specs.Sides.{kindTold}
 use Rattle.traces.specs.Turns.{stopGrants, byteClaims}
-
--- a kind below 255 was told of a settled device
-pub told : (settled : Bool) (r : Raw) (w k : ℕ) → w ≡ kindTold settled r → w ≡ k → k < 255 → (settled ≡ true) × (r .kind ≡ k)
-told true r w k e f h = (refl, sym e ∙ f)
-told false r w k e f h = absurd (omega (arith, sym f ∙ e, h))
 
 pub first-holds : (p q : Bool) → p && q ≡ true → p ≡ true
 first-holds true q h = refl
@@ -37,24 +31,24 @@ four-hold true false u v h = absurd (false≢true h)
 four-hold false q u v h = absurd (false≢true h)
 
 -- what the two tests for a move of the turn tell
-pub stop-told : (what : ℕ) (r : Raw) (b : Bus) (a : Arbitration) (s : Side) → stopGrants what r b a s ≡ true
-    → (what ≡ 3) × (zeroOrOne (r .x) && unused (r .y) && unused (r .z) ≡ true) × (not (atRest (s .port)) ≡ true)
+pub stop-told : (r : Raw) (b : Bus) (a : Arbitration) (s : Side) → stopGrants r b a s ≡ true
+    → (r .kind ≡ 3) × (zeroOrOne (r .x) && unused (r .y) && unused (r .z) ≡ true) × (not (atRest (s .port)) ≡ true)
     × (claimsTurn (master (r .x)) (a .turn) && eqb (b .hold) 0 ≡ true)
-stop-told what r b a s h =
-    let all = four-hold (eqb what 3) (zeroOrOne (r .x) && unused (r .y) && unused (r .z)) (not (atRest (s .port)))
+stop-told r b a s h =
+    let all = four-hold (eqb (r .kind) 3) (zeroOrOne (r .x) && unused (r .y) && unused (r .z)) (not (atRest (s .port)))
     (claimsTurn (master (r .x)) (a .turn) && eqb (b .hold) 0) h in
-    (eqb-true what 3 (all .0), all .1, all .2, all .3)
+    (eqb-true (r .kind) 3 (all .0), all .1, all .2, all .3)
 
-pub claim-told : (what : ℕ) (r : Raw) (a : Arbitration) (s : Side) → byteClaims what r a s ≡ true
-    → (what ≡ 1) × (zeroOrOne (r .x) && unused (r .z) ≡ true) × (forWriting (s .port) ≡ true) × (isContr (s .pointer) ≡ true) × (bit 0 (r .y) ≡ true)
+pub claim-told : (r : Raw) (a : Arbitration) (s : Side) → byteClaims r a s ≡ true
+    → (r .kind ≡ 1) × (zeroOrOne (r .x) && unused (r .z) ≡ true) × (forWriting (s .port) ≡ true) × (isContr (s .pointer) ≡ true) × (bit 0 (r .y) ≡ true)
     × (isNobody (a .turn) ≡ true)
-claim-told what r a s h =
-    let last = and-eq-true-iff (eqb what 1 && (zeroOrOne (r .x) && unused (r .z)) && forWriting (s .port) && isContr (s .pointer) && bit 0 (r .y))
+claim-told r a s h =
+    let last = and-eq-true-iff (eqb (r .kind) 1 && (zeroOrOne (r .x) && unused (r .z)) && forWriting (s .port) && isContr (s .pointer) && bit 0 (r .y))
     (isNobody (a .turn)) .0 h in
-    let most = and-eq-true-iff (eqb what 1 && (zeroOrOne (r .x) && unused (r .z)) && forWriting (s .port) && isContr (s .pointer)) (bit 0 (r .y)) .0
+    let most = and-eq-true-iff (eqb (r .kind) 1 && (zeroOrOne (r .x) && unused (r .z)) && forWriting (s .port) && isContr (s .pointer)) (bit 0 (r .y)) .0
     (last .0) in
-    let all = four-hold (eqb what 1) (zeroOrOne (r .x) && unused (r .z)) (forWriting (s .port)) (isContr (s .pointer)) (most .0) in
-    (eqb-true what 1 (all .0), all .1, all .2, all .3, most .1, last .1)
+    let all = four-hold (eqb (r .kind) 1) (zeroOrOne (r .x) && unused (r .z)) (forWriting (s .port)) (isContr (s .pointer)) (most .0) in
+    (eqb-true (r .kind) 1 (all .0), all .1, all .2, all .3, most .1, last .1)
 
 module _ (r : Raw) (k : ℕ) (kind : r .kind ≡ k) where
   abbrev same : Decoded

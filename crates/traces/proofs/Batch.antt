@@ -149,6 +149,36 @@ all-from i j b here all k f t = go (ltb i k) refl
     go true e = all k (omega (arith, ltb-true i k e)) t
     go false e = let same : i ≡ k = omega (arith, ltb-false i k e) in subst (λ (n : ℕ). isTickRaw (eventAt n b) ≡ true) same here
 
+-- ---- the loop over TICKs: what it knows before event at, with the buffer out, start being the one with the first answer
+
+abbrev pub Passed : List ℕ → List ℕ → ℕ → ℕ → Answer → List ℕ → ℕ → Type 0
+Passed events start i last a out at =
+    (i < at) × (at ≤ last) × (length out ≡ length start) × AllTicks (i + 1) at events × (out ≡ withSame start (i + 1) (at - (i + 1)) a)
+
+module _ (events start : List ℕ) (i last : ℕ) (a : Answer) where
+  pub passed-none : i < last → Passed events start i last a start (i + 1)
+  passed-none h = (omega arith, omega arith, refl, λ k f t. absurd (omega arith), same-none _ _ _)
+
+  pub passed-more : (out : List ℕ) (at : ℕ) → Passed events start i last a out at → at < last → isTickRaw (eventAt at events) ≡ true
+      → (next : List ℕ) → length next ≡ length out → next ≡ withAnswer out at a → (to : ℕ) → to ≡ at + 1 → Passed events start i last a next to
+  passed-more out at known within tick next same put to e = (
+    omega (arith, known .0, e),
+    omega (arith, within, e),
+    same ∙ known .2,
+    subst (λ (n : ℕ). AllTicks (i + 1) n events) (sym e) (all-more _ _ _ (known .3) tick),
+    put ∙ ap (λ (l : List ℕ). withAnswer l at a) (known .4) ∙ same-next start (i + 1) at a (omega (arith, known .0))
+        ∙ ap (λ (n : ℕ). withSame start (i + 1) (n - (i + 1)) a) (sym e),
+  )
+
+  pub passed-all : (out : List ℕ) (at : ℕ) → Passed events start i last a out at → (l : List ℕ) → start ≡ withAnswer l i a
+      → (i < at) × (at ≤ last) × AllTicks (i + 1) at events × (out ≡ withSame l i (at - i) a)
+  passed-all out at known l first = (
+    known .0,
+    known .1,
+    known .3,
+    known .4 ∙ ap (λ (m : List ℕ). withSame m (i + 1) (at - (i + 1)) a) first ∙ same-from _ _ _ _ (known .0),
+  )
+
 -- ---- j TICKs together, from the device d before event i
 
 module _ (from : Device) (b l : List ℕ) (i : ℕ) (d : Device) (out : List ℕ) (settled : Settled d) where

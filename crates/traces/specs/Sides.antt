@@ -2,7 +2,7 @@
 -- Assumes nothing.
 use Prim.Native.Nat.{ℕ, _+_}
 use mathlib.Core.Bool.{Bool, true, not, _&&_}
-use Rattle.arbiter.specs.Words.{if_then_else_, bit, worth}
+use Rattle.arbiter.specs.Words.{bit, worth}
 use Rattle.arbiter.specs.State.{sclHigh, sdaHigh, busHung}
 use Rattle.arbiter.specs.Registers.{isAsserted}
 use Rattle.arbiter.specs.declared.Master.{Master}
@@ -14,12 +14,7 @@ use Rattle.arbiter.specs.declared.Bus.{Bus}
 use Rattle.arbiter.specs.declared.Arbitration.{Arbitration}
 use Rattle.arbiter.specs.declared.Kind.{Kind}
 use Rattle.arbiter.specs.declared.Device.{Device}
-use Rattle.arbiter.specs.declared.Raw.{Raw}
 use Rattle.light.specs.Ended.{leavesTurn}
-
--- the kind of an event of a device that is told to be settled; 255 is no kind
-abbrev pub kindTold : Bool → Raw → ℕ
-kindTold settled r = if settled then r .kind else 255
 
 -- writeIsLight of crate light, from the turn, m's grant and m's BUS_CONNECT alone
 abbrev pub byteIsLight : Register → Master → Bool → ℕ → Turn → Bool → Bool

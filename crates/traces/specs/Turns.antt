@@ -15,17 +15,17 @@ use Rattle.arbiter.specs.declared.Arbitration.{Arbitration}
 use Rattle.arbiter.specs.declared.Raw.{Raw}
 use Rattle.light.specs.Turns.{switchGranted, isContr, isNobody}
 
--- an event of this told kind is a STOP that brings its master, whose side is s, the grant
-abbrev pub stopGrants : ℕ → Raw → Bus → Arbitration → Side → Bool
-stopGrants what r b a s =
-    eqb what 3 && (zeroOrOne (r .x) && unused (r .y) && unused (r .z)) && not (atRest (s .port)) && (claimsTurn (master (r .x)) (a .turn) && eqb (b .hold) 0)
+-- the event is a STOP that brings its master, whose side is s, the grant
+abbrev pub stopGrants : Raw → Bus → Arbitration → Side → Bool
+stopGrants r b a s =
+    eqb (r .kind) 3 && (zeroOrOne (r .x) && unused (r .y) && unused (r .z)) && not (atRest (s .port)) && (claimsTurn (master (r .x)) (a .turn) && eqb (b .hold) 0)
 
 -- what that grant adds to the owner byte: the owner, and the switch by its CONTR
 abbrev pub grantedBits : ℕ → Control → ℕ
 grantedBits x c =
     masterNumber (master x) + 4 * switchNumber (switchGranted (master x) c) + worth 16 (isInitialising (switchGranted (master x) c))
 
--- an event of this told kind is a byte to CONTR that makes its master, whose side is s, the claimant
-abbrev pub byteClaims : ℕ → Raw → Arbitration → Side → Bool
-byteClaims what r a s =
-    eqb what 1 && (zeroOrOne (r .x) && unused (r .z)) && forWriting (s .port) && isContr (s .pointer) && bit 0 (r .y) && isNobody (a .turn)
+-- the event is a byte to CONTR that makes its master, whose side is s, the claimant
+abbrev pub byteClaims : Raw → Arbitration → Side → Bool
+byteClaims r a s =
+    eqb (r .kind) 1 && (zeroOrOne (r .x) && unused (r .z)) && forWriting (s .port) && isContr (s .pointer) && bit 0 (r .y) && isNobody (a .turn)

@@ -1,17 +1,9 @@
-// What the four bytes of an event tell the loop over events (request #114): its kind, whether its fields fit, and the number of bytes that are no event.
+// What the four bytes of an event tell the loop over events (request #114): whether its fields fit, and the number of bytes that are no event.
 ghost use mathlib.Core.Path.{_≡_};
 ghost use mathlib.Core.Bool.{_&&_};
 ghost use Rattle.arbiter.specs.Events.{unused, zeroOrOne, firstFits, secondFits, thirdFits, rawNumber};
-ghost use Rattle.traces.specs.Sides.{kindTold};
 use arbiter::Raw;
 use bits::pick_bool;
-
-// The kind of an event in a settled device. In any other it is 255, which is no kind, and the event is stepped in full.
-pub(crate) fn kind_told(settled: bool, r: Raw) -> u8
-    ensures { λ k. ⌜ k ≡ kindTold settled r ⌝ }
-{
-    if settled { r.kind } else { 255 }
-}
 
 // A master and a byte, as COMMAND and WRITE have them.
 pub(crate) fn fits_byte(r: Raw) -> bool

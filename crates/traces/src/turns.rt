@@ -39,10 +39,10 @@ use registers::raised_in;
 // ---- the grant at a STOP
 
 // The event is a STOP that brings its master, whose side is s, the grant.
-pub(crate) fn stop_grants(what: u8, r: Raw, b: Bus, a: Arbitration, s: Side) -> bool
-    ensures { λ t. ⌜ t ≡ stopGrants what r b a s ⌝ }
+pub(crate) fn stop_grants(r: Raw, b: Bus, a: Arbitration, s: Side) -> bool
+    ensures { λ t. ⌜ t ≡ stopGrants r b a s ⌝ }
 {
-    (what == 3) & fits_one(r) & !is_resting(s) & is_granted_at_rest(r.x, b, a)
+    (r.kind == 3) & fits_one(r) & !is_resting(s) & is_granted_at_rest(r.x, b, a)
 }
 
 // The new owner's side: its port is at rest, and it is told of its grant.
@@ -135,10 +135,10 @@ fn is_nobody(t: Turn) -> bool
 }
 
 // The event is a byte to CONTR that makes its master, whose side is s, the claimant.
-pub(crate) fn byte_claims(what: u8, r: Raw, a: Arbitration, s: Side) -> bool
-    ensures { λ t. ⌜ t ≡ byteClaims what r a s ⌝ }
+pub(crate) fn byte_claims(r: Raw, a: Arbitration, s: Side) -> bool
+    ensures { λ t. ⌜ t ≡ byteClaims r a s ⌝ }
 {
-    (what == 1)
+    (r.kind == 1)
         & fits_byte(r)
         & takes_bytes(s)
         & is_contr(pointer_of(s))

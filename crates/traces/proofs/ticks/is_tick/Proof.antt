@@ -1,9 +1,9 @@
--- `traces::is_tick` meets its contract.
+-- `traces::ticks::is_tick` meets its contract.
 -- Assumes nothing.
 use borrow.Author.Needs.{needs}
 use Rattle.traces.proofs.Batch.{word-tick}
-use Rattle.traces.proofs.is_tick.Statement.{statement}
-use Rattle.traces.proofs.is_tick.Tie as tie
+use Rattle.traces.proofs.ticks.is_tick.Statement.{statement}
+use Rattle.traces.proofs.ticks.is_tick.Tie as tie
 
 returns : tie.Need-returns
 returns c =
