@@ -1,8 +1,10 @@
 //! The bus share report (request #112): full traces added to totals by the proved library, and by a plain
-//! loop over the tuned stepper that counts the same, in one run by turns. `share_rate [ROUNDS]`.
+//! loop over the tuned stepper that counts the same, in one run by turns, on all mixes or on the one of
+//! this name. `share_rate [ROUNDS [MIX]]`.
 
 use gunwaleish::{Master, Totals};
 use speed::mixes::{mixes, Mix};
+use speed::saying::say;
 use speed::timing::by_turns;
 use stepper::tuned::shared_in;
 
@@ -10,10 +12,17 @@ fn main() {
     let rounds = match std::env::args().nth(1).map(|word| word.parse::<usize>()) {
         None => 60,
         Some(Ok(rounds)) if rounds > 0 => rounds,
-        Some(_) => fail("share_rate [ROUNDS]: ROUNDS is a number from 1 on"),
+        Some(_) => fail("share_rate [ROUNDS [MIX]]: ROUNDS is a number from 1 on"),
     };
-    println!("Full traces of 4,096 events added to totals, best of {rounds} by turns:");
-    for mix in mixes().unwrap_or_else(|why| fail(&why)) {
+    let wanted = std::env::args().nth(2);
+    let is_wanted = |mix: &Mix| wanted.as_deref().is_none_or(|wanted| wanted == mix.name);
+    let mixes = mixes().unwrap_or_else(|why| fail(&why));
+    let mixes: Vec<Mix> = mixes.into_iter().filter(is_wanted).collect();
+    if mixes.is_empty() {
+        fail("share_rate: there is no mix of this name");
+    }
+    say(&format!("Full traces of 4,096 events added to totals, best of {rounds} by turns:"));
+    for mix in mixes {
         compare(&mix, rounds);
     }
 }
@@ -45,7 +54,7 @@ fn compare(mix: &Mix, rounds: usize) {
     let [zero, one] = [Master::Zero, Master::One]
         .map(|master| [proved.owned(master), proved.connected(master), proved.waited(master)]);
     assert_eq!([zero, one].concat(), plain, "both count the same");
-    println!(
+    say(&format!(
         "{:<12} proved {:>7.0} traces a second, {:.1} ns an event; plain {:>7.0}, {:.1}; ratio {:.2}",
         mix.name,
         1e9 / a,
@@ -53,5 +62,5 @@ fn compare(mix: &Mix, rounds: usize) {
         1e9 / b,
         b / 4096.0,
         b / a
-    );
+    ));
 }
