@@ -4,7 +4,7 @@
 pub const CRATES: &str = "crates.txt";
 
 pub struct Group {
-    /// `Boundary` of the comment "# Boundary: what was found packed in one number."
+    /// `Quiet time` of the comment "# Quiet time: many ticks at once."
     pub title: String,
     /// What the comment says after that.
     pub says: String,
