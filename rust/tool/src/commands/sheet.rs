@@ -21,7 +21,7 @@ pub const COMMAND: Command = Command {
     usage: "SHEET [-o OUT]\n       \
             gunwaleish sheet BOARD HOUSE [(--address HEX | --pins AD3 AD2 AD1 AD0) --part NAME\n       \
             [--script [--controller N]]] [-o OUT]",
-    help: "A sheet has 15 bytes; sheets/README.md has their layout, and gunwaleish fill makes one of a text\n\
+    help: "A sheet has 15 bytes; docs/SHEETS.md has their layout, and gunwaleish fill makes one of a text\n\
            that people write. Of one SHEET the output is that text, a line for each box and what can be\n\
            filled in; fill makes the same sheet of it again.\n\n\
            BOARD and HOUSE are the two sheets of a bundle. The output says of each box what is ordered\n\
