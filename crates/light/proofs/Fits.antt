@@ -53,6 +53,9 @@ fits-self m Nobody s = λ h. h
 fits-self m (Claims k g) s = λ e. (λ h. h, λ h. h)
 fits-self m (Owns k g) s = λ e. (refl, refl)
 
+pub alike-fits : (m : Master) (t : Turn) (s x : Side) → Alike s x → Fits m t s x
+alike-fits m t s x a = fits-on m t s s x (fits-self m t s) a
+
 -- ---- parts 3 to 7
 
 five : (a b c d e : Bool) → a && b && c && d && e ≡ true → (a ≡ true) × (b ≡ true) × (c ≡ true) × (d ≡ true) × (e ≡ true)
@@ -84,9 +87,9 @@ none-asks false false x0 x1 f g h = ap₂ (λ (a b : Bool). not a && not b) (f r
 none-asks false true x0 x1 f g h = absurd (false≢true h)
 none-asks true r1 x0 x1 f g h = absurd (false≢true h)
 
-waits : (rest x free : Bool) → (x ≡ true → rest ≡ true) → not (rest && free) ≡ true → not (x && free) ≡ true
-waits rest true free f h = ap (λ (r : Bool). not (r && free)) (sym (f refl)) ∙ h
-waits rest false free f h = refl
+waits : (rest x : Bool) (hold held : ℕ) → (x ≡ true → rest ≡ true) → held ≡ hold → not (rest && eqb hold 0) ≡ true → not (x && eqb held 0) ≡ true
+waits rest true hold held f k h = ap₂ (λ (r : Bool) (n : ℕ). not (r && eqb n 0)) (sym (f refl)) k ∙ h
+waits rest false hold held f k h = refl
 
 keeps : (limit reserve : ℕ) (b : Bus) (s x : Side) → x .rt ≡ s .rt → x .contr ≡ s .contr
     → not (if eqb (s .rt) 0 then s .contr .idletimer && eqb (b .idle) limit else eqb reserve 0 && isIdle b) ≡ true
@@ -98,74 +101,44 @@ linked-on : (d : Device) (k : Master) (s y : Side) → y .contr ≡ s .contr →
     → linked k (y .contr .busconnect) (d .arb .switch) ≡ true
 linked-on d k s y c h = ap (λ (a : Control). linked k (a .busconnect) (d .arb .switch)) c ∙ h
 
+-- d with both sides other ones, and its lines
+module _ (d : Device) (x p : Side) (b : Bus) where
+  abbrev moved : Device
+  moved = record { side0 = x; side1 = p; bus = b; arb = d .arb; kind = d .kind }
+
+  -- both sides fit, the hold on SCL stays, and the lines end no grant
+  quiet-moved : (t : Turn) → Fits Zero t (d .side0) x → Fits One t (d .side1) p → b .hold ≡ d .bus .hold → noLoss t (withBus b d) ≡ true
+      → quietFrom t false d ≡ true → quietFrom t false moved ≡ true
+  quiet-moved Nobody f a k l h =
+      let q = tests Nobody d h in
+      whole Nobody moved (q .0) refl (none-asks (d .side0 .contr .lockreq) (d .side1 .contr .lockreq) (x .contr .lockreq) (p .contr .lockreq) f a (q .2))
+      refl refl
+  quiet-moved (Claims Zero g) f a k l h =
+      let q = tests (Claims Zero g) d h in
+      whole (Claims Zero g) moved (q .0) (waits (atRest (d .side0 .port)) (atRest (x .port)) (d .bus .hold) (b .hold) (f refl .1) k (q .1))
+      (f refl .0 (q .2)) refl refl
+  quiet-moved (Claims One g) f a k l h =
+      let q = tests (Claims One g) d h in
+      whole (Claims One g) moved (q .0) (waits (atRest (d .side1 .port)) (atRest (p .port)) (d .bus .hold) (b .hold) (a refl .1) k (q .1))
+      (a refl .0 (q .2)) refl refl
+  quiet-moved (Owns Zero g) f a k l h =
+      let q = tests (Owns Zero g) d h in
+      whole (Owns Zero g) moved (linked-on d Zero (d .side0) x (f refl .1) (q .0)) refl refl refl
+      (keeps (idleLimit d) (d .arb .reserve) b (d .side0) x (f refl .0) (f refl .1) l)
+  quiet-moved (Owns One g) f a k l h =
+      let q = tests (Owns One g) d h in
+      whole (Owns One g) moved (linked-on d One (d .side1) p (a refl .1) (q .0)) refl refl refl
+      (keeps (idleLimit d) (d .arb .reserve) b (d .side1) p (a refl .0) (a refl .1) l)
+
+-- the same where the bus stays, of m's side and its partner's
 module _ (d : Device) (x p : Side) where
   abbrev after : Master → Device
   after m = device m x p (d .bus) (d .arb) d
 
-  quiet-fits : (m : Master) (t : Turn) → Fits m t (side m d) x → Alike (side (partner m) d) p → quietFrom t false d ≡ true → quietFrom t false (after m) ≡ true
-  quiet-fits Zero Nobody f a h =
-      let q = tests Nobody d h in
-      whole Nobody (after Zero) (q .0) refl (none-asks (d .side0 .contr .lockreq) (d .side1 .contr .lockreq) (x .contr .lockreq) (p .contr .lockreq) f
-      (λ e. requests (d .side1) p (a .1) ∙ e) (q .2)) refl refl
-  quiet-fits One Nobody f a h =
-      let q = tests Nobody d h in
-      whole Nobody (after One) (q .0) refl (none-asks (d .side0 .contr .lockreq) (d .side1 .contr .lockreq) (p .contr .lockreq) (x .contr .lockreq)
-      (λ e. requests (d .side0) p (a .1) ∙ e) f (q .2)) refl refl
-  quiet-fits Zero (Claims Zero g) f a h =
-      let q = tests (Claims Zero g) d h in
-      whole (Claims Zero g) (after Zero) (q .0) (waits (atRest (d .side0 .port)) (atRest (x .port)) (eqb (d .bus .hold) 0) (f refl .1) (q .1))
-      (f refl .0 (q .2)) refl refl
-  quiet-fits One (Claims One g) f a h =
-      let q = tests (Claims One g) d h in
-      whole (Claims One g) (after One) (q .0) (waits (atRest (d .side1 .port)) (atRest (x .port)) (eqb (d .bus .hold) 0) (f refl .1) (q .1)) (f refl .0 (q .2))
-      refl refl
-  quiet-fits Zero (Claims One g) f a h =
-      let q = tests (Claims One g) d h in
-      whole (Claims One g) (after Zero) (q .0) (waits (atRest (d .side1 .port)) (atRest (p .port)) (eqb (d .bus .hold) 0) (λ e. sym (a .2) ∙ e) (q .1))
-      (requests (d .side1) p (a .1) ∙ q .2) refl refl
-  quiet-fits One (Claims Zero g) f a h =
-      let q = tests (Claims Zero g) d h in
-      whole (Claims Zero g) (after One) (q .0) (waits (atRest (d .side0 .port)) (atRest (p .port)) (eqb (d .bus .hold) 0) (λ e. sym (a .2) ∙ e) (q .1))
-      (requests (d .side0) p (a .1) ∙ q .2) refl refl
-  quiet-fits Zero (Owns Zero g) f a h =
-      let q = tests (Owns Zero g) d h in
-      whole (Owns Zero g) (after Zero) (linked-on d Zero (d .side0) x (f refl .1) (q .0)) refl refl refl
-      (keeps (idleLimit d) (d .arb .reserve) (d .bus) (d .side0) x (f refl .0) (f refl .1) (q .4))
-  quiet-fits One (Owns One g) f a h =
-      let q = tests (Owns One g) d h in
-      whole (Owns One g) (after One) (linked-on d One (d .side1) x (f refl .1) (q .0)) refl refl refl
-      (keeps (idleLimit d) (d .arb .reserve) (d .bus) (d .side1) x (f refl .0) (f refl .1) (q .4))
-  quiet-fits Zero (Owns One g) f a h =
-      let q = tests (Owns One g) d h in
-      whole (Owns One g) (after Zero) (linked-on d One (d .side1) p (a .1) (q .0)) refl refl refl
-      (keeps (idleLimit d) (d .arb .reserve) (d .bus) (d .side1) p (a .0) (a .1) (q .4))
-  quiet-fits One (Owns Zero g) f a h =
-      let q = tests (Owns Zero g) d h in
-      whole (Owns Zero g) (after One) (linked-on d Zero (d .side0) p (a .1) (q .0)) refl refl refl
-      (keeps (idleLimit d) (d .arb .reserve) (d .bus) (d .side0) p (a .0) (a .1) (q .4))
-
-  -- both sides fit
-  quiet-both : (t : Turn) → Fits Zero t (d .side0) x → Fits One t (d .side1) p → quietFrom t false d ≡ true → quietFrom t false (after Zero) ≡ true
-  quiet-both Nobody f a h =
-      let q = tests Nobody d h in
-      whole Nobody (after Zero) (q .0) refl (none-asks (d .side0 .contr .lockreq) (d .side1 .contr .lockreq) (x .contr .lockreq) (p .contr .lockreq) f a (q .2))
-      refl refl
-  quiet-both (Claims Zero g) f a h =
-      let q = tests (Claims Zero g) d h in
-      whole (Claims Zero g) (after Zero) (q .0) (waits (atRest (d .side0 .port)) (atRest (x .port)) (eqb (d .bus .hold) 0) (f refl .1) (q .1))
-      (f refl .0 (q .2)) refl refl
-  quiet-both (Claims One g) f a h =
-      let q = tests (Claims One g) d h in
-      whole (Claims One g) (after Zero) (q .0) (waits (atRest (d .side1 .port)) (atRest (p .port)) (eqb (d .bus .hold) 0) (a refl .1) (q .1)) (a refl .0 (q .2))
-      refl refl
-  quiet-both (Owns Zero g) f a h =
-      let q = tests (Owns Zero g) d h in
-      whole (Owns Zero g) (after Zero) (linked-on d Zero (d .side0) x (f refl .1) (q .0)) refl refl refl
-      (keeps (idleLimit d) (d .arb .reserve) (d .bus) (d .side0) x (f refl .0) (f refl .1) (q .4))
-  quiet-both (Owns One g) f a h =
-      let q = tests (Owns One g) d h in
-      whole (Owns One g) (after Zero) (linked-on d One (d .side1) p (a refl .1) (q .0)) refl refl refl
-      (keeps (idleLimit d) (d .arb .reserve) (d .bus) (d .side1) p (a refl .0) (a refl .1) (q .4))
+  quiet-fits : (m : Master) (t : Turn) → Fits m t (side m d) x → Fits (partner m) t (side (partner m) d) p → quietFrom t false d ≡ true
+      → quietFrom t false (after m) ≡ true
+  quiet-fits Zero t f a h = quiet-moved d x p (d .bus) t f a refl (tests t d h .4) h
+  quiet-fits One t f a h = quiet-moved d p x (d .bus) t a f refl (tests t d h .4) h
 
 -- a claimant is not granted while SCL is held, whatever its port does
 not-ready : (rest free : Bool) → free ≡ false → not (rest && free) ≡ true
@@ -229,12 +202,16 @@ module _ (m : Master) (d : Device) (x p : Side) where
   unfolding levels
   same-levels still = ap (λ (b : Bus). withBus b (after d x p m)) (bus-again (d .bus) still)
 
-  pub fits-settles : Settled d → Fits m (d .arb .turn) (side m d) x → Alike (side (partner m) d) p
+  pub both-settle : Settled d → Fits m (d .arb .turn) (side m d) x → Fits (partner m) (d .arb .turn) (side (partner m) d) p
       → partsThreeToSeven false NoClock (levels false (d .bus) (after d x p m)) ≡ after d x p m
   unfolding isQuiet
-  fits-settles (still, quiet) f a =
+  both-settle (still, quiet) f a =
       ap (λ (y : Device). partsThreeToSeven false NoClock y) (same-levels still)
       ∙ sym (quiet-law false NoClock (after d x p m) (quiet-fits d x p m (d .arb .turn) f a quiet))
+
+  pub fits-settles : Settled d → Fits m (d .arb .turn) (side m d) x → Alike (side (partner m) d) p
+      → partsThreeToSeven false NoClock (levels false (d .bus) (after d x p m)) ≡ after d x p m
+  fits-settles h f a = both-settle h f (alike-fits (partner m) (d .arb .turn) (side (partner m) d) p a)
 
   pub held-settles : Settled d → x .contr ≡ (side m d) .contr → p ≡ side (partner m) d → eqb (d .bus .hold) 0 ≡ false → claimsTurn m (d .arb .turn) ≡ true
       → partsThreeToSeven false NoClock (levels false (d .bus) (after d x p m)) ≡ after d x p m
@@ -247,13 +224,6 @@ module _ (m : Master) (d : Device) (x p : Side) where
   pub same-owner : ownerByte (after d x p m) ≡ ownerByte d
   unfolding ownerByte
   same-owner = refl
-
-pub both-settle : (d : Device) (x p : Side) → Settled d → Fits Zero (d .arb .turn) (d .side0) x → Fits One (d .arb .turn) (d .side1) p
-    → partsThreeToSeven false NoClock (levels false (d .bus) (after d x p Zero)) ≡ after d x p Zero
-unfolding isQuiet
-both-settle d x p (still, quiet) f a =
-    ap (λ (y : Device). partsThreeToSeven false NoClock y) (same-levels Zero d x p still)
-    ∙ sym (quiet-law false NoClock (after d x p Zero) (quiet-both d x p (d .arb .turn) f a quiet))
 
 -- interrupts and masks that stay leave the lines byte
 module _ (d : Device) (x p : Side) where
@@ -270,32 +240,11 @@ module _ (d : Device) (x p : Side) where
 
 -- ---- LINES that end no grant
 
-module _ (d : Device) (x p : Side) (b : Bus) where
-  abbrev moved : Device
-  moved = record { side0 = x; side1 = p; bus = b; arb = d .arb; kind = d .kind }
-
-  quiet-lined : (t : Turn) → Alike (d .side0) x → Alike (d .side1) p → b .hold ≡ d .bus .hold → noLoss t (withBus b d) ≡ true → quietFrom t false d ≡ true
-      → quietFrom t false moved ≡ true
-  quiet-lined Nobody a c k l h =
-      let q = tests Nobody d h in
-      whole Nobody moved (q .0) refl (none-asks (d .side0 .contr .lockreq) (d .side1 .contr .lockreq) (x .contr .lockreq) (p .contr .lockreq)
-      (λ e. requests (d .side0) x (a .1) ∙ e) (λ e. requests (d .side1) p (c .1) ∙ e) (q .2)) refl refl
-  quiet-lined (Claims Zero g) a c k l h =
-      let q = tests (Claims Zero g) d h in
-      whole (Claims Zero g) moved (q .0) (ap₂ (λ (r : Bool) (n : ℕ). not (r && eqb n 0)) (a .2) k ∙ q .1) (requests (d .side0) x (a .1) ∙ q .2) refl refl
-  quiet-lined (Claims One g) a c k l h =
-      let q = tests (Claims One g) d h in
-      whole (Claims One g) moved (q .0) (ap₂ (λ (r : Bool) (n : ℕ). not (r && eqb n 0)) (c .2) k ∙ q .1) (requests (d .side1) p (c .1) ∙ q .2) refl refl
-  quiet-lined (Owns Zero g) a c k l h =
-      let q = tests (Owns Zero g) d h in
-      whole (Owns Zero g) moved (linked-on d Zero (d .side0) x (a .1) (q .0)) refl refl refl
-      (keeps (idleLimit d) (d .arb .reserve) b (d .side0) x (a .0) (a .1) l)
-  quiet-lined (Owns One g) a c k l h =
-      let q = tests (Owns One g) d h in
-      whole (Owns One g) moved (linked-on d One (d .side1) p (c .1) (q .0)) refl refl refl
-      (keeps (idleLimit d) (d .arb .reserve) b (d .side1) p (c .0) (c .1) l)
-
-  pub lined-settles : Settled d → Alike (d .side0) x → Alike (d .side1) p → b .hold ≡ d .bus .hold → noLoss (d .arb .turn) (withBus b d) ≡ true
-      → partsThreeToSeven false NoClock moved ≡ moved
-  unfolding isQuiet
-  lined-settles (still, quiet) a c k l = sym (quiet-law false NoClock moved (quiet-lined (d .arb .turn) a c k l quiet))
+pub lined-settles : (d : Device) (x p : Side) (b : Bus) → Settled d → Alike (d .side0) x → Alike (d .side1) p → b .hold ≡ d .bus .hold
+    → noLoss (d .arb .turn) (withBus b d) ≡ true → partsThreeToSeven false NoClock (moved d x p b) ≡ moved d x p b
+unfolding isQuiet
+lined-settles d x p b (still, quiet) a c k l =
+    let t : Turn = d .arb .turn in
+    let fits0 = alike-fits Zero t (d .side0) x a in
+    let fits1 = alike-fits One t (d .side1) p c in
+    sym (quiet-law false NoClock (moved d x p b) (quiet-moved d x p b t fits0 fits1 k l quiet))

@@ -5,16 +5,16 @@ use mathlib.Core.Bool.{Bool, true, false, not, _&&_, _||_, false≢true, or-fals
 use Prim.Native.Nat.{ℕ, _%_}
 use lib.Bits.{or-zero-r}
 use lib.Dec.{eqb}
-use Rattle.arbiter.specs.Words.{if_then_else_, bit, partner, sameMaster, side, device}
+use Rattle.arbiter.specs.Words.{if_then_else_, bit, partner, side, device}
 use Rattle.arbiter.specs.Parts.{withPort, withPointer, withAuto, withMail, withContr, withRt, withTurn, withDrives}
 use Rattle.arbiter.specs.State.{claimsTurn, ownsTurn, owns}
-use Rattle.arbiter.specs.Registers.{mailEmptiedInt, raised, controlOf, disconnected, withdraws, ownWritten, mailLow, mailHigh, mailWritten, released}
+use Rattle.arbiter.specs.Registers.{mailEmptiedInt, raised, controlOf, disconnected, withdraws, ownWritten, mailWritten, released}
 use Rattle.arbiter.specs.Registers.{drivesWritten, turnWritten}
 use Rattle.arbiter.specs.Rules.{rolls}
 use Rattle.arbiter.specs.Events.{goodCommand}
 use Rattle.arbiter.specs.Effects.{registerAt, afterRead, afterWrite, commanded, writerSide, partnerSide, writtenBus, writtenTurn, written, paired, empties}
 use Rattle.arbiter.specs.Effects.{readerSide, senderSide, wasRead, intInFallen, lined, effect}
-use Rattle.arbiter.specs.Order.{levels, losses, cut, claim, grant, connect}
+use Rattle.arbiter.specs.Order.{levels}
 use Rattle.arbiter.specs.Steps.{parts, ownerByte, linesByte}
 use Rattle.arbiter.specs.declared.Master.{Master}
 use Rattle.arbiter.specs.declared.Master.the-variants.{Zero, One}
@@ -29,11 +29,11 @@ use Rattle.arbiter.specs.declared.Device.{Device}
 use Rattle.arbiter.specs.declared.Event.{Event}
 use Rattle.arbiter.specs.declared.Event.the-variants.{Command, Write, Read, Stop, Pair, Lines, Tick, Pulse, Reset, GeneralCall}
 use Rattle.arbiter.specs.declared.Clock.the-variants.{NoClock}
-use Rattle.arbiter.proofs.Choice.{not-true}
+use Rattle.arbiter.proofs.Choice.{either, not-true}
 use Rattle.step.specs.Carried.{partsThreeToSeven}
 use Rattle.light.specs.Light.{Settled}
 use Rattle.light.specs.Ended.{leavesTurn, writeIsLight, linedBus, endsItself, keepsLines, itsEnd, EndsItself}
-use Rattle.light.proofs.Fits.{Alike, Fits, fits-on, fits-self, fits-settles, held-settles, both-settle, same-owner, same-lines, lined-settles}
+use Rattle.light.proofs.Fits.{Alike, Fits, fits-on, fits-self, alike-fits, fits-settles, held-settles, both-settle, same-owner, same-lines, lined-settles}
 
 -- what is to be shown of one event
 abbrev Alone : Event → Device → Type 0
@@ -54,21 +54,18 @@ module _ (m : Master) (c : ℕ) (d : Device) where
   opened-fits (Owns k g) true = λ e. (refl, refl)
   opened-fits (Owns k g) false = λ e. (refl, refl)
 
-  opened-ints : (good : Bool) → opened good .ints ≡ (side m d) .ints
-  opened-ints true = refl
-  opened-ints false = refl
-
-  opened-mask : (good : Bool) → opened good .mask ≡ (side m d) .mask
-  opened-mask true = refl
-  opened-mask false = refl
+  opened-shows : (good : Bool) → (opened good .ints ≡ (side m d) .ints) × (opened good .mask ≡ (side m d) .mask)
+  opened-shows true = (refl, refl)
+  opened-shows false = (refl, refl)
 
   command-alone : Settled d → Alone (Command m c) d
   unfolding parts partsThreeToSeven effect commanded itsEnd
-  command-alone h = (
-    fits-settles m d (opened (goodCommand c)) (side (partner m) d) h (opened-fits (d .arb .turn) (goodCommand c)) (refl, refl, refl),
-    same-owner m d (opened (goodCommand c)) (side (partner m) d),
-    λ k. same-lines d (opened (goodCommand c)) (side (partner m) d) m (opened-ints (goodCommand c)) (opened-mask (goodCommand c)) refl refl,
-  )
+  command-alone h =
+      let shows = opened-shows (goodCommand c) in (
+        fits-settles m d (opened (goodCommand c)) (side (partner m) d) h (opened-fits (d .arb .turn) (goodCommand c)) (refl, refl, refl),
+        same-owner m d (opened (goodCommand c)) (side (partner m) d),
+        λ k. same-lines d (opened (goodCommand c)) (side (partner m) d) m (shows .0) (shows .1) refl refl,
+      )
 
 -- ---- STOP
 
@@ -111,13 +108,9 @@ read-fits m (Claims k g) false f s = λ e. (λ q. q, λ q. absurd (false≢true 
 read-fits m (Owns k g) true f s = λ e. (refl, refl)
 read-fits m (Owns k g) false f s = λ e. (refl, refl)
 
-read-ints : (auto f : Bool) (s : Side) → readAs auto s (unread f s) .ints ≡ s .ints
-read-ints true f s = refl
-read-ints false f s = refl
-
-read-mask : (auto f : Bool) (s : Side) → readAs auto s (unread f s) .mask ≡ s .mask
-read-mask true f s = refl
-read-mask false f s = refl
+read-shows : (auto f : Bool) (s : Side) → (readAs auto s (unread f s) .ints ≡ s .ints) × (readAs auto s (unread f s) .mask ≡ s .mask)
+read-shows true f s = (refl, refl)
+read-shows false f s = (refl, refl)
 
 module _ (m : Master) (d : Device) where
   abbrev reader : Side
@@ -131,12 +124,12 @@ module _ (m : Master) (d : Device) where
 
   read-alone : Settled d → Alone (Read m) d
   unfolding parts partsThreeToSeven effect wasRead itsEnd keepsLines
-  read-alone h = (
-    fits-settles m d reader sender h (read-fits m (d .arb .turn) ((side m d) .auto) _ (side m d)) (refl, refl, refl),
-    same-owner m d reader sender,
-    λ k. same-lines d reader sender m (read-ints ((side m d) .auto) _ (side m d)) (read-mask ((side m d) .auto) _ (side m d))
-        (unraised (empties (side m d)) (not-true _ k)) refl,
-  )
+  read-alone h =
+      let shows = read-shows ((side m d) .auto) _ (side m d) in (
+        fits-settles m d reader sender h (read-fits m (d .arb .turn) ((side m d) .auto) _ (side m d)) (refl, refl, refl),
+        same-owner m d reader sender,
+        λ k. same-lines d reader sender m (shows .0) (shows .1) (unraised (empties (side m d)) (not-true _ k)) refl,
+      )
 
 -- ---- WRITE
 
@@ -164,10 +157,10 @@ own-fits : (p : Register) (m : Master) (v : ℕ) (d : Device) → writeIsLight p
 unfolding ownWritten
 own-fits Id m v d l = fits-self m (d .arb .turn) (side m d)
 own-fits Contr m v d l = contr-fits m (d .arb .turn) v (side m d) l
-own-fits Status m v d l = fits-on m (d .arb .turn) (side m d) (side m d) _ (fits-self m (d .arb .turn) (side m d)) (refl, refl, refl)
+own-fits Status m v d l = alike-fits m (d .arb .turn) (side m d) _ (refl, refl, refl)
 own-fits Rt m v d l = rt-fits m (d .arb .turn) v (side m d)
-own-fits IntStatus m v d l = fits-on m (d .arb .turn) (side m d) (side m d) _ (fits-self m (d .arb .turn) (side m d)) (refl, refl, refl)
-own-fits IntMask m v d l = fits-on m (d .arb .turn) (side m d) (side m d) _ (fits-self m (d .arb .turn) (side m d)) (refl, refl, refl)
+own-fits IntStatus m v d l = alike-fits m (d .arb .turn) (side m d) _ (refl, refl, refl)
+own-fits IntMask m v d l = alike-fits m (d .arb .turn) (side m d) _ (refl, refl, refl)
 own-fits MailLow m v d l = fits-self m (d .arb .turn) (side m d)
 own-fits MailHigh m v d l = fits-self m (d .arb .turn) (side m d)
 
@@ -184,16 +177,8 @@ mail-alike Status v s = (refl, refl, refl)
 mail-alike Rt v s = (refl, refl, refl)
 mail-alike IntStatus v s = (refl, refl, refl)
 mail-alike IntMask v s = (refl, refl, refl)
-mail-alike MailLow v s = go (s .mail .full)
-  where
-    go : (full : Bool) → Alike s (if full then s else mailLow v s)
-    go true = (refl, refl, refl)
-    go false = (refl, refl, refl)
-mail-alike MailHigh v s = go (s .mail .full)
-  where
-    go : (full : Bool) → Alike s (if full then s else mailHigh v s)
-    go true = (refl, refl, refl)
-    go false = (refl, refl, refl)
+mail-alike MailLow v s = either (Alike s) (s .mail .full) (λ h. (refl, refl, refl)) (λ h. (refl, refl, refl))
+mail-alike MailHigh v s = either (Alike s) (s .mail .full) (λ h. (refl, refl, refl)) (λ h. (refl, refl, refl))
 
 drives-stay : (p : Register) (m : Master) (v : ℕ) (d : Device) → writeIsLight p m v d ≡ true
     → drivesWritten (owns m d) ((side m d) .contr .busconnect) p v (d .bus) ≡ d .bus
@@ -270,7 +255,7 @@ module _ (v0 v1 : ℕ) (d : Device) (l0 : writeIsLight (d .side0 .pointer) Zero 
   unfolding parts partsThreeToSeven effect itsEnd keepsLines
   pair-alone h = (
     ap (λ (x : Device). partsThreeToSeven false NoClock (levels false (d .bus) x)) paired-sides
-        ∙ both-settle d pair0 pair1 h
+        ∙ both-settle Zero d pair0 pair1 h
         (fits-on Zero (d .arb .turn) (d .side0) (writerSide Zero v0 d) pair0 (writer-fits Zero v0 d l0)
         (mail-alike (d .side1 .pointer) v1 (writerSide Zero v0 d)))
         (fits-on One (d .arb .turn) (d .side1) (writerSide One v1 d) pair1 (writer-fits One v1 d l1) (mail-alike (d .side0 .pointer) v0 (writerSide One v1 d)))
