@@ -23,7 +23,8 @@ use Rattle.arbiter.specs.declared.Decoded.the-variants.{Reads, UnknownKind, Bad
 use Rattle.arbiter.specs.declared.Outcome.{Outcome}
 use Rattle.arbiter.specs.declared.Outcome.the-variants.{OutOfSequence}
 use Rattle.arbiter.proofs.Choice.{either, if-true}
-use Rattle.ranges.proofs.Fits.{Ok, step-ok}
+use Rattle.ranges.proofs.Fields.{Ok}
+use Rattle.ranges.proofs.Fits.{step-ok}
 use Rattle.ranges.proofs.Ranges.{Any, in-range, stays-in-range}
 use Rattle.layout.specs.Layout.{imageOf, deviceIn}
 use Rattle.layout.specs.Images.{isImage, imageAnswer, imageAfter, imageRun, imageAnswers}
@@ -61,7 +62,7 @@ below v top h = let most : v ≤ top = leb-true v top h in omega arith
 few-pulses : (d : Device) (r : Raw) → inRange d ≡ true → pulses (step d r .device .arb .switch) < 9
 few-pulses d r h =
     let (ints0, (mask0, (ints1, (mask1, (hold, (idle, (scl, (sda, (pulsed, _))))))))) = held d h .0 in
-    let fits : Ok Any tt (λ n b. tt) d = record {
+    let fits : Ok Any d = record {
       zero = (below (d .side0 .ints) 63 ints0, below (d .side0 .mask) 127 mask0, tt, (tt, tt));
       one = (below (d .side1 .ints) 63 ints1, below (d .side1 .mask) 127 mask1, tt, (tt, tt));
       bus = (below (d .bus .hold) 35 hold, below (d .bus .idle) (idleLimit d) idle, below (d .bus .lowscl) 500 scl, below (d .bus .lowsda) 501 sda);

@@ -27,7 +27,8 @@ use Rattle.arbiter.proofs.Choice.{split}
 use Rattle.arbiter.proofs.Runs.{never-comes, now, hence}
 use Rattle.arbiter.proofs.Settled.{Ready, all-ready}
 use Rattle.arbiter.proofs.Tenure.{Owned, next-owned, run-owned}
-use Rattle.ranges.proofs.Fits.{Ok, step-ok, power-up-ok}
+use Rattle.ranges.proofs.Fields.{Ok}
+use Rattle.ranges.proofs.Fits.{step-ok, power-up-ok}
 use Rattle.ranges.proofs.Ranges.{Any}
 use Rattle.share.proofs.Numbers.{larger-right, larger-most}
 use Rattle.audit.proofs.Places.{hold-next}
@@ -92,7 +93,7 @@ module _ (m : Master) (most more h b : ℕ) (some : 1 ≤ most) (held : h + more
 -- ---- the statements
 
 -- a hold is of 35 ticks at most,
-held-most : (rs : List Raw) (d : Device) → Ok Any tt (λ n b. tt) d → throughout (heldWithin 35) d rs ≡ true
+held-most : (rs : List Raw) (d : Device) → Ok Any d → throughout (heldWithin 35) d rs ≡ true
 unfolding throughout
 held-most [] d o = lt-ltb (d .bus .hold) 36 (o .bus .0)
 held-most (r ∷ rs) d o = ap₂ _&&_ (lt-ltb (d .bus .hold) 36 (o .bus .0)) (held-most rs (next d r) (step-ok Any tt (λ n b. tt) d r (tt, tt) o))

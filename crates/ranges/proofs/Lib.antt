@@ -1,8 +1,12 @@
+pub mod Fields
+pub mod EffectFits
+pub mod OrderFits
 pub mod Fits
 pub mod Ranges
 pub mod Outputs
 pub mod RangeWitnesses
 pub mod Exact
+pub mod OwnByte
 pub mod Pairs
 pub mod ExactWitnesses
 pub mod Answers

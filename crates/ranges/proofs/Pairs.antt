@@ -10,108 +10,19 @@ use Rattle.ranges.specs.Names.{ℕ, _-_, _/_, _%_, Bool, true, false, no
 use Rattle.ranges.specs.Names.{Id, Contr, Status, Rt, IntStatus, IntMask, MailLow, MailHigh, Control, Side, Bus, Device}
 use Rattle.arbiter.specs.Rules.{rolls}
 use Rattle.arbiter.specs.Words.{if_then_else_, bit, partner}
-use Rattle.arbiter.specs.Parts.{withBusConnect, withPointer, withInts, withMail, withTurn}
+use Rattle.arbiter.specs.Parts.{withInts, withMail, withTurn}
 use Rattle.arbiter.specs.State.{ownsTurn, owns}
-use Rattle.arbiter.specs.Registers.{registerNumber, testInt, mailFullInt, raised, cleared, withdraws, controlOf, mailLow, mailHigh, ownWritten, mailWritten}
+use Rattle.arbiter.specs.Registers.{registerNumber, testInt, mailFullInt, raised, withdraws, mailLow, mailHigh, ownWritten, mailWritten}
 use Rattle.arbiter.specs.Registers.{drivesWritten, turnWritten}
-use Rattle.arbiter.specs.Effects.{afterWrite, writeRisen, writerSide, writtenBus, written, paired}
+use Rattle.arbiter.specs.Effects.{writeRisen, writerSide, writtenBus, written, paired}
 use Rattle.arbiter.specs.Steps.{run}
 use Rattle.ranges.specs.Exact.{clashes, PairAsWrites, PairEitherOrder, ClashEndsSet}
 use Rattle.arbiter.proofs.Choice.{either, not-true}
 use Rattle.arbiter.proofs.Every.{every, every-at}
-use Rattle.ranges.proofs.Fits.{raised-fits, cleared-fits}
+use Rattle.arbiter.proofs.Ended.{turn-left}
+use Rattle.ranges.proofs.Fields.{raised-fits, cleared-fits}
 use Rattle.ranges.proofs.Outputs.{side-fits}
-
--- ---- a side's own byte, field by field
-
-abbrev ownRt : Bool → Register → ℕ → ℕ → ℕ
-ownRt g Id v n = n
-ownRt g Contr v n = n
-ownRt g Status v n = n
-ownRt g Rt v n = if g then n else v
-ownRt g IntStatus v n = n
-ownRt g IntMask v n = n
-ownRt g MailLow v n = n
-ownRt g MailHigh v n = n
-
-abbrev ownContr : Bool → Register → ℕ → Control → Control
-ownContr g Id v c = c
-ownContr g Contr v c = if withdraws g v then withBusConnect false (controlOf v) else controlOf v
-ownContr g Status v c = c
-ownContr g Rt v c = c
-ownContr g IntStatus v c = c
-ownContr g IntMask v c = c
-ownContr g MailLow v c = c
-ownContr g MailHigh v c = c
-
-abbrev ownInts : Register → ℕ → ℕ → ℕ
-ownInts Id v i = i
-ownInts Contr v i = i
-ownInts Status v i = raised testInt (bit 5 v) i
-ownInts Rt v i = i
-ownInts IntStatus v i = cleared v i
-ownInts IntMask v i = i
-ownInts MailLow v i = i
-ownInts MailHigh v i = i
-
-abbrev ownMask : Register → ℕ → ℕ → ℕ
-ownMask Id v n = n
-ownMask Contr v n = n
-ownMask Status v n = n
-ownMask Rt v n = n
-ownMask IntStatus v n = n
-ownMask IntMask v n = v % 128
-ownMask MailLow v n = n
-ownMask MailHigh v n = n
-
--- the side after it, its pointer p
-abbrev shaped : Register → Bool → Register → ℕ → Side → Side
-shaped p g r v s =
-    record {
-      pointer = p;
-      rt = ownRt g r v (s .rt);
-      contr = ownContr g r v (s .contr);
-      ints = ownInts r v (s .ints);
-      mail = s .mail;
-      auto = s .auto;
-      port = s .port;
-      mask = ownMask r v (s .mask);
-    }
-
-own-shaped : (g : Bool) (r : Register) (v : ℕ) (s : Side) → ownWritten g r v s ≡ shaped (s .pointer) g r v s
-unfolding ownWritten
-own-shaped g Id v s = refl
-own-shaped g Contr v s = go (withdraws g v)
-  where
-    put : Control → Side
-    put c = record { pointer = s .pointer; rt = s .rt; contr = c; ints = s .ints; mail = s .mail; auto = s .auto; port = s .port; mask = s .mask }
-
-    go : (b : Bool) → (if b then put (withBusConnect false (controlOf v)) else put (controlOf v))
-        ≡ put (if b then withBusConnect false (controlOf v) else controlOf v)
-    go true = refl
-    go false = refl
-own-shaped g Status v s = refl
-own-shaped true Rt v s = refl
-own-shaped false Rt v s = refl
-own-shaped g IntStatus v s = refl
-own-shaped g IntMask v s = refl
-own-shaped g MailLow v s = refl
-own-shaped g MailHigh v s = refl
-
-abbrev risen : Bool → Side → Register
-risen rolls s = if s .auto then afterWrite rolls (s .pointer) else s .pointer
-
-risen-shaped : (rolls : Bool) (s : Side) → writeRisen rolls s ≡ withPointer (risen rolls s) s
-risen-shaped rolls s = go (s .auto)
-  where
-    go : (b : Bool) → (if b then withPointer (afterWrite rolls (s .pointer)) s else s)
-        ≡ withPointer (if b then afterWrite rolls (s .pointer) else s .pointer) s
-    go true = refl
-    go false = refl
-
--- so of the whole
-writer-shaped : (rolls g : Bool) (r : Register) (v : ℕ) (s : Side) → writeRisen rolls (ownWritten g r v s) ≡ shaped (risen rolls s) g r v s
-writer-shaped rolls g r v s = risen-shaped rolls (ownWritten g r v s) ∙ ap (λ (x : Side). withPointer (risen rolls x) x) (own-shaped g r v s)
+use Rattle.ranges.proofs.OwnByte.{ownInts, shaped, risen, writer-shaped}
 
 -- ---- bit 5 of INT_STATUS
 
@@ -208,19 +119,8 @@ mail-face IntMask v s = refl
 mail-face MailLow v s = either (λ (x : Side). face x ≡ face s) (s .mail .full) (λ h. refl) (λ h. refl)
 mail-face MailHigh v s = either (λ (x : Side). face x ≡ face s) (s .mail .full) (λ h. refl) (λ h. refl)
 
--- the byte of one who does not own leaves the turn and the drives
-turn-left : (r : Register) (v : ℕ) (t : Turn) → turnWritten false r v t ≡ t
-unfolding turnWritten
-turn-left Id v t = refl
-turn-left Contr v t = refl
-turn-left Status v t = refl
-turn-left Rt v t = refl
-turn-left IntStatus v t = refl
-turn-left IntMask v t = refl
-turn-left MailLow v t = refl
-turn-left MailHigh v t = refl
-
-drives-left : (c : Bool) (r : Register) (v : ℕ) (b : Bus) → drivesWritten false c r v b ≡ b
+-- the byte of one who does not own leaves the drives
+pub drives-left : (c : Bool) (r : Register) (v : ℕ) (b : Bus) → drivesWritten false c r v b ≡ b
 unfolding drivesWritten
 drives-left c Id v b = refl
 drives-left c Contr v b = refl
@@ -252,33 +152,13 @@ other-owns Zero r v (Owns One g) = ap (ownsTurn One) (turn-left r v (Owns One g)
 other-owns One r v (Owns Zero g) = ap (ownsTurn Zero) (turn-left r v (Owns Zero g))
 other-owns One r v (Owns One g) = turn-either (λ (t : Turn). ownsTurn Zero t ≡ false) true r v (Owns One g) refl refl
 
--- at most one owns, so that the bus and the turn have one byte to go by
-module _ (r0 r1 : Register) (v0 v1 : ℕ) where
-  neither : (c0 c1 : Bool) (b : Bus)
-      → drivesWritten false c1 r1 v1 (drivesWritten false c0 r0 v0 b) ≡ drivesWritten false c0 r0 v0 (drivesWritten false c1 r1 v1 b)
-  neither c0 c1 b =
-      drives-left c1 r1 v1 (drivesWritten false c0 r0 v0 b) ∙ drives-left c0 r0 v0 b
-      ∙ sym (drives-left c0 r0 v0 (drivesWritten false c1 r1 v1 b) ∙ drives-left c1 r1 v1 b)
-
-  bus-either : (t : Turn) (c0 c1 : Bool) (b : Bus)
-      → drivesWritten (ownsTurn One t) c1 r1 v1 (drivesWritten (ownsTurn Zero t) c0 r0 v0 b)
-      ≡ drivesWritten (ownsTurn Zero t) c0 r0 v0 (drivesWritten (ownsTurn One t) c1 r1 v1 b)
-  bus-either Nobody c0 c1 b = neither c0 c1 b
-  bus-either (Claims m g) c0 c1 b = neither c0 c1 b
-  bus-either (Owns Zero g) c0 c1 b = drives-left c1 r1 v1 _ ∙ ap (drivesWritten true c0 r0 v0) (sym (drives-left c1 r1 v1 b))
-  bus-either (Owns One g) c0 c1 b = ap (drivesWritten true c1 r1 v1) (drives-left c0 r0 v0 b) ∙ sym (drives-left c0 r0 v0 _)
-
-  unturned : (t : Turn) → turnWritten false r1 v1 (turnWritten false r0 v0 t) ≡ turnWritten false r0 v0 (turnWritten false r1 v1 t)
-  unturned t =
-      turn-left r1 v1 (turnWritten false r0 v0 t) ∙ turn-left r0 v0 t ∙ sym (turn-left r0 v0 (turnWritten false r1 v1 t) ∙ turn-left r1 v1 t)
-
-  turns-either : (t : Turn)
-      → turnWritten (ownsTurn One t) r1 v1 (turnWritten (ownsTurn Zero t) r0 v0 t)
-      ≡ turnWritten (ownsTurn Zero t) r0 v0 (turnWritten (ownsTurn One t) r1 v1 t)
-  turns-either Nobody = unturned Nobody
-  turns-either (Claims m g) = unturned (Claims m g)
-  turns-either (Owns Zero g) = turn-left r1 v1 _ ∙ ap (turnWritten true r0 v0) (sym (turn-left r1 v1 (Owns Zero g)))
-  turns-either (Owns One g) = ap (turnWritten true r1 v1) (turn-left r0 v0 (Owns One g)) ∙ sym (turn-left r0 v0 _)
+-- at most one owns, so that the bus and the turn have one byte to go by: two writes of which each does nothing unless its master owns
+owner-alone : {X : Type 0} (w0 w1 : Bool → X → X) → ((x : X) → w0 false x ≡ x) → ((x : X) → w1 false x ≡ x) → (t : Turn) (x : X)
+    → w1 (ownsTurn One t) (w0 (ownsTurn Zero t) x) ≡ w0 (ownsTurn Zero t) (w1 (ownsTurn One t) x)
+owner-alone w0 w1 left0 left1 Nobody x = left1 (w0 false x) ∙ left0 x ∙ sym (left0 (w1 false x) ∙ left1 x)
+owner-alone w0 w1 left0 left1 (Claims m g) x = left1 (w0 false x) ∙ left0 x ∙ sym (left0 (w1 false x) ∙ left1 x)
+owner-alone w0 w1 left0 left1 (Owns Zero g) x = left1 (w0 true x) ∙ ap (w0 true) (sym (left1 x))
+owner-alone w0 w1 left0 left1 (Owns One g) x = ap (w1 true) (left0 x) ∙ sym (left0 (w1 true x))
 
 -- ---- both
 
@@ -319,8 +199,11 @@ module _ (v0 v1 : ℕ) (d : Device) (h0 : d .side0 .ints < 64) (h1 : d .side1 .i
       let c0 : Bool = d .side0 .contr .busconnect in
       let c1 : Bool = d .side1 .contr .busconnect in
       let bus =
-      bus-either p0 p1 v0 v1 t c0 c1 (d .bus) ∙ λ i. drivesWritten (sym o i) (sym f i .1 .busconnect) (sym f i .0) v0 (writtenBus One v1 d (d .bus)) in
-      let turn = turns-either p0 p1 v0 v1 t ∙ λ i. turnWritten (sym o i) (sym f i .0) v0 (turnWritten (owns One d) p1 v1 t) in
+      owner-alone (λ g b. drivesWritten g c0 p0 v0 b) (λ g b. drivesWritten g c1 p1 v1 b) (drives-left c0 p0 v0) (drives-left c1 p1 v1) t (d .bus)
+      ∙ λ i. drivesWritten (sym o i) (sym f i .1 .busconnect) (sym f i .0) v0 (writtenBus One v1 d (d .bus)) in
+      let turn =
+      owner-alone (λ g u. turnWritten g p0 v0 u) (λ g u. turnWritten g p1 v1 u) (turn-left p0 v0) (turn-left p1 v1) t t
+      ∙ λ i. turnWritten (sym o i) (sym f i .0) v0 (turnWritten (owns One d) p1 v1 t) in
       let same = ap₂ (λ (g : Bool) (r : Register). writeRisen (rolls d) (ownWritten g r v0 x)) (sym o) (ap (λ y. y .0) (sym f)) in
       λ i. record {
         side0 = (side-either (rolls d) (owns Zero d) p0 v0 v1 (d .side0) h0 p1 c ∙ same) i;

@@ -9,22 +9,23 @@ use Rattle.ranges.specs.Names.{ℕ, _-_, List, [], _∷_, ltb, Kind, Dev
 use Rattle.arbiter.specs.Steps.{run}
 use Rattle.arbiter.specs.AuditWords.{next}
 use Rattle.ranges.specs.Ranges.{narrow, bytes, allFit, inRange, isBytes, areBytes, InRange, NarrowInRange, StaysInRange}
-use Rattle.ranges.proofs.Fits.{fit-all, all-fit, Ok, RawOk, step-ok, RawsOk, run-ok, ok-narrow}
+use Rattle.ranges.proofs.Fields.{fit-all, all-fit, Ok, ok-narrow}
+use Rattle.ranges.proofs.Fits.{RawOk, step-ok, RawsOk, run-ok}
 
 -- ---- of any events
 
 abbrev pub Any : ℕ → Type 0
 Any n = Unit {0}
 
-any-raws : (rs : List Raw) → RawsOk Any tt (λ n b. tt) rs
+any-raws : (rs : List Raw) → RawsOk Any rs
 any-raws [] = tt
 any-raws (r ∷ rs) = ((tt, tt), any-raws rs)
 
-pub any-ok : (k : Kind) (rs : List Raw) → Ok Any tt (λ n b. tt) (run k rs)
+pub any-ok : (k : Kind) (rs : List Raw) → Ok Any (run k rs)
 any-ok k rs = run-ok Any tt (λ n b. tt) k rs (any-raws rs)
 
 pub narrow-in-range : NarrowInRange
-narrow-in-range k rs = ok-narrow Any tt (λ n b. tt) (run k rs) (any-ok k rs)
+narrow-in-range k rs = ok-narrow Any (run k rs) (any-ok k rs)
 
 -- ---- of events in bytes
 
@@ -39,7 +40,7 @@ byte-less n h = omega arith
 
 -- every number in its range
 abbrev Fits : Device → Type 0
-Fits d = Ok Byte byte-none byte-less d
+Fits d = Ok Byte d
 
 fits-in : (d : Device) → Fits d → inRange d ≡ true
 unfolding inRange
@@ -47,7 +48,7 @@ fits-in d h =
     let (_, _, rt0, (low0, high0)) = h .zero in
     let (_, _, rt1, (low1, high1)) = h .one in
     let (_, reserve) = h .arb in
-    ap₂ _&&_ (ok-narrow Byte byte-none byte-less d h)
+    ap₂ _&&_ (ok-narrow Byte d h)
     (fit-all bytes d (omega arith, (omega arith, (omega arith, (omega arith, (omega arith, (omega arith, (omega arith, tt))))))))
 
 in-fits : (d : Device) → inRange d ≡ true → Fits d
@@ -63,13 +64,13 @@ in-fits d h =
       arb = (pulsed, reserve);
     }
 
-raw-bytes : (r : Raw) → isBytes r ≡ true → RawOk Byte byte-none byte-less r
+raw-bytes : (r : Raw) → isBytes r ≡ true → RawOk Byte r
 raw-bytes r h =
     let outer = and-eq-true-iff (ltb (r .kind) 256 && ltb (r .x) 256 && ltb (r .y) 256) (ltb (r .z) 256) .0 h in
     let inner = and-eq-true-iff (ltb (r .kind) 256 && ltb (r .x) 256) (ltb (r .y) 256) .0 (outer .0) in
     (ltb-true (r .x) 256 (and-eq-true-iff (ltb (r .kind) 256) (ltb (r .x) 256) .0 (inner .0) .1), ltb-true (r .y) 256 (inner .1))
 
-raws-bytes : (rs : List Raw) → areBytes rs ≡ true → RawsOk Byte byte-none byte-less rs
+raws-bytes : (rs : List Raw) → areBytes rs ≡ true → RawsOk Byte rs
 unfolding areBytes
 raws-bytes [] h = tt
 raws-bytes (r ∷ rs) h =
