@@ -14,11 +14,12 @@ use Rattle.arbiter.specs.Effects.{writeRisen, written, paired, wasRead, lined, 
 use Rattle.arbiter.specs.Order.{isTick, clockOf, levels, lost, lossesFrom, losses, cutFrom, cut, claim, granted, grantFrom, grant, connect}
 use Rattle.arbiter.specs.Steps.{parts, run}
 use Rattle.audit.specs.Connection.{UnownedReleased, ConnectedReleased}
-use Rattle.arbiter.proofs.Choice.{either, split, if-false, same-self, turn-owns, owns-turn}
+use Rattle.arbiter.proofs.Choice.{either, split, if-false, same-self, turn-owns, owns-turn, of-either}
 use Rattle.arbiter.proofs.Cases.{cut-cases, grant-cases, joinedBy, initEnded, connect-cases, run-keeps}
 use Rattle.arbiter.proofs.Owner.{mid, expired}
 use Rattle.arbiter.proofs.Connected.{asksOn, partner-not}
 use Rattle.arbiter.proofs.Ended.{turn-left, risen-contr, mail-contr, any-master, put-off, claim-owner}
+use Rattle.ranges.proofs.Pairs.{drives-left}
 use Rattle.audit.proofs.Connection.{cleared-asks, commanded-contr, reader-contr}
 
 -- ---- what is kept from part to part
@@ -65,18 +66,6 @@ owner-byte k g IntStatus v s b on h = h (on (same-self k))
 owner-byte k g IntMask v s b on h = h (on (same-self k))
 owner-byte k g MailLow v s b on h = h (on (same-self k))
 owner-byte k g MailHigh v s b on h = h (on (same-self k))
-
--- The byte of one that is not granted leaves the drives.
-drives-left : (c : Bool) (r : Register) (v : ℕ) (b : Bus) → drivesWritten false c r v b ≡ b
-unfolding drivesWritten
-drives-left c Id v b = refl
-drives-left c Contr v b = refl
-drives-left c Status v b = refl
-drives-left c Rt v b = refl
-drives-left c IntStatus v b = refl
-drives-left c IntMask v b = refl
-drives-left c MailLow v b = refl
-drives-left c MailHigh v b = refl
 
 -- m owns: so its partner does not, and all owners ask if m does.
 all-ask : (m : Master) (d : Device) → owns m d ≡ true → asksOn m d ≡ true → (j : Master) → owns j d ≡ true → asksOn j d ≡ true
@@ -212,30 +201,19 @@ reset-let hold d on = (refl, refl)
 same-let : (d n : Device) → (Loose (d .bus) → Loose (n .bus)) → n .arb .turn ≡ d .arb .turn → ((m : Master) → asksOn m n ≡ asksOn m d) → Let d → Let n
 same-let d n same t a = let-by d n same (λ m o. (ap (ownsTurn m) t ∙ o, λ x. sym (a m) ∙ x))
 
+-- a side whose BUS_CONNECT is what it was
+abbrev Asks : Master → Bool → Side → Side → Type 0
+Asks m own s n = n .contr .busconnect ≡ s .contr .busconnect
+
 effect-let : (e : Event) (d : Device) → Let d → Let (effect e d)
 unfolding effect wasRead lined ticked
-effect-let (Command k c) d h = same-let d (effect (Command k c) d) (λ x. x) refl (asks k) h
-  where
-    asks : (k m : Master) → asksOn m (effect (Command k c) d) ≡ asksOn m d
-    asks Zero Zero = ap (λ x. x .busconnect) (commanded-contr c (d .side0))
-    asks Zero One = refl
-    asks One Zero = refl
-    asks One One = ap (λ x. x .busconnect) (commanded-contr c (d .side1))
+effect-let (Command k c) d h =
+    same-let d (effect (Command k c) d) (λ x. x) refl
+    (λ m. of-either Asks m k d _ _ (ap (λ x. x .busconnect) (commanded-contr c (side k d))) refl) h
 effect-let (Write k v) d h = write-let k v d h
-effect-let (Read k) d h = same-let d (effect (Read k) d) (λ x. x) refl (asks k) h
-  where
-    asks : (k m : Master) → asksOn m (effect (Read k) d) ≡ asksOn m d
-    asks Zero Zero = ap (λ x. x .busconnect) (reader-contr (d .side0))
-    asks Zero One = refl
-    asks One Zero = refl
-    asks One One = ap (λ x. x .busconnect) (reader-contr (d .side1))
-effect-let (Stop k) d h = same-let d (effect (Stop k) d) (λ x. x) refl (asks k) h
-  where
-    asks : (k m : Master) → asksOn m (effect (Stop k) d) ≡ asksOn m d
-    asks Zero Zero = refl
-    asks Zero One = refl
-    asks One Zero = refl
-    asks One One = refl
+effect-let (Read k) d h =
+    same-let d (effect (Read k) d) (λ x. x) refl (λ m. of-either Asks m k d _ _ (ap (λ x. x .busconnect) (reader-contr (side k d))) refl) h
+effect-let (Stop k) d h = same-let d (effect (Stop k) d) (λ x. x) refl (λ m. of-either Asks m k d _ _ refl refl) h
 effect-let (Pair v0 v1) d h = pair-let v0 v1 d h
 effect-let (Lines scl sda intin) d h = same-let d (effect (Lines scl sda intin) d) (λ x. x) refl asks h
   where

@@ -14,8 +14,8 @@ use Rattle.arbiter.specs.Events.{goodCommand, softReset}
 use Rattle.arbiter.specs.Effects.{commanded, writeRisen, readerSide, written, paired, wasRead, lined, ticked, freshSide, wasReset, holdAsked, effect}
 use Rattle.arbiter.specs.Order.{isReset, isTick, clockOf, runsOut, levels, lost, lossesFrom, losses, cutFrom, cut, claim, granted, grantFrom, grant, connect}
 use Rattle.arbiter.specs.Steps.{parts, runFrom}
-use Rattle.arbiter.specs.AuditWords.{next, reserveOf, isContr, reset, never, throughout}
-use Rattle.audit.specs.SettingsKept.{lastingBits, bitsOf, maskOf, isRt, isIntMask, writesAt, byteBy, writesToContr, writesToMask, stores, storesRt, rtIs}
+use Rattle.arbiter.specs.AuditWords.{next, reserveOf, isContr, accepted, reset, never, throughout}
+use Rattle.audit.specs.SettingsKept.{lastingBits, bitsOf, maskOf, isRt, isIntMask, writesAt, byteBy, writesToContr, stores, storesRt, rtIs}
 use Rattle.audit.specs.SettingsKept.{RtKept, BitsKept, MaskKept, SettingsKept, RtStored, BitsWritten, MaskWritten, SettingsReset, RtKeptThroughout}
 use Rattle.audit.specs.SettingsKept.{BitsKeptThroughout}
 use Rattle.arbiter.proofs.Choice.{either, if-true, if-false, of-either}
@@ -198,49 +198,6 @@ parts-held m e d ok = held-on (side m (effect e d)) (side m (parts e d)) (side-s
 
 -- ---- one event
 
-module _ (m : Master) (d : Device) (r : Raw) where
-  rt-unstored : reset r d ≡ false → storesRt m r d ≡ false → reserveOf m (next d r) ≡ reserveOf m d
-  rt-unstored ok unstored =
-      elim (met r d) [
-        | refuses x ↦ ap (reserveOf m) (x .after)
-        | takes e x ↦
-            (ap (reserveOf m) (x .after)
-            ∙ parts-held m e d (sym (x .same λ f y. isReset f) ∙ ok) .rt
-            ∙ if-false (byteBy m e) (reserveOf m d) (sym (x .same (stores m)) ∙ unstored))
-      ]
-
-  bits-unwritten : reset r d ≡ false → writesToContr m r d ≡ false → bitsOf m (next d r) ≡ bitsOf m d
-  bits-unwritten ok unwritten =
-      elim (met r d) [
-        | refuses x ↦ ap (bitsOf m) (x .after)
-        | takes e x ↦
-            (ap (bitsOf m) (x .after)
-            ∙ parts-held m e d (sym (x .same λ f y. isReset f) ∙ ok) .bits
-            ∙ if-false (lastingBits (controlOf (byteBy m e))) (bitsOf m d) (sym (x .same (writesAt isContr m)) ∙ unwritten))
-      ]
-
-  mask-unwritten : reset r d ≡ false → writesToMask m r d ≡ false → maskOf m (next d r) ≡ maskOf m d
-  mask-unwritten ok unwritten =
-      elim (met r d) [
-        | refuses x ↦ ap (maskOf m) (x .after)
-        | takes e x ↦
-            (ap (maskOf m) (x .after)
-            ∙ parts-held m e d (sym (x .same λ f y. isReset f) ∙ ok) .mask
-            ∙ if-false (byteBy m e % 128) (maskOf m d) (sym (x .same (writesAt isIntMask m)) ∙ unwritten))
-      ]
-
-pub rt-kept : RtKept
-rt-kept m d r ok unstored = rt-unstored m d r ok unstored
-
-pub bits-kept : BitsKept
-bits-kept m d r ok unwritten = bits-unwritten m d r ok unwritten
-
-pub mask-kept : MaskKept
-mask-kept m d r ok unwritten = mask-unwritten m d r ok unwritten
-
-pub settings-kept : SettingsKept
-settings-kept = (rt-kept, bits-kept, mask-kept)
-
 -- A byte is no reset.
 pub byte-no-reset : (such : Register → Bool) (m : Master) (e : Event) (d : Device) → writesAt such m e d ≡ true → isReset e ≡ false
 byte-no-reset such m (Command k c) d h = refl
@@ -254,44 +211,55 @@ byte-no-reset such m (Pulse sda) d h = refl
 byte-no-reset such m Reset d h = absurd (false≢true h)
 byte-no-reset such m (GeneralCall k b) d h = absurd (false≢true h)
 
+-- One setting of m's, which part 1 takes from m's byte where the event is such a one, and leaves where it is another.
+module _ {A : Type 0} (m : Master) (setting : Device → A) (such : Event → Device → Bool) (read : ℕ → A)
+    (law : (e : Event) (d : Device) → isReset e ≡ false → setting (parts e d) ≡ (if such e d then read (byteBy m e) else setting d)) where
+  kept : (d : Device) (r : Raw) → reset r d ≡ false → accepted such r d ≡ false → setting (next d r) ≡ setting d
+  kept d r ok none =
+      elim (met r d) [
+        | refuses x ↦ ap setting (x .after)
+        | takes e x ↦
+            (ap setting (x .after)
+            ∙ law e d (sym (x .same λ f y. isReset f) ∙ ok)
+            ∙ if-false (read (byteBy m e)) (setting d) (sym (x .same such) ∙ none))
+      ]
+
+  taken : (at : Register → Bool) → ((e : Event) (d : Device) → such e d ≡ true → writesAt at m e d ≡ true) → (d : Device) (r : Raw) (v : ℕ)
+      → accepted (λ (e : Event) (y : Device). such e y && eqb (byteBy m e) v) r d ≡ true → setting (next d r) ≡ read v
+  taken at writes d r v h =
+      elim (met r d) [
+        | refuses x ↦ absurd (false≢true (sym (x .none λ f y. such f y && eqb (byteBy m f) v) ∙ h))
+        | takes e x ↦
+            (let both = and-eq-true-iff (such e d) (eqb (byteBy m e) v) .0 (sym (x .same λ f y. such f y && eqb (byteBy m f) v) ∙ h) in
+            ap setting (x .after)
+            ∙ law e d (byte-no-reset at m e d (writes e d (both .0)))
+            ∙ if-true (read (byteBy m e)) (setting d) (both .0)
+            ∙ ap read (eqb-true (byteBy m e) v (both .1)))
+      ]
+
+pub rt-kept : RtKept
+rt-kept m d r ok none = kept m (reserveOf m) (stores m) (λ v. v) (λ e d ok. parts-held m e d ok .rt) d r ok none
+
+pub bits-kept : BitsKept
+bits-kept m d r ok none = kept m (bitsOf m) (writesAt isContr m) (λ v. lastingBits (controlOf v)) (λ e d ok. parts-held m e d ok .bits) d r ok none
+
+pub mask-kept : MaskKept
+mask-kept m d r ok none = kept m (maskOf m) (writesAt isIntMask m) (λ v. v % 128) (λ e d ok. parts-held m e d ok .mask) d r ok none
+
+pub settings-kept : SettingsKept
+settings-kept = (rt-kept, bits-kept, mask-kept)
+
 pub rt-stored : RtStored
 rt-stored m d r v h =
-    elim (met r d) [
-      | refuses x ↦ absurd (false≢true (sym (x .none λ f y. stores m f y && eqb (byteBy m f) v) ∙ h))
-      | takes e x ↦
-          (let both = and-eq-true-iff (stores m e d) (eqb (byteBy m e) v) .0 (sym (x .same λ f y. stores m f y && eqb (byteBy m f) v) ∙ h) in
-          let byte = and-eq-true-iff (writesAt isRt m e d) (not (owns m d)) .0 (both .0) .0 in
-          ap (reserveOf m) (x .after)
-          ∙ parts-held m e d (byte-no-reset isRt m e d byte) .rt
-          ∙ if-true (byteBy m e) (reserveOf m d) (both .0)
-          ∙ eqb-true (byteBy m e) v (both .1))
-    ]
+    taken m (reserveOf m) (stores m) (λ v. v) (λ e d ok. parts-held m e d ok .rt) isRt
+    (λ e d s. and-eq-true-iff (writesAt isRt m e d) (not (owns m d)) .0 s .0) d r v h
 
 pub bits-written : BitsWritten
 bits-written m d r v h =
-    elim (met r d) [
-      | refuses x ↦ absurd (false≢true (sym (x .none λ f y. writesAt isContr m f y && eqb (byteBy m f) v) ∙ h))
-      | takes e x ↦
-          (let both = and-eq-true-iff (writesAt isContr m e d) (eqb (byteBy m e) v) .0
-          (sym (x .same λ f y. writesAt isContr m f y && eqb (byteBy m f) v) ∙ h) in
-          ap (bitsOf m) (x .after)
-          ∙ parts-held m e d (byte-no-reset isContr m e d (both .0)) .bits
-          ∙ if-true (lastingBits (controlOf (byteBy m e))) (bitsOf m d) (both .0)
-          ∙ ap (λ (n : ℕ). lastingBits (controlOf n)) (eqb-true (byteBy m e) v (both .1)))
-    ]
+    taken m (bitsOf m) (writesAt isContr m) (λ v. lastingBits (controlOf v)) (λ e d ok. parts-held m e d ok .bits) isContr (λ e d s. s) d r v h
 
 pub mask-written : MaskWritten
-mask-written m d r v h =
-    elim (met r d) [
-      | refuses x ↦ absurd (false≢true (sym (x .none λ f y. writesAt isIntMask m f y && eqb (byteBy m f) v) ∙ h))
-      | takes e x ↦
-          (let both = and-eq-true-iff (writesAt isIntMask m e d) (eqb (byteBy m e) v) .0
-          (sym (x .same λ f y. writesAt isIntMask m f y && eqb (byteBy m f) v) ∙ h) in
-          ap (maskOf m) (x .after)
-          ∙ parts-held m e d (byte-no-reset isIntMask m e d (both .0)) .mask
-          ∙ if-true (byteBy m e % 128) (maskOf m d) (both .0)
-          ∙ ap (λ (n : ℕ). n % 128) (eqb-true (byteBy m e) v (both .1)))
-    ]
+mask-written m d r v h = taken m (maskOf m) (writesAt isIntMask m) (λ v. v % 128) (λ e d ok. parts-held m e d ok .mask) isIntMask (λ e d s. s) d r v h
 
 pub settings-reset : SettingsReset
 settings-reset m d r h =
