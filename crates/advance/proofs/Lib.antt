@@ -1,3 +1,4 @@
+pub mod Agree
 pub mod Compared
 pub mod Onward
 pub mod Unique

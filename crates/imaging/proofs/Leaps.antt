@@ -27,7 +27,8 @@ use Rattle.quiet.specs.Quiet.{quietTicks, tick, ticks}
 use Rattle.quiet.proofs.Ticks.{quiet-together}
 use Rattle.advance.specs.Changes.{sameButCounts, changes, bare}
 use Rattle.advance.specs.Advance.{changing}
-use Rattle.advance.proofs.Compared.{bare-eq, bare-same}
+use Rattle.advance.proofs.Agree.{bare-eq}
+use Rattle.advance.proofs.Compared.{bare-same}
 use Rattle.advance.proofs.Onward.{ticks-more, changing-more, changing-quiet}
 use Rattle.imaging.proofs.OnImages.{ticks-in-range}
 
