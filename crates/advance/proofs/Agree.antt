@@ -8,8 +8,6 @@ use borrow.Author.Tests.{eqb-true}
 use Rattle.arbiter.specs.Words.{sameMaster}
 use Rattle.arbiter.specs.State.{sclHigh, sdaHigh, busHung}
 use Rattle.arbiter.specs.Registers.{registerNumber}
-use Rattle.arbiter.specs.declared.Master.{Master}
-use Rattle.arbiter.specs.declared.Master.the-variants.{Zero, One}
 use Rattle.arbiter.specs.declared.Ground.{Ground}
 use Rattle.arbiter.specs.declared.Ground.the-variants.{Sole, Priority, LastGranted}
 use Rattle.arbiter.specs.declared.Turn.{Turn}
@@ -30,6 +28,7 @@ use Rattle.arbiter.specs.declared.Side.{Side}
 use Rattle.arbiter.specs.declared.Bus.{Bus}
 use Rattle.arbiter.specs.declared.Device.{Device}
 use Rattle.arbiter.specs.Effects.{registerAt}
+use Rattle.arbiter.proofs.Choice.{same-eq}
 use Rattle.quiet.specs.Counts.{countedBus, withCounts}
 use Rattle.quiet.specs.Quiet.{Same}
 use Rattle.advance.specs.Changes.{agree, samePort, sameRegister, sameGround, sameTurn, sameLast, sameSwitch, sameControl, sameMail, sameSide, sameLines}
@@ -48,12 +47,6 @@ agree-eq false false h = refl
 
 number-eq : (m n : ℕ) → eqb m n ≡ true → n ≡ m
 number-eq m n h = sym (eqb-true m n h)
-
-master-eq : (m k : Master) → sameMaster m k ≡ true → k ≡ m
-master-eq Zero Zero h = refl
-master-eq Zero One h = absurd (false≢true h)
-master-eq One Zero h = absurd (false≢true h)
-master-eq One One h = refl
 
 -- a register is the one of its number, and so on
 register-of : (r : Register) → registerAt (registerNumber r) ≡ r
@@ -102,28 +95,28 @@ turn-eq Nobody Nobody e = refl
 turn-eq Nobody (Claims k h) e = absurd (false≢true e)
 turn-eq Nobody (Owns k h) e = absurd (false≢true e)
 turn-eq (Claims m g) Nobody e = absurd (false≢true e)
-turn-eq (Claims m g) (Claims k h) e = let p = both (sameMaster m k) (sameGround g h) e in ap₂ Claims (master-eq m k (p .0)) (ground-eq g h (p .1))
+turn-eq (Claims m g) (Claims k h) e = let p = both (sameMaster m k) (sameGround g h) e in ap₂ Claims (same-eq m k (p .0)) (ground-eq g h (p .1))
 turn-eq (Claims m g) (Owns k h) e = absurd (false≢true e)
 turn-eq (Owns m g) Nobody e = absurd (false≢true e)
 turn-eq (Owns m g) (Claims k h) e = absurd (false≢true e)
-turn-eq (Owns m g) (Owns k h) e = let p = both (sameMaster m k) (sameGround g h) e in ap₂ Owns (master-eq m k (p .0)) (ground-eq g h (p .1))
+turn-eq (Owns m g) (Owns k h) e = let p = both (sameMaster m k) (sameGround g h) e in ap₂ Owns (same-eq m k (p .0)) (ground-eq g h (p .1))
 
 last-eq : (l n : Last) → sameLast l n ≡ true → n ≡ l
 last-eq Never Never e = refl
 last-eq Never (Was k) e = absurd (false≢true e)
 last-eq (Was m) Never e = absurd (false≢true e)
-last-eq (Was m) (Was k) e = ap Was (master-eq m k e)
+last-eq (Was m) (Was k) e = ap Was (same-eq m k e)
 
 switch-eq : (v w : Switch) → sameSwitch v w ≡ true → w ≡ v
 switch-eq Apart Apart e = refl
 switch-eq Apart (Initialising k p) e = absurd (false≢true e)
 switch-eq Apart (Closed k) e = absurd (false≢true e)
 switch-eq (Initialising m n) Apart e = absurd (false≢true e)
-switch-eq (Initialising m n) (Initialising k p) e = let q = both (sameMaster m k) (eqb n p) e in ap₂ Initialising (master-eq m k (q .0)) (number-eq n p (q .1))
+switch-eq (Initialising m n) (Initialising k p) e = let q = both (sameMaster m k) (eqb n p) e in ap₂ Initialising (same-eq m k (q .0)) (number-eq n p (q .1))
 switch-eq (Initialising m n) (Closed k) e = absurd (false≢true e)
 switch-eq (Closed m) Apart e = absurd (false≢true e)
 switch-eq (Closed m) (Initialising k p) e = absurd (false≢true e)
-switch-eq (Closed m) (Closed k) e = ap Closed (master-eq m k e)
+switch-eq (Closed m) (Closed k) e = ap Closed (same-eq m k e)
 
 -- ---- records, field by field
 

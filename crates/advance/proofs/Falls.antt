@@ -28,11 +28,11 @@ use Rattle.step.specs.Carried.{partsThreeToSeven, isQuiet}
 use Rattle.step.proofs.Quiet.{quiet-law}
 use Rattle.quiet.specs.Counts.{withCounts}
 use Rattle.quiet.specs.Quiet.{isCalm}
-use Rattle.quiet.proofs.Tick.{level-same}
+use Rattle.quiet.proofs.Tick.{level-same, idle-same}
 use Rattle.advance.specs.Changes.{changes}
 use Rattle.advance.proofs.Compared.{unchanged}
 use Rattle.advance.proofs.Potential.{losing, leftOf, leftOn, left, worth-most, of-stays, of-hung, of-cut}
-use Rattle.advance.proofs.Ticking.{uncut-before, cut-before, hung-stays, hung-high, low-busy, idle-same}
+use Rattle.advance.proofs.Ticking.{uncut-before, cut-before, hung-stays, hung-high, low-busy}
 use Rattle.advance.proofs.Levelled.{mid-ticked}
 
 -- of the devices before and after a tick

@@ -27,7 +27,7 @@ use Rattle.arbiter.proofs.Settled.{Still, levels-still, out-idle}
 use Rattle.arbiter.proofs.Owner.{mid, expired, heir, losses-lost, asks, Over}
 use Rattle.arbiter.proofs.Idle.{parts-bus}
 use Rattle.advance.proofs.Potential.{losing, leftOf, leftOn, left}
-use Rattle.advance.proofs.Ticking.{idle-same}
+use Rattle.quiet.proofs.Tick.{idle-same}
 use Rattle.advance.proofs.Levelled.{mid-ticked}
 
 -- ---- the partner

@@ -6,13 +6,11 @@ use mathlib.Core.Bool.{Bool, true, false, not, _&&_, _||_, false≢true, and-eq-
 use lib.Dec.{eqb, ltb}
 use borrow.Author.Tests.{eqb-true, ltb-true, ltb-false, lt-ltb}
 use native.Mathlib.Omega.{arith}
-use Rattle.arbiter.specs.State.{sclHigh, sdaHigh, isIdle, sclHungLimit, sdaHungLimit, busHung}
+use Rattle.arbiter.specs.State.{sclHigh, sdaHigh, sclHungLimit, sdaHungLimit, busHung}
 use Rattle.arbiter.specs.Effects.{countedTo, tickedBus}
 use Rattle.arbiter.specs.Order.{cutTicks}
 use Rattle.arbiter.specs.declared.Bus.{Bus}
 use Rattle.arbiter.proofs.Choice.{either, split, if-true, if-false}
-use Rattle.arbiter.proofs.Settled.{Still}
-use Rattle.quiet.proofs.Tick.{level-same}
 
 -- ---- a count
 
@@ -74,6 +72,3 @@ hung-high limit b h =
 pub low-busy : (free scl sda : Bool) → scl && sda ≡ false → free && scl && sda ≡ false
 low-busy true scl sda h = h
 low-busy false scl sda h = refl
-
-pub idle-same : (limit : ℕ) (b : Bus) → eqb (b .hold - 1) 0 ≡ eqb (b .hold) 0 → Still b → isIdle (tickedBus limit b) ≡ isIdle b
-idle-same limit b held still = ap (λ (x : Bool). not (b .busy) && x && sdaHigh b) (level-same limit b held still)

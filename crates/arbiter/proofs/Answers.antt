@@ -13,9 +13,11 @@ use Rattle.arbiter.proofs.Timer.{held-until-let-go, idle-timer-exact}
 use Rattle.arbiter.proofs.IdleCount.{idle-timer-ends}
 use Rattle.arbiter.proofs.Tenure.{granted-at-rest}
 use Rattle.arbiter.proofs.Ended.{ends-disconnected}
-use Rattle.arbiter.proofs.Settled.{refused-unchanged, all-settled}
+use Rattle.arbiter.proofs.Settled.{refused-unchanged}
+use Rattle.arbiter.proofs.Again.{all-settled}
 use Rattle.arbiter.proofs.Bitwise.{asserted-bit-by-bit, cleared-bit-by-bit}
-use Rattle.arbiter.proofs.Grounds.{ground-with-claim, ground-of-choice, ground-stays, contest-is-pair}
+use Rattle.arbiter.proofs.Grounds.{ground-with-claim, ground-of-choice, ground-stays}
+use Rattle.arbiter.proofs.Contests.{contest-is-pair}
 use Rattle.arbiter.proofs.Hung.{hung-exact, clock-not-hung}
 use Rattle.arbiter.proofs.HungRows.{hung-rows-hold, slow-clock-never-hung}
 use Rattle.arbiter.proofs.OldTraces.{converted-accepted, old-refused}

@@ -51,7 +51,7 @@ pub same-not : (m : Master) → sameMaster m (partner m) ≡ false
 same-not Zero = refl
 same-not One = refl
 
-same-eq : (m k : Master) → sameMaster m k ≡ true → k ≡ m
+pub same-eq : (m k : Master) → sameMaster m k ≡ true → k ≡ m
 same-eq Zero Zero h = refl
 same-eq Zero One h = absurd (false≢true h)
 same-eq One Zero h = absurd (false≢true h)

@@ -1,27 +1,24 @@
--- The ground of a claim: fixed by the choice that makes it, kept as long as the claim is its master's, and 2 or 3 after a PAIR alone.
+-- The ground of a claim: fixed by the choice that makes it, and kept as long as the claim is its master's.
 -- Assumes nothing.
 use mathlib.Core.Path.{_≡_, refl, sym, ap, ap₂, _∙_, subst}
 use mathlib.Core.Bool.{true≢false, false≢true, and-eq-true-iff, or-false}
 use Rattle.arbiter.specs.Types.{ℕ, Bool, true, false, not, _&&_, _||_, List, [], _∷_, eqb, Master, Zero, One, Ground, Sole, Priority, LastGranted, Turn}
-use Rattle.arbiter.specs.Types.{Nobody, Claims, Owns, Device, Raw, Event, Command, Write, Read, Stop, Pair, Lines, Tick, Pulse, Reset, GeneralCall, Reads}
-use Rattle.arbiter.specs.Types.{Stepped}
+use Rattle.arbiter.specs.Types.{Nobody, Claims, Owns, Device, Raw, Event}
 use Rattle.arbiter.specs.Words.{if_then_else_, partner, sameMaster, side}
 use Rattle.arbiter.specs.State.{atRest, ownsTurn, claimsTurn}
-use Rattle.arbiter.specs.Events.{decode, softReset}
 use Rattle.arbiter.specs.Order.{isReset, levels, lost, losses, groundOf, claimBy, winner, newClaim, claimAfter}
-use Rattle.arbiter.specs.Effects.{written, wasRead, lined, ticked, effect}
-use Rattle.arbiter.specs.Steps.{groundNumber, turnGround, parts, refused, taken, step, runFrom, run}
+use Rattle.arbiter.specs.Steps.{groundNumber, turnGround, parts, runFrom, run}
 use Rattle.arbiter.specs.AuditWords.{next, requests, letsGo, throughout}
-use Rattle.arbiter.specs.Grounds.{hasClaim, priority, differ, claimMade, GroundWithClaim, chosenBy, GroundOfChoice, GroundStays, ContestIsPair}
-use Rattle.arbiter.proofs.Choice.{either, split, if-true, if-false, not-true}
-use Rattle.arbiter.proofs.Order.{still, owned, awarded, after, after-sides, side-kept, after-owned, losses-unowned, after-turn}
-use Rattle.arbiter.proofs.Cases.{claimant-stays, step-cases}
-use Rattle.arbiter.proofs.Effects.{mail-kept, effect-side}
+use Rattle.arbiter.specs.Grounds.{hasClaim, priority, differ, claimMade, GroundWithClaim, chosenBy, GroundOfChoice, GroundStays}
+use Rattle.arbiter.proofs.Choice.{split, if-true, if-false, not-true, same-eq}
+use Rattle.arbiter.proofs.Order.{owned, awarded, after, after-sides, side-kept, after-owned, losses-unowned, after-turn}
+use Rattle.arbiter.proofs.Cases.{claimant-stays}
+use Rattle.arbiter.proofs.Effects.{effect-side}
 use Rattle.arbiter.proofs.Owner.{mid, expired, turn-kept, losses-kept, losses-lost, lost-request}
 use Rattle.arbiter.proofs.Raws.{refuses, takes, met}
 use Rattle.arbiter.proofs.Resets.{reset-request, reset-turn}
 use Rattle.arbiter.proofs.Runs.{now, hence}
-use Rattle.arbiter.proofs.Settled.{Ready, all-ready}
+use Rattle.arbiter.proofs.Settled.{Ready}
 use Rattle.arbiter.proofs.Seen.{ground-shown}
 
 -- ---- of a turn
@@ -71,9 +68,9 @@ chosen-left m e x =
 -- ---- part 5: a new claim
 
 -- It is made by one that requests, on the ground of the choice.
-record Made (m : Master) (x : Device) (t : Turn) : Type 0 where
-  request : requests m x ≡ true
-  ground : turnGround t ≡ chosenBy m x
+pub record Made (m : Master) (x : Device) (t : Turn) : Type 0 where
+  pub request : requests m x ≡ true
+  pub ground : turnGround t ≡ chosenBy m x
 
 number-of-ground : (p0 p1 : Bool) → groundNumber (groundOf p0 p1) ≡ (if differ p0 p1 then 2 else 3)
 number-of-ground true true = refl
@@ -103,16 +100,7 @@ new-made m x = go m (requests Zero x) (requests One x) (winner p0 p1 (x .arb .la
 -- ---- parts 1 to 3: the claim of before, or none, and then whose it was no longer requests
 
 has-same : (m k : Master) → sameMaster m k || false ≡ true → k ≡ m
-has-same Zero Zero h = refl
-has-same Zero One h = absurd (false≢true h)
-has-same One Zero h = absurd (false≢true h)
-has-same One One h = refl
-
-has-owned : (m k : Master) → false || sameMaster m k ≡ true → k ≡ m
-has-owned Zero Zero h = refl
-has-owned Zero One h = absurd (false≢true h)
-has-owned One Zero h = absurd (false≢true h)
-has-owned One One h = refl
+has-same m k h = same-eq m k (sym (or-false (sameMaster m k)) ∙ h)
 
 data Left (d x : Device) : Type 0 where
   same : x .arb .turn ≡ d .arb .turn → Left d x
@@ -135,7 +123,7 @@ left e d =
     -- k's claim has ended, and k does not request
     over : (k : Master) (g : Ground) (x : Device) → d .arb .turn ≡ Owns k g → x .arb .turn ≡ Nobody → requests k x ≡ false → Left d x
     over k g x h n q =
-        ended n (λ m o. subst (λ (j : Master). requests j x ≡ false) (has-owned m k (sym (ap (hasTurn m) h) ∙ o)) q)
+        ended n (λ m o. subst (λ (j : Master). requests j x ≡ false) (same-eq m k (sym (ap (hasTurn m) h) ∙ o)) q)
 
     go : (t : Turn) → d .arb .turn ≡ t → isReset e ≡ false → Left d (losses b)
     go Nobody h ok = same (ap turn (losses-unowned b (ap owned n)) ∙ n ∙ sym h)
@@ -221,7 +209,7 @@ next-stays m r d b a =
       | takes e x ↦ ap (λ (n : Device). turnGround (n .arb .turn)) (x .after) ∙ parts-stays m e d b (sym (ap (hasClaim m) (x .after)) ∙ a)
     ]
 
-next-made : (m : Master) (r : Raw) (d : Device) → claimMade m r d ≡ true → Made m (next d r) ((next d r) .arb .turn)
+pub next-made : (m : Master) (r : Raw) (d : Device) → claimMade m r d ≡ true → Made m (next d r) ((next d r) .arb .turn)
 next-made m r d h =
     let both = and-eq-true-iff (not (hasClaim m d)) (hasClaim m (next d r)) .0 h in
     let b : hasClaim m d ≡ false = not-true (hasClaim m d) (both .0) in
@@ -269,54 +257,9 @@ without (Owns One g) = some-ground g
 pub ground-with-claim : GroundWithClaim
 ground-with-claim k rs r = ap (λ (n : ℕ). eqb n 0) (ground-shown (run k rs) r) ∙ without ((next (run k rs) r) .arb .turn)
 
--- ---- a contest is a PAIR
+-- ---- what a claim says of requests
 
--- Where nobody requests, no event but a PAIR makes both request: a WRITE is one master's, and its partner gets mail at most.
-only-pair : (e : Event) (d : Device) → requests Zero d ≡ false → requests One d ≡ false → requests Zero (effect e d) ≡ true → requests One (effect e d) ≡ true
-    → (v0 : ℕ) × (v1 : ℕ) × (e ≡ Pair v0 v1)
-unfolding effect written wasRead lined ticked
-only-pair (Command Zero c) d z o a b = absurd (true≢false (sym b ∙ o))
-only-pair (Command One c) d z o a b = absurd (true≢false (sym a ∙ z))
-only-pair (Write Zero v) d z o a b = absurd (true≢false (sym b ∙ ap (λ k. k .0) (mail-kept (d .side0 .pointer) v (d .side1)) ∙ o))
-only-pair (Write One v) d z o a b = absurd (true≢false (sym a ∙ ap (λ k. k .0) (mail-kept (d .side1 .pointer) v (d .side0)) ∙ z))
-only-pair (Read Zero) d z o a b = absurd (true≢false (sym b ∙ o))
-only-pair (Read One) d z o a b = absurd (true≢false (sym a ∙ z))
-only-pair (Stop Zero) d z o a b = absurd (true≢false (sym b ∙ o))
-only-pair (Stop One) d z o a b = absurd (true≢false (sym a ∙ z))
-only-pair (Pair v0 v1) d z o a b = (v0, v1, refl)
-only-pair (Lines scl sda intin) d z o a b = absurd (true≢false (sym a ∙ z))
-only-pair Tick d z o a b = absurd (true≢false (sym a ∙ z))
-only-pair (Pulse sda) d z o a b = absurd (true≢false (sym a ∙ z))
-only-pair Reset d z o a b = absurd (true≢false (sym a ∙ reset-request Zero Reset d refl))
-only-pair (GeneralCall k v) d z o a b =
-    split (softReset v) (λ h. absurd (true≢false (sym a ∙ reset-request Zero (GeneralCall k v) d h)))
-    (λ h. absurd (true≢false (sym a ∙ ap (requests Zero) (if-false _ d h) ∙ z)))
-
--- A claim is one master's,
-not-both : (m : Master) (t : Turn) → hasTurn (partner m) t ≡ true → hasTurn m t ≡ false
-not-both m Nobody h = refl
-not-both Zero (Claims Zero g) h = absurd (false≢true h)
-not-both Zero (Claims One g) h = refl
-not-both One (Claims Zero g) h = refl
-not-both One (Claims One g) h = absurd (false≢true h)
-not-both Zero (Owns Zero g) h = absurd (false≢true h)
-not-both Zero (Owns One g) h = refl
-not-both One (Owns Zero g) h = refl
-not-both One (Owns One g) h = absurd (false≢true h)
-
--- and the turn is nobody's where it is neither's.
-neither-has : (m : Master) (t : Turn) → hasTurn m t ≡ false → hasTurn (partner m) t ≡ false → t ≡ Nobody
-neither-has m Nobody h p = refl
-neither-has Zero (Claims Zero g) h p = absurd (true≢false h)
-neither-has Zero (Claims One g) h p = absurd (true≢false p)
-neither-has One (Claims Zero g) h p = absurd (true≢false p)
-neither-has One (Claims One g) h p = absurd (true≢false h)
-neither-has Zero (Owns Zero g) h p = absurd (true≢false h)
-neither-has Zero (Owns One g) h p = absurd (true≢false p)
-neither-has One (Owns Zero g) h p = absurd (true≢false p)
-neither-has One (Owns One g) h p = absurd (true≢false h)
-
--- A claim stays its master's as long as that requests.
+-- It stays its master's as long as that requests.
 pub still-there : (p : Master) (e : Event) (d : Device) → hasTurn p (d .arb .turn) ≡ true → requests p (parts e d) ≡ true → hasTurn p ((parts e d) .arb .turn)
     ≡ true
 unfolding parts
@@ -351,51 +294,3 @@ none-asks true true w g h = absurd (false≢true (ap is-nobody h))
 
 pub nobody-asks : (d : Device) → Ready d → d .arb .turn ≡ Nobody → (requests Zero d ≡ false) × (requests One d ≡ false)
 nobody-asks d (kept, claimed, waits) n = none-asks _ _ _ _ (sym (ap (λ (t : Turn). claimAfter t d) n) ∙ claimed ∙ n)
-
--- Then what requests after the step requested after part 1.
-asked-first : (p : Master) (e : Event) (d : Device) → d .arb .turn ≡ Nobody → requests p (parts e d) ≡ true → requests p (effect e d) ≡ true
-unfolding parts levels
-asked-first p e d n q =
-    let b : Device = mid e d in
-    let t : b .arb .turn ≡ Nobody =
-    split (isReset e) (λ h. reset-turn e d h) (λ h. turn-kept e d Nobody h n)
-    in
-    let u : losses b ≡ b = losses-unowned b (ap owned t) in
-    sym (ap (λ k. k .0) (side-kept p (after e (losses b)) (losses b) (after-sides e (losses b))) ∙ ap (requests p) u) ∙ q
-
--- the two masters, whichever is m
-both-of : (P : Master → Type 0) (m : Master) → P m → P (partner m) → P Zero × P One
-both-of P Zero x y = (x, y)
-both-of P One x y = (y, x)
-
-contest : (m : Master) (e : Event) (d : Device) → Ready d → hasTurn m (d .arb .turn) ≡ false → hasTurn m ((parts e d) .arb .turn) ≡ true
-    → requests m (parts e d) ≡ true → requests (partner m) (parts e d) ≡ true → (v0 : ℕ) × (v1 : ℕ) × (e ≡ Pair v0 v1)
-contest m e d ready b a mine theirs =
-    let p : Master = partner m in
-    let n : d .arb .turn ≡ Nobody =
-    neither-has m (d .arb .turn) b
-    (split (hasTurn p (d .arb .turn))
-    (λ h. absurd (true≢false (sym a ∙ not-both m ((parts e d) .arb .turn) (still-there p e d h theirs))))
-    (λ h. h))
-    in
-    let quiet = nobody-asks d ready n in
-    let loud = both-of (λ (j : Master). requests j (effect e d) ≡ true) m (asked-first m e d n mine) (asked-first p e d n theirs) in
-    only-pair e d (quiet .0) (quiet .1) (loud .0) (loud .1)
-
-pub contest-is-pair : ContestIsPair
-unfolding taken refused
-contest-is-pair k m rs r h other =
-    let d : Device = run k rs in
-    let n : Device = next d r in
-    let both = and-eq-true-iff (not (hasClaim m d)) (hasClaim m n) .0 h in
-    let b : hasClaim m d ≡ false = not-true (hasClaim m d) (both .0) in
-    let made = next-made m r d h in
-    let theirs : requests (partner m) n ≡ true =
-    split (requests (partner m) n) (λ q. q)
-    (λ q. absurd (true≢false (sym (ap (λ (x : ℕ). eqb x 1) (ground-shown d r ∙ made .ground ∙ if-false _ 1 q)) ∙ other)))
-    in
-    step-cases (λ (s : Stepped). s .device ≡ n → (v0 : ℕ) × (v1 : ℕ) × (decode r ≡ Reads (Pair v0 v1))) d r
-    (λ e dec seq same. let found = contest m e d (all-ready k rs) b (subst (λ (x : Device). hasClaim m x ≡ true) (sym same) (both .1))
-    (subst (λ (x : Device). requests m x ≡ true) (sym same) (made .request)) (subst (λ (x : Device). requests (partner m) x ≡ true) (sym same) theirs) in
-    (found .0, found .1, dec ∙ ap Reads (found .2)))
-    (λ c u same. absurd (true≢false (sym (both .1) ∙ ap (hasClaim m) (sym same) ∙ b))) refl

@@ -6,6 +6,7 @@ pub mod KindKept
 pub mod Connected
 pub mod Seen
 pub mod Settled
+pub mod Again
 pub mod Ended
 pub mod Runs
 pub mod Effects
@@ -26,6 +27,7 @@ pub mod Marks
 pub mod Witnesses
 pub mod LowCounts
 pub mod Grounds
+pub mod Contests
 pub mod Hung
 pub mod HungRows
 pub mod Answers

@@ -18,7 +18,8 @@ use Rattle.arbiter.proofs.Choice.{either, split, if-true, neither}
 use Rattle.arbiter.proofs.Cases.{step-keeps}
 use Rattle.arbiter.proofs.Effects.{counts, effect-counts}
 use Rattle.arbiter.proofs.Raws.{refuses, takes, met, event-tick}
-use Rattle.arbiter.proofs.Settled.{Still, scl-stays, parts-ready}
+use Rattle.arbiter.proofs.Settled.{Still, parts-ready}
+use Rattle.arbiter.proofs.Again.{scl-stays}
 use Rattle.arbiter.proofs.Idle.{parts-bus}
 
 -- ---- part 1: the low counts

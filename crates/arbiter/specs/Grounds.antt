@@ -1,4 +1,4 @@
--- Request #107: what is shown of the ground on which a claim was won, as statements over every run. proofs/Grounds.antt proves them.
+-- Request #107: what is shown of the ground on which a claim was won, as statements over every run. proofs/Grounds.antt and proofs/Contests.antt prove them.
 -- Assumes nothing.
 use mathlib.Core.Path.{_≡_}
 use Rattle.arbiter.specs.Types.{ℕ, _/_, _%_, Bool, true, false, not, _&&_, _||_, List, eqb, Master, Zero, One, Kind, Device, Raw, Pair, Reads}

@@ -1,7 +1,7 @@
 -- A settled device whose sides change in nothing that the turn asks of them is settled too.
 -- Assumes nothing.
 use mathlib.Core.Path.{_≡_, refl, sym, ap, ap₂, _∙_}
-use mathlib.Core.Bool.{Bool, true, false, not, _&&_, _||_, false≢true, or-false}
+use mathlib.Core.Bool.{Bool, true, false, not, _&&_, false≢true}
 use Prim.Native.Nat.{ℕ, _+_}
 use lib.Dec.{eqb}
 use Rattle.arbiter.specs.Rules.{idleLimit}
@@ -9,7 +9,7 @@ use Rattle.arbiter.specs.Words.{if_then_else_, worth, partner, sameMaster, side
 use Rattle.arbiter.specs.Parts.{withBus}
 use Rattle.arbiter.specs.State.{atRest, claimsTurn, sclHigh, sdaHigh, isIdle, busHung}
 use Rattle.arbiter.specs.Registers.{isAsserted}
-use Rattle.arbiter.specs.Order.{busyAfter, sclChanged, settledBus, levels}
+use Rattle.arbiter.specs.Order.{levels}
 use Rattle.arbiter.specs.Steps.{ownerByte, linesByte}
 use Rattle.arbiter.specs.declared.Master.{Master}
 use Rattle.arbiter.specs.declared.Master.the-variants.{Zero, One}
@@ -20,7 +20,7 @@ use Rattle.arbiter.specs.declared.Side.{Side}
 use Rattle.arbiter.specs.declared.Bus.{Bus}
 use Rattle.arbiter.specs.declared.Device.{Device}
 use Rattle.arbiter.specs.declared.Clock.the-variants.{NoClock}
-use Rattle.arbiter.proofs.Settled.{scl-stays}
+use Rattle.arbiter.proofs.Again.{bus-stays}
 use Rattle.arbitration.specs.Quiet.{noLoss, noCut, noClaim, noGrant}
 use Rattle.connection.specs.Quiet.{linked, switchStays}
 use Rattle.step.specs.Carried.{partsThreeToSeven, quietFrom, isQuiet}
@@ -160,47 +160,13 @@ module _ (d : Device) (x : Side) where
       let q = tests (Claims One g) d h in
       whole (Claims One g) (after d x (d .side0) One) (q .0) (not-ready (atRest (x .port)) (eqb (d .bus .hold) 0) f) (requests (d .side1) x c ∙ q .2) refl refl
 
--- ---- part 2
-
-busy-same : (busy scl sda : Bool) → (busy || scl && scl && sda && not sda) && not (scl && scl && not sda && sda) ≡ busy
-busy-same true false sda = refl
-busy-same false false sda = refl
-busy-same true true true = refl
-busy-same true true false = refl
-busy-same false true true = refl
-busy-same false true false = refl
-
-zeroed : (t : Bool) (n : ℕ) → (t ≡ true → n ≡ 0) → (if t then 0 else n) ≡ n
-zeroed true n h = sym (h refl)
-zeroed false n h = refl
-
-zeroed-else : (t : Bool) (n : ℕ) → (t ≡ false → n ≡ 0) → (if t then n else 0) ≡ n
-zeroed-else true n h = refl
-zeroed-else false n h = sym (h refl)
-
-bus-again : (b : Bus) → Still b → settledBus (busyAfter false b b) (sclChanged b b) b ≡ b
-bus-again b still =
-    ap₂ (λ (x y : Bool). settledBus x y b) (busy-same (b .busy) (sclHigh b) (sdaHigh b)) (scl-stays b)
-    ∙ λ i. record {
-      outscl = b .outscl;
-      outsda = b .outsda;
-      intin = b .intin;
-      drivescl = b .drivescl;
-      drivesda = b .drivesda;
-      busy = b .busy;
-      hold = b .hold;
-      idle = zeroed-else (isIdle b) (b .idle) (still .2) i;
-      lowscl = zeroed (sclHigh b) (b .lowscl) (still .0) i;
-      lowsda = zeroed (sdaHigh b || false) (b .lowsda) (λ h. still .1 (sym (or-false (sdaHigh b)) ∙ h)) i;
-    }
-
 -- ---- both, and the answer
 
 -- m's side x and its partner's side p in a settled device d
 module _ (m : Master) (d : Device) (x p : Side) where
   pub same-levels : Still (d .bus) → levels false (d .bus) (after d x p m) ≡ after d x p m
   unfolding levels
-  same-levels still = ap (λ (b : Bus). withBus b (after d x p m)) (bus-again (d .bus) still)
+  same-levels still = ap (λ (b : Bus). withBus b (after d x p m)) (bus-stays (d .bus) still)
 
   pub both-settle : Settled d → Fits m (d .arb .turn) (side m d) x → Fits (partner m) (d .arb .turn) (side (partner m) d) p
       → partsThreeToSeven false NoClock (levels false (d .bus) (after d x p m)) ≡ after d x p m

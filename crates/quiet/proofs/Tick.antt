@@ -6,7 +6,7 @@ use mathlib.Core.Bool.{Bool, true, false, not, _&&_, _||_, and-eq-true-iff}
 use Prim.Native.Nat.{ℕ, _-_, _+_}
 use lib.Dec.{eqb}
 use Rattle.arbiter.specs.Rules.{idleLimit}
-use Rattle.arbiter.specs.Words.{if_then_else_, worth}
+use Rattle.arbiter.specs.Words.{worth}
 use Rattle.arbiter.specs.Parts.{withBus}
 use Rattle.arbiter.specs.State.{sclHigh, sdaHigh, isIdle, sclHungLimit, sdaHungLimit, busHung}
 use Rattle.arbiter.specs.Registers.{isAsserted}
@@ -18,10 +18,10 @@ use Rattle.arbiter.specs.declared.Turn.{Turn}
 use Rattle.arbiter.specs.declared.Bus.{Bus}
 use Rattle.arbiter.specs.declared.Device.{Device}
 use Rattle.arbiter.specs.declared.Answer.{Answer}
-use Rattle.arbiter.specs.declared.Stepped.{Stepped}
 use Rattle.arbiter.specs.declared.Event.the-variants.{Tick}
 use Rattle.arbiter.specs.declared.Clock.the-variants.{NoClock}
 use Rattle.arbiter.proofs.Settled.{Still}
+use Rattle.arbiter.proofs.Again.{busy-stays, scl-stays, bus-again}
 use Rattle.arbitration.specs.Quiet.{noLoss, noCut, noClaim, noGrant}
 use Rattle.arbitration.proofs.Quiet.{no-loss, no-cut, no-claim, no-grant}
 use Rattle.connection.specs.Quiet.{switchStays}
@@ -48,79 +48,34 @@ parts-idle d h =
 
 -- ---- part 2
 
--- without a change of a line there is neither START nor STOP
-busy-same : (busy scl sda : Bool) → (busy || scl && scl && sda && not sda) && not (scl && scl && not sda && sda) ≡ busy
-busy-same true false sda = refl
-busy-same false false sda = refl
-busy-same true true true = refl
-busy-same true true false = refl
-busy-same false true true = refl
-busy-same false true false = refl
-
-unchanged : (scl : Bool) → scl && not scl || not scl && scl ≡ false
-unchanged true = refl
-unchanged false = refl
-
--- a count that runs is kept, and one that does not run is 0
-scl-same : (high : Bool) (top n : ℕ) → (high ≡ true → n ≡ 0) → (if high then 0 else countedTo top (not high) n) ≡ countedTo top (not high) n
-scl-same true top n h = sym (h refl)
-scl-same false top n h = refl
-
-sda-same : (high : Bool) (top n : ℕ) → (high ≡ true → n ≡ 0) → (if high || false then 0 else countedTo top (not high) n) ≡ countedTo top (not high) n
-sda-same true top n h = sym (h refl)
-sda-same false top n h = refl
-
-idle-same : (idle : Bool) (top n : ℕ) → (idle ≡ false → n ≡ 0) → (if idle then countedTo top idle n else 0) ≡ countedTo top idle n
-idle-same true top n h = refl
-idle-same false top n h = sym (h refl)
-
+-- A still bus on which a tick leaves SCL as it is is still after it, and no line has moved: it is levelled already.
 module _ (limit : ℕ) (b : Bus) (held : eqb (b .hold - 1) 0 ≡ eqb (b .hold) 0) (still : Still b) where
-  pub level-same : sclHigh (tickedBus limit b) ≡ sclHigh b
+  abbrev c : Bus
+  c = tickedBus limit b
+
+  pub level-same : sclHigh c ≡ sclHigh b
   level-same = ap (λ (x : Bool). b .outscl && b .drivescl && x) held
 
-  -- the levelled bus, with SCL after the tick as s
-  abbrev levelledAt : Bool → Bus
-  levelledAt s =
-      let busy : Bool = (b .busy || sclHigh b && s && sdaHigh b && not (sdaHigh b)) && not (sclHigh b && s && not (sdaHigh b) && sdaHigh b) in
-      let changed : Bool = sclHigh b && not s || not (sclHigh b) && s in
-      record {
-        outscl = b .outscl;
-        outsda = b .outsda;
-        intin = b .intin;
-        drivescl = b .drivescl;
-        drivesda = b .drivesda;
-        busy = busy;
-        hold = b .hold - 1;
-        idle = if not busy && s && sdaHigh b then countedTo limit (isIdle b) (b .idle) else 0;
-        lowscl = if s then 0 else countedTo sclHungLimit (not (sclHigh b)) (b .lowscl);
-        lowsda = if sdaHigh b || changed then 0 else countedTo sdaHungLimit (not (sdaHigh b)) (b .lowsda);
-      }
+  pub idle-same : isIdle c ≡ isIdle b
+  idle-same = ap (λ (s : Bool). not (b .busy) && s && sdaHigh b) level-same
 
-  bus-same : settledBus (busyAfter false b (tickedBus limit b)) (sclChanged b (tickedBus limit b)) (tickedBus limit b) ≡ tickedBus limit b
-  bus-same =
-      let busy = busy-same (b .busy) (sclHigh b) (sdaHigh b) in
-      let idle =
-      ap (λ (x : Bool). if not x && sclHigh b && sdaHigh b then countedTo limit (isIdle b) (b .idle) else 0) busy
-      ∙ idle-same (isIdle b) limit (b .idle) (still .2)
-      in
-      let lowscl = scl-same (sclHigh b) sclHungLimit (b .lowscl) (still .0) in
-      let lowsda =
-      ap (λ (x : Bool). if sdaHigh b || x then 0 else countedTo sdaHungLimit (not (sdaHigh b)) (b .lowsda)) (unchanged (sclHigh b))
-      ∙ sda-same (sdaHigh b) sdaHungLimit (b .lowsda) (still .1)
-      in
-      ap levelledAt level-same
-      ∙ λ i. record {
-        outscl = b .outscl;
-        outsda = b .outsda;
-        intin = b .intin;
-        drivescl = b .drivescl;
-        drivesda = b .drivesda;
-        busy = busy i;
-        hold = b .hold - 1;
-        idle = idle i;
-        lowscl = lowscl i;
-        lowsda = lowsda i;
-      }
+  still-ticked : Still c
+  still-ticked = (
+    λ h. let s = sym level-same ∙ h in ap (λ (x : Bool). countedTo sclHungLimit (not x) (b .lowscl)) s ∙ still .0 s,
+    λ h. ap (λ (x : Bool). countedTo sdaHungLimit (not x) (b .lowsda)) h ∙ still .1 h,
+    λ h. let s = sym idle-same ∙ h in ap (λ (x : Bool). countedTo limit x (b .idle)) s ∙ still .2 s,
+  )
+
+  busy-kept : busyAfter false b c ≡ b .busy
+  busy-kept =
+      ap (λ (s : Bool). (b .busy || sclHigh b && s && sdaHigh b && not (sdaHigh b)) && not (sclHigh b && s && not (sdaHigh b) && sdaHigh b)) level-same
+      ∙ busy-stays b
+
+  scl-kept : sclChanged b c ≡ false
+  scl-kept = ap (λ (s : Bool). sclHigh b && not s || not (sclHigh b) && s) level-same ∙ scl-stays b
+
+  pub bus-same : settledBus (busyAfter false b c) (sclChanged b c) c ≡ c
+  bus-same = ap₂ (λ (x y : Bool). settledBus x y c) busy-kept scl-kept ∙ bus-again c still-ticked
 
 -- ---- all parts, and the answer
 

@@ -6,7 +6,7 @@ use Rattle.ranges.specs.Names.{ℕ, _-_, Bool, true, false, not, _&&_, _||_, Li
 use Rattle.ranges.specs.Names.{Owns, Port, Register, Status, Bus, Kind, Device, Raw, Event, Command, Read, Stop}
 use Rattle.arbiter.specs.Rules.{limitOf}
 use Rattle.arbiter.specs.Words.{if_then_else_, bit, worth, partner, side}
-use Rattle.arbiter.specs.State.{ownsTurn, owns, claimsTurn, claims, atRest, sclHigh, sdaHigh, isIdle}
+use Rattle.arbiter.specs.State.{ownsTurn, owns, claimsTurn, claims, atRest, isIdle}
 use Rattle.arbiter.specs.Registers.{readsAt}
 use Rattle.arbiter.specs.Events.{decode, inSequence}
 use Rattle.arbiter.specs.Effects.{commanded, wasRead, effect}
@@ -22,6 +22,7 @@ use Rattle.arbiter.proofs.KindKept.{limit-some}
 use Rattle.arbiter.proofs.Owner.{mid, expired, heir, sole-claim, stays, ends, fate, waits, port-left}
 use Rattle.arbiter.proofs.Raws.{Takes, taken-as}
 use Rattle.arbiter.proofs.Runs.{runs-on}
+use Rattle.arbiter.proofs.Again.{busy-stays}
 use Rattle.arbiter.proofs.Settled.{loses, isDue, Ready, refused-unchanged, parts-ready, all-ready}
 use Rattle.audit.proofs.Blocking.{claims-turn}
 use Rattle.audit.proofs.Places.{hold-next}
@@ -69,21 +70,7 @@ no-byte m e d stops = refl
 
 -- ---- no loss
 
--- On a bus that stays there is no START and no STOP,
-busy-stays : (b : Bus) → busyAfter false b b ≡ b .busy
-busy-stays b = go (b .busy) (sclHigh b) (sdaHigh b)
-  where
-    go : (busy scl sda : Bool) → not false && (busy || scl && scl && sda && not sda) && not (scl && scl && not sda && sda) ≡ busy
-    go true true true = refl
-    go true true false = refl
-    go true false true = refl
-    go true false false = refl
-    go false true true = refl
-    go false true false = refl
-    go false false true = refl
-    go false false false = refl
-
--- so part 3 finds what it would have found before.
+-- On a bus that stays there is no START and no STOP, so part 3 finds what it would have found before.
 expired-left : (m : Master) (e : Event) (d : Device) → Unseen m e → expired m d ≡ false → expired m (mid e d) ≡ false
 unfolding levels
 expired-left m e d u unlost =
