@@ -101,7 +101,7 @@ linked-on : (d : Device) (k : Master) (s y : Side) → y .contr ≡ s .contr →
     → linked k (y .contr .busconnect) (d .arb .switch) ≡ true
 linked-on d k s y c h = ap (λ (a : Control). linked k (a .busconnect) (d .arb .switch)) c ∙ h
 
--- d with both sides other ones, and its lines
+-- d with other sides and another bus
 module _ (d : Device) (x p : Side) (b : Bus) where
   abbrev moved : Device
   moved = record { side0 = x; side1 = p; bus = b; arb = d .arb; kind = d .kind }
