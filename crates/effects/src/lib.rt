@@ -1,7 +1,8 @@
 // Part 1 of a step: each event's own effect, with its outcome and the byte read. An event out of sequence changes nothing.
 ghost use mathlib.Core.Path.{_≡_};
 ghost use Rattle.arbiter.specs.Effects.{tickedArb};
-ghost use Rattle.arbiter.specs.declared.Master.the-variants.{Zero, One};
+ghost use Rattle.arbiter.specs.Events.{outcomeNumber};
+ghost use Rattle.arbiter.specs.declared.Outcome.the-variants.{OutOfSequence};
 ghost use Rattle.arbiter.specs.declared.Event.the-variants.{Command, Write, Read, Stop, Pair, Lines, Tick, Pulse, Reset, GeneralCall};
 ghost use Rattle.effects.specs.Effect.{did, effectOf};
 use arbiter::Arbitration;
@@ -56,6 +57,13 @@ pub fn did_so(d: Device, number: u8, byte: u8) -> Effect
     }
 }
 
+// An event out of sequence changes nothing.
+fn out_of_sequence(d: Device) -> Effect
+    ensures { λ r. ⌜ r ≡ did d (outcomeNumber OutOfSequence) 0 ⌝ }
+{
+    did_so(d, outcome_number(Outcome::OutOfSequence), 0)
+}
+
 // ---- COMMAND
 
 fn on_command(m: Master, c: u8, d: Device) -> Effect
@@ -78,34 +86,26 @@ fn on_command(m: Master, c: u8, d: Device) -> Effect
 
 // ---- WRITE and PAIR
 
-fn on_write_0(v: u8, d: Device) -> Effect
-    ensures { λ r. ⌜ r ≡ effectOf (Write Zero v) d ⌝ }
-{
-    if is_for_writing(port_of(d.side0)) {
-        let ok = writable_at(pointer_of(d.side0));
-        did_so(written_by_0(v, d), acknowledged_number(ok), 0)
-    } else {
-        did_so(d, outcome_number(Outcome::OutOfSequence), 0)
-    }
-}
-
-fn on_write_1(v: u8, d: Device) -> Effect
-    ensures { λ r. ⌜ r ≡ effectOf (Write One v) d ⌝ }
-{
-    if is_for_writing(port_of(d.side1)) {
-        let ok = writable_at(pointer_of(d.side1));
-        did_so(written_by_1(v, d), acknowledged_number(ok), 0)
-    } else {
-        did_so(d, outcome_number(Outcome::OutOfSequence), 0)
-    }
-}
-
 fn on_write(m: Master, v: u8, d: Device) -> Effect
     ensures { λ r. ⌜ r ≡ effectOf (Write m v) d ⌝ }
 {
     match m {
-        Master::Zero => on_write_0(v, d),
-        Master::One => on_write_1(v, d),
+        Master::Zero => {
+            if is_for_writing(port_of(d.side0)) {
+                let ok = writable_at(pointer_of(d.side0));
+                did_so(written_by_0(v, d), acknowledged_number(ok), 0)
+            } else {
+                out_of_sequence(d)
+            }
+        }
+        Master::One => {
+            if is_for_writing(port_of(d.side1)) {
+                let ok = writable_at(pointer_of(d.side1));
+                did_so(written_by_1(v, d), acknowledged_number(ok), 0)
+            } else {
+                out_of_sequence(d)
+            }
+        }
     }
 }
 
@@ -116,7 +116,7 @@ fn on_pair(v0: u8, v1: u8, d: Device) -> Effect
         let ok = writable_at(pointer_of(d.side0)) & writable_at(pointer_of(d.side1));
         did_so(paired_by(v0, v1, d), acknowledged_number(ok), 0)
     } else {
-        did_so(d, outcome_number(Outcome::OutOfSequence), 0)
+        out_of_sequence(d)
     }
 }
 
@@ -155,40 +155,32 @@ fn on_read(m: Master, d: Device) -> Effect
 
 // ---- STOP
 
-fn stop_by_0(d: Device) -> Effect
-    ensures { λ r. ⌜ r ≡ effectOf (Stop Zero) d ⌝ }
-{
-    if is_at_rest(port_of(d.side0)) {
-        did_so(d, outcome_number(Outcome::OutOfSequence), 0)
-    } else {
-        did_so(
-            device_with(stopped_side(d.side0), d.side1, d.bus, d.arb, d),
-            outcome_number(Outcome::Done),
-            0,
-        )
-    }
-}
-
-fn stop_by_1(d: Device) -> Effect
-    ensures { λ r. ⌜ r ≡ effectOf (Stop One) d ⌝ }
-{
-    if is_at_rest(port_of(d.side1)) {
-        did_so(d, outcome_number(Outcome::OutOfSequence), 0)
-    } else {
-        did_so(
-            device_with(d.side0, stopped_side(d.side1), d.bus, d.arb, d),
-            outcome_number(Outcome::Done),
-            0,
-        )
-    }
-}
-
 fn on_stop(m: Master, d: Device) -> Effect
     ensures { λ r. ⌜ r ≡ effectOf (Stop m) d ⌝ }
 {
     match m {
-        Master::Zero => stop_by_0(d),
-        Master::One => stop_by_1(d),
+        Master::Zero => {
+            if is_at_rest(port_of(d.side0)) {
+                out_of_sequence(d)
+            } else {
+                did_so(
+                    device_with(stopped_side(d.side0), d.side1, d.bus, d.arb, d),
+                    outcome_number(Outcome::Done),
+                    0,
+                )
+            }
+        }
+        Master::One => {
+            if is_at_rest(port_of(d.side1)) {
+                out_of_sequence(d)
+            } else {
+                did_so(
+                    device_with(d.side0, stopped_side(d.side1), d.bus, d.arb, d),
+                    outcome_number(Outcome::Done),
+                    0,
+                )
+            }
+        }
     }
 }
 
@@ -246,7 +238,7 @@ fn on_pulse(sda: bool, d: Device) -> Effect
     if initialises(switch_of(d.arb)) {
         did_so(d, outcome_number(Outcome::Done), 0)
     } else {
-        did_so(d, outcome_number(Outcome::OutOfSequence), 0)
+        out_of_sequence(d)
     }
 }
 
