@@ -5,6 +5,7 @@ ghost use mathlib.Core.Bool.{not, _&&_};
 ghost use lib.Dec.{leb};
 ghost use Rattle.arbiter.specs.Words.{bit};
 ghost use Rattle.arbiter.specs.Traces.{byteAt};
+ghost use Rattle.arbiter.specs.declared.Master.{Master};
 ghost use Rattle.arbiter.specs.declared.Master.the-variants.{Zero, One};
 ghost use Rattle.layout.specs.Layout.{registers, counts, shared, port, wordAt, rowsFit, imageInRange};
 use crate::kind_in;
@@ -37,28 +38,18 @@ fn contr_fits(at: usize, b: &[u8]) -> bool
     fits(at, 255, b) & !(byte_at(at, b) / 2 % 2 == 1)
 }
 
-fn registers_0_fit(b: &[u8]) -> bool
-    ensures { λ r. ⌜ r ≡ rowsFit 0 (registers Zero) (now (b .entry)) ⌝ }
+// The registers of either master, from its first one on.
+fn registers_fit(at: usize, b: &[u8]) -> bool
+    requires { ⌜ at < 38 ⌝ }
+    ensures { λ r. ⌜ ((m : Master) → r ≡ rowsFit at (registers m) (now (b .entry))) ⌝ }
 {
-    contr_fits(0, b)
-        & fits(1, 255, b)
-        & fits(2, 63, b)
-        & fits(3, 127, b)
-        & fits(4, 255, b)
-        & fits(5, 255, b)
-        & fits(6, 1, b)
-}
-
-fn registers_1_fit(b: &[u8]) -> bool
-    ensures { λ r. ⌜ r ≡ rowsFit 7 (registers One) (now (b .entry)) ⌝ }
-{
-    contr_fits(7, b)
-        & fits(8, 255, b)
-        & fits(9, 63, b)
-        & fits(10, 127, b)
-        & fits(11, 255, b)
-        & fits(12, 255, b)
-        & fits(13, 1, b)
+    contr_fits(at, b)
+        & fits(at + 1, 255, b)
+        & fits(at + 2, 63, b)
+        & fits(at + 3, 127, b)
+        & fits(at + 4, 255, b)
+        & fits(at + 5, 255, b)
+        & fits(at + 6, 1, b)
 }
 
 fn counts_fit(b: &[u8]) -> bool
@@ -103,8 +94,8 @@ fn port_1_fits(b: &[u8]) -> bool
 pub(crate) fn in_range(b: &[u8]) -> bool
     ensures { λ r. ⌜ r ≡ imageInRange (now (b .entry)) ⌝ }
 {
-    registers_0_fit(b)
-        & registers_1_fit(b)
+    registers_fit(0, b)
+        & registers_fit(7, b)
         & counts_fit(b)
         & shared_fit(b)
         & fits(31, 1, b)

@@ -1,6 +1,7 @@
 -- `image::fitting::in_range` meets its contract.
 -- Assumes nothing.
 use borrow.Author.Needs.{needs}
+use Rattle.arbiter.specs.declared.Master.the-variants.{Zero, One}
 use Rattle.layout.specs.Layout.{rowsFitToo, imageInRange}
 use Rattle.image.proofs.fitting.in_range.Statement.{statement}
 use Rattle.image.proofs.fitting.in_range.Tie as tie
@@ -14,8 +15,8 @@ returns c =
       c .before .before .fits2 .ensures,
       c .before .before .before .shared-fit .ensures,
       c .before .before .before .before .counts-fit .ensures,
-      c .before .before .before .before .before .registers-1-fit .ensures,
-      c .before .before .before .before .before .before .registers-0-fit .ensures,
+      c .before .before .before .before .before .registers-fit2 .ensures One,
+      c .before .before .before .before .before .before .registers-fit .ensures Zero,
     )
 
 pub in-range-spec : {M : Type 1} → statement M
