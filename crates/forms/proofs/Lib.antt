@@ -1,1 +1,2 @@
+pub mod Everyone
 pub mod Standing
