@@ -151,7 +151,8 @@ pub fn byte_handed_out(
 
 // ---- what reading does
 
-fn after_read(r: Register) -> Register
+// The pointer one further; from 7 it goes to 0.
+pub fn after_read(r: Register) -> Register
     ensures { λ n. ⌜ n ≡ afterRead r ⌝ }
 {
     match r {

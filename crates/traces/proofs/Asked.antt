@@ -1,14 +1,19 @@
--- What the tests of the loop over events tell: a move of the turn, and which event four bytes are.
+-- What the tests of the loop over events tell: a byte that moves nothing else, a move of the turn, and which event four bytes are.
 -- Assumes nothing.
 use Prim.Native.Nat.{ℕ}
 use mathlib.Core.Path.{_≡_, refl, sym, ap, _∙_}
-use mathlib.Core.Bool.{Bool, true, false, not, _&&_, false≢true, and-eq-true-iff}
+use mathlib.Core.Bool.{Bool, true, false, not, _&&_, _||_, false≢true, and-eq-true-iff}
 use native.Mathlib.Omega.{arith}
 use lib.Dec.{eqb}
 use borrow.Author.Tests.{eqb-true}
 use Rattle.arbiter.specs.Words.{bit}
 use Rattle.arbiter.specs.State.{claimsTurn, atRest, forWriting}
 use Rattle.arbiter.specs.Events.{unused, zeroOrOne, level, master, fitting, decode}
+use Rattle.arbiter.specs.Registers.{registerNumber}
+use Rattle.arbiter.specs.declared.Master.{Master}
+use Rattle.arbiter.specs.declared.Turn.{Turn}
+use Rattle.arbiter.specs.declared.Register.{Register}
+use Rattle.arbiter.specs.declared.Register.the-variants.{Id, Contr, Status, Rt, IntStatus, IntMask, MailLow, MailHigh}
 use Rattle.arbiter.specs.declared.Side.{Side}
 use Rattle.arbiter.specs.declared.Bus.{Bus}
 use Rattle.arbiter.specs.declared.Arbitration.{Arbitration}
@@ -17,7 +22,9 @@ use Rattle.arbiter.specs.declared.Event.{Event}
 use Rattle.arbiter.specs.declared.Event.the-variants.{Command, Write, Read, Stop, Pair, Lines, Pulse, Reset, GeneralCall}
 use Rattle.arbiter.specs.declared.Decoded.{Decoded}
 use Rattle.arbiter.specs.declared.Decoded.the-variants.{Reads}
+use Rattle.light.specs.Ended.{leavesTurn}
 use Rattle.light.specs.Turns.{isContr, isNobody}
+use Rattle.traces.specs.Sides.{byteIsLight}
 use Rattle.traces.specs.Turns.{stopGrants, byteClaims}
 
 pub first-holds : (p q : Bool) → p && q ≡ true → p ≡ true
@@ -29,6 +36,23 @@ four-hold true true true v h = (refl, refl, refl, h)
 four-hold true true false v h = absurd (false≢true h)
 four-hold true false u v h = absurd (false≢true h)
 four-hold false q u v h = absurd (false≢true h)
+
+-- a byte that moves neither turn nor drives, by the number of its register
+pub light-by-number : (at : Register) (m : Master) (granted : Bool) (v : ℕ) (t : Turn) (connect : Bool)
+    → (not (eqb (registerNumber at) 1) || leavesTurn m (bit 0 v) t) && not (eqb (registerNumber at) 2 && granted && not connect)
+    ≡ byteIsLight at m granted v t connect
+light-by-number Id m granted v t connect = refl
+light-by-number Contr m granted v t connect = go (leavesTurn m (bit 0 v) t)
+  where
+    go : (b : Bool) → b && true ≡ b
+    go true = refl
+    go false = refl
+light-by-number Status m granted v t connect = refl
+light-by-number Rt m granted v t connect = refl
+light-by-number IntStatus m granted v t connect = refl
+light-by-number IntMask m granted v t connect = refl
+light-by-number MailLow m granted v t connect = refl
+light-by-number MailHigh m granted v t connect = refl
 
 -- what the two tests for a move of the turn tell
 pub stop-told : (r : Raw) (b : Bus) (a : Arbitration) (s : Side) → stopGrants r b a s ≡ true

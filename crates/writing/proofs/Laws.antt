@@ -9,7 +9,7 @@ use Rattle.arbiter.specs.Words.{if_then_else_, bit}
 use Rattle.arbiter.specs.Parts.{withBusConnect, withContr, withRt, withInts, withMask, withPointer, withMail}
 use Rattle.arbiter.specs.Registers.{registerNumber, testInt, mailFullInt, raised, withdraws, controlOf, cleared, disconnected, ownWritten, mailWritten}
 use Rattle.arbiter.specs.Registers.{drivesWritten, turnWritten}
-use Rattle.arbiter.specs.Effects.{afterWrite, writeRisen}
+use Rattle.arbiter.specs.Effects.{afterRead, afterWrite, writeRisen}
 use Rattle.arbiter.specs.declared.Register.{Register}
 use Rattle.arbiter.specs.declared.Register.the-variants.{Id, Contr, Status, Rt, IntStatus, IntMask, MailLow, MailHigh}
 use Rattle.arbiter.specs.declared.Turn.{Turn}
@@ -27,6 +27,26 @@ pub control-law : (w : Bool) (v : ℕ) → record
     ≡ (if w then withBusConnect false (controlOf v) else controlOf v)
 control-law true v = refl
 control-law false v = refl
+
+-- ---- the pointer: as after a READ, but for 7
+
+pub after-write-law : (rolls : Bool) (r : Register) → (if not rolls && eqb (registerNumber r) 7 then MailHigh else afterRead r) ≡ afterWrite rolls r
+after-write-law true Id = refl
+after-write-law true Contr = refl
+after-write-law true Status = refl
+after-write-law true Rt = refl
+after-write-law true IntStatus = refl
+after-write-law true IntMask = refl
+after-write-law true MailLow = refl
+after-write-law true MailHigh = refl
+after-write-law false Id = refl
+after-write-law false Contr = refl
+after-write-law false Status = refl
+after-write-law false Rt = refl
+after-write-law false IntStatus = refl
+after-write-law false IntMask = refl
+after-write-law false MailLow = refl
+after-write-law false MailHigh = refl
 
 -- ---- the writer's own side
 

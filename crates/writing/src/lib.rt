@@ -30,6 +30,7 @@ use fields::rolls_over;
 use fields::side_with;
 use fields::turn_of;
 use fields::with_turn;
+use registers::after_read;
 use registers::raised_in;
 
 // ---- the register
@@ -50,20 +51,15 @@ pub fn writable_at(r: Register) -> bool
     }
 }
 
-// The pointer one further: at 7 it stays or, if it rolls, goes to 0.
+// The pointer one further: as after a READ, but at 7 it stays unless it rolls.
 fn after_write(rolls: bool, r: Register) -> Register
     ensures { λ n. ⌜ n ≡ afterWrite rolls r ⌝ }
 {
-    match r {
-        Register::Id => Register::Contr,
-        Register::Contr => Register::Status,
-        Register::Status => Register::Rt,
-        Register::Rt => Register::IntStatus,
-        Register::IntStatus => Register::IntMask,
-        Register::IntMask => Register::MailLow,
-        Register::MailLow => Register::MailHigh,
-        Register::MailHigh => pick_register(rolls, Register::Id, Register::MailHigh),
-    }
+    pick_register(
+        !rolls & (register_number(r) == 7),
+        Register::MailHigh,
+        after_read(r),
+    )
 }
 
 // The pointer after a WRITE.

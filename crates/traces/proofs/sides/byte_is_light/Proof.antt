@@ -1,44 +1,15 @@
 -- `traces::sides::byte_is_light` meets its contract.
 -- Assumes nothing.
 use borrow.Author.Needs.{needs}
+use Rattle.traces.proofs.Asked.{light-by-number}
 use Rattle.traces.proofs.sides.byte_is_light.Statement.{statement}
 use Rattle.traces.proofs.sides.byte_is_light.Tie as tie
 
 returns : tie.Need-returns
-returns c = simp (c .enum-told .given .1)
-
-returns-2 : tie.Need-returns-2
-returns-2 c = simp (← c .leaves-turn .ensures, ← c .before .bit-0 .ensures, c .before .before .enum-told2 .given .1)
-
-returns-3 : tie.Need-returns-3
-returns-3 c = simp (c .enum-told3 .given .1)
-
-returns-4 : tie.Need-returns-4
-returns-4 c = simp (c .enum-told4 .given .1)
-
-returns-5 : tie.Need-returns-5
-returns-5 c = simp (c .enum-told5 .given .1)
-
-returns-6 : tie.Need-returns-6
-returns-6 c = simp (c .enum-told6 .given .1)
-
-returns-7 : tie.Need-returns-7
-returns-7 c = simp (c .enum-told7 .given .1)
-
-returns-8 : tie.Need-returns-8
-returns-8 c = simp (c .enum-told8 .given .1)
+returns c =
+    let given = c .before .before .before .args in
+    simp (c .leaves-turn .ensures, c .before .bit-0 .ensures, c .before .before .register-number .ensures)
+    (light-by-number (given .at) (given .m) (given .granted) (given .v) (given .t) (given .connect))
 
 pub byte-is-light-spec : {M : Type 1} → statement M
-byte-is-light-spec =
-    tie.close
-    (tie.spec
-    (λ c. search needs) (λ c. search needs) (λ c κs. search needs) (λ c κs. search needs) (λ c. search needs)
-    (λ c. search needs) (λ c. search needs) (λ c. search needs) (λ c. search needs) (λ c. search needs)
-    returns
-    returns-2
-    returns-3
-    returns-4
-    returns-5
-    returns-6
-    returns-7
-    returns-8)
+byte-is-light-spec = tie.close (tie.spec (λ c κs. search needs) (λ c κs. search needs) (λ c κs. search needs) returns)
