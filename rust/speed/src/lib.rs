@@ -6,9 +6,10 @@
 //! - [`decoder`]: a plain decoder of captures.
 //! - [`captures`]: the captures that are timed.
 //! - [`timing`]: the best and the median of many, by turns.
-//! - [`saying`]: lines on standard output, until nobody reads them.
+//! - [`saying`]: lines on standard output, until nobody reads them; [`asked`]: the words of a program.
 
 pub mod alike;
+pub mod asked;
 pub mod captures;
 pub mod decoder;
 pub mod mixes;

@@ -3,33 +3,18 @@
 //! this name. `share_rate [ROUNDS [MIX]]`.
 
 use gunwaleish::{Master, Totals};
-use speed::mixes::{mixes, Mix};
+use speed::asked::rounds_and_mixes;
+use speed::mixes::Mix;
 use speed::saying::say;
 use speed::timing::by_turns;
 use stepper::tuned::shared_in;
 
 fn main() {
-    let rounds = match std::env::args().nth(1).map(|word| word.parse::<usize>()) {
-        None => 60,
-        Some(Ok(rounds)) if rounds > 0 => rounds,
-        Some(_) => fail("share_rate [ROUNDS [MIX]]: ROUNDS is a number from 1 on"),
-    };
-    let wanted = std::env::args().nth(2);
-    let is_wanted = |mix: &Mix| wanted.as_deref().is_none_or(|wanted| wanted == mix.name);
-    let mixes = mixes().unwrap_or_else(|why| fail(&why));
-    let mixes: Vec<Mix> = mixes.into_iter().filter(is_wanted).collect();
-    if mixes.is_empty() {
-        fail("share_rate: there is no mix of this name");
-    }
+    let (rounds, mixes) = rounds_and_mixes("share_rate", 60);
     say(&format!("Full traces of 4,096 events added to totals, best of {rounds} by turns:"));
     for mix in mixes {
         compare(&mix, rounds);
     }
-}
-
-fn fail(why: &str) -> ! {
-    eprintln!("{why}");
-    std::process::exit(2);
 }
 
 fn compare(mix: &Mix, rounds: usize) {
