@@ -33,7 +33,8 @@ use Rattle.arbiter.proofs.Choice.{either, not-true}
 use Rattle.step.specs.Carried.{partsThreeToSeven}
 use Rattle.light.specs.Light.{Settled}
 use Rattle.light.specs.Ended.{leavesTurn, writeIsLight, linedBus, endsItself, keepsLines, itsEnd, EndsItself}
-use Rattle.light.proofs.Fits.{Alike, Fits, fits-on, fits-self, alike-fits, fits-settles, held-settles, both-settle, same-owner, same-lines, lined-settles}
+use Rattle.light.proofs.Fits.{Alike, Fits, fits-on, fits-self, alike-fits}
+use Rattle.light.proofs.Fits.{fits-settles, held-settles, both-settle, same-owner, same-lines, lined-settles}
 
 -- what is to be shown of one event
 abbrev Alone : Event → Device → Type 0

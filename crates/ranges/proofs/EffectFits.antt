@@ -5,7 +5,8 @@ use mathlib.Core.Path.{refl}
 use mathlib.Core.Bool.{Bool, true, not, _&&_, _||_, and-eq-true-iff}
 use native.Mathlib.Omega.{arith}
 use borrow.Author.Tests.{ltb-true}
-use Rattle.ranges.specs.Names.{ℕ, _+_, _-_, ltb, Master, Zero, One, Rest, Register, Id, Contr, Status, Rt, IntStatus, IntMask, MailLow, MailHigh, Side, Bus}
+use Rattle.ranges.specs.Names.{ℕ, _+_, _-_, ltb, Master, Zero, One, Rest, Register}
+use Rattle.ranges.specs.Names.{Id, Contr, Status, Rt, IntStatus, IntMask, MailLow, MailHigh, Side, Bus}
 use Rattle.ranges.specs.Names.{Device, Event, Command, Write, Read, Stop, Pair, Lines, Tick, Pulse, Reset, GeneralCall}
 use Rattle.arbiter.specs.Rules.{idleLimit}
 use Rattle.arbiter.specs.Words.{bit, partner, side}

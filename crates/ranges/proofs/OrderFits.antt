@@ -5,14 +5,16 @@ use mathlib.Core.Path.{refl}
 use mathlib.Core.Bool.{Bool, true, false, not, _&&_, _||_}
 use native.Mathlib.Omega.{arith}
 use borrow.Author.Tests.{ltb-true}
-use Rattle.ranges.specs.Names.{ℕ, _+_, eqb, ltb, Master, Ground, Turn, Nobody, Claims, Owns, Side, Bus, Switch, Apart, Initialising, Closed, Device, Clock}
+use Rattle.ranges.specs.Names.{ℕ, _+_, eqb, ltb, Master, Ground, Turn, Nobody, Claims}
+use Rattle.ranges.specs.Names.{Owns, Side, Bus, Switch, Apart, Initialising, Closed, Device, Clock}
 use Rattle.ranges.specs.Names.{NoClock, ClockLow, ClockHigh}
 use Rattle.arbiter.specs.Rules.{idleLimit}
 use Rattle.arbiter.specs.Words.{if_then_else_, partner, sameMaster, side}
 use Rattle.arbiter.specs.Parts.{withSide, withInts, withIdle, withTurn, withContr, withBusInit}
 use Rattle.arbiter.specs.State.{sclHigh, sdaHigh, atRest, sclHungLimit, sdaHungLimit}
 use Rattle.arbiter.specs.Registers.{grantedInt, lostInt, raised, disconnected, released}
-use Rattle.arbiter.specs.Order.{busyAfter, sclChanged, levels, runsOut, loser, lost, lossesFrom, cutTicks, cutFrom, claim, grantedArb, granted, grantFrom, joined}
+use Rattle.arbiter.specs.Order.{busyAfter, sclChanged, levels, runsOut, loser, lost, lossesFrom}
+use Rattle.arbiter.specs.Order.{cutTicks, cutFrom, claim, grantedArb, granted, grantFrom, joined}
 use Rattle.arbiter.specs.Order.{failedSide, clocked, keptJoined, connectFrom}
 use Rattle.ranges.specs.Ranges.{pulses}
 use Rattle.arbiter.proofs.Choice.{either}

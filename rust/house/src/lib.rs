@@ -38,7 +38,7 @@ pub use circles::circles;
 pub use definitions::{counted, definition_faults, DEFINITIONS};
 pub use groups::CRATES;
 pub use image::{image_faults, LAYOUT, PAGE};
-pub use lengths::{long_functions, LONGEST};
+pub use lengths::{long_files, long_functions, wide_lines, LONGEST, LONGEST_FILE, WIDEST};
 pub use links::link_faults;
 pub use map::{map_faults, CONTRIBUTING, INDEX, README};
 pub use picture::{house_picture, HOUSE};

@@ -1,11 +1,32 @@
-//! No function of the Rust files is longer than a page of a screen.
+//! No function of the Rust files is longer than a page of a screen; no line of a proof is too wide, and no file of Rattle too long.
 
-use house::{long_functions, Tree, LONGEST};
+use house::{long_files, long_functions, wide_lines, Tree, LONGEST, LONGEST_FILE, WIDEST};
 
 #[test]
 fn every_function_is_short() {
     let found = long_functions(&Tree::of_this_repository());
     assert!(found.is_empty(), "\n\n{}\n", found.join("\n"));
+}
+
+#[test]
+fn proofs_and_files_of_rattle_can_be_read() {
+    let tree = Tree::of_this_repository();
+    let found = [wide_lines(&tree), long_files(&tree)].concat();
+    assert!(found.is_empty(), "\n\n{}\n", found.join("\n"));
+}
+
+/// A character is one, however many bytes it takes.
+#[test]
+fn one_character_and_one_line_too_many_are_told() {
+    let mut tree = Tree::default();
+    tree.put("crates/bus/proofs/Laws.antt", &format!("{}\n", "λ".repeat(WIDEST)));
+    tree.put("crates/bus/src/lib.rt", &"\n".repeat(LONGEST_FILE));
+    assert!(wide_lines(&tree).is_empty() && long_files(&tree).is_empty());
+    tree.put("crates/bus/proofs/Laws.antt", &format!("\n{}\n", "λ".repeat(WIDEST + 1)));
+    tree.put("crates/bus/src/lib.rt", &"\n".repeat(LONGEST_FILE + 1));
+    let wide = "crates/bus/proofs/Laws.antt, line 2: 161 characters; 160 are the most.";
+    assert_eq!(wide_lines(&tree), [wide]);
+    assert_eq!(long_files(&tree), ["crates/bus/src/lib.rt has 301 lines; 300 are the most."]);
 }
 
 /// What is told of a file with this text.

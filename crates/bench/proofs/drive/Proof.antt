@@ -90,7 +90,8 @@ module _ {M : Type 1} (𝓤 : URA M) (H : Heap 𝓤) (A : Atoms 𝓤) (W : Given
   -- the MIR up to the loop
   walk : (𝓣 : Tables 𝓤 H) → Triple 𝓤 (𝓣 .C #fr) (Fr 𝓤 H A at-mem run″) → Triple 𝓤 (𝓣 .C #ea) (Ea 𝓤 H A at-mem run″) → Triple 𝓤 (𝓣 .C #sl) (Sl 𝓤 H A at-mem run″)
       → Triple 𝓤 (𝓣 .C #pa) (Pa 𝓤 H A at-mem run″)
-      → ent 𝓤 (onEntry 𝓤 H A self.signature (κ, tt) (q, tt) (argsOf s n) (valsOf s n)) (WpFn 𝓤 H (𝓣 .C) (𝓣 .Λ) code.function (v ∷ vint w64 n ∷ []) (postOf 𝓤 H A at-mem run″ κ q s n))
+      → ent 𝓤 (onEntry 𝓤 H A self.signature (κ, tt) (q, tt) (argsOf s n) (valsOf s n))
+      (WpFn 𝓤 H (𝓣 .C) (𝓣 .Λ) code.function (v ∷ vint w64 n ∷ []) (postOf 𝓤 H A at-mem run″ κ q s n))
   walk 𝓣 known-fr known-ea known-sl known-pa =
       qed W ((‵ (flft κ q) ⊛ ‵ ftrue) ∷ ‵ (owns (ShrSlice (named 0) κ u8 ∷ usize ∷ []) (argsOf s n) (valsOf s n)) ∷ []) ∵
       enter ! (𝓣 .C) (𝓣 .Λ) code.function (v ∷ vint w64 n ∷ []) _ $
@@ -104,7 +105,8 @@ module _ {M : Type 1} (𝓤 : URA M) (H : Heap 𝓤) (A : Atoms 𝓤) (W : Given
       use1 W (‵ Own ⊛ ‵ Own) (shr-slice-copy 𝓤 H A W (named 0) κ u8 .twice s (v ∷ [])) $ split ! $
       move ! (2 ∷ 0 ∷ []) $ use2 W (raw (Fr 𝓤 H A at-mem run″ .pre (to-fr 𝓤 H A W at-mem run″ κ q s))) (goes-fr 𝓤 H A W at-mem run″ κ q s) $
       -- [what `fresh_for` asks; the slice's; true; n's; _10 at 4; …; _1 at 22; …]
-      calls-at ! (fmOf 𝓤 H (W .laws) 𝓣) (Fr 𝓤 H A at-mem run″) known-fr (to-fr 𝓤 H A W at-mem run″ κ q s) (and-then ! (load ! (from ! (stop !)) (look ! 22 refl)) (no-more !)) (λ w.
+      calls-at ! (fmOf 𝓤 H (W .laws) 𝓣) (Fr 𝓤 H A at-mem run″) known-fr (to-fr 𝓤 H A W at-mem run″ κ q s)
+      (and-then ! (load ! (from ! (stop !)) (look ! 22 refl)) (no-more !)) (λ w.
       use1 W (later (some (λ (d : Device). ((‵ (flft κ q) ⊛ ‵ ftrue) ⊛ ‵ (T.the-row .own d (w ∷ [])))
       ⊛ raw (ensured 𝓤 H A fr.ended (fr.clauses 𝓤 H A at-mem run″) (κ, tt) (s, tt) tt d)))) (id⊢ 𝓤 _) $ await ! tt $ pick ! (λ d.
       split ! $ move ! (1 ∷ []) $ use1 W (raw (fact 𝓤 (d ≡ powerUp kind))) (fr-of 𝓤 H A at-mem run″ κ s d) $ heard ! (d ≡ powerUp kind) (λ e. split ! $

@@ -163,7 +163,8 @@ module _ {M : Type 1} (𝓤 : URA M) (H : Heap 𝓤) (A : Atoms 𝓤) (W : Given
 
   pub goes-fr : ent 𝓤 (sep 𝓤 (A .lft κ q) (sem 𝓤 H A (ownOf κ s))) (Fr 𝓤 H A at-mem run″ .pre to-fr)
   goes-fr =
-      qed W (‵ (flft κ q) ∷ ‵ (ownOf κ s) ∷ []) ∵ nothing ! $ move ! (2 ∷ 0 ∷ []) $ join ! $ nothing ! $ move ! (2 ∷ 0 ∷ []) $ join ! $ join ! $ frame ! $ done !
+      qed W (‵ (flft κ q) ∷ ‵ (ownOf κ s) ∷ []) ∵ nothing ! $ move ! (2 ∷ 0 ∷ []) $ join ! $
+      nothing ! $ move ! (2 ∷ 0 ∷ []) $ join ! $ join ! $ frame ! $ done !
 
   abbrev pub to-ea : ℕ → Ea 𝓤 H A at-mem run″ .Ghost
   to-ea i = (((κ, tt), (q, tt), tt, argsOf s i, valsOf s i), tt)
@@ -199,7 +200,8 @@ module _ {M : Type 1} (𝓤 : URA M) (H : Heap 𝓤) (A : Atoms 𝓤) (W : Given
   unfolding DevIs
   exits d g e =
       qed W (‵ (flft κ q) ∷ ‵ (ownOf κ s) ∷ []) ∵
-      suffices ! _ (ends-at 𝓤 H A self.ended stayed (self.clauses 𝓤 H A at-mem run″) W (((κ, tt), (q, tt), tt, argsOf s n, valsOf s n), tt) (devVal d) d (tt, (tt, tt))
+      suffices ! _ (ends-at 𝓤 H A self.ended stayed (self.clauses 𝓤 H A at-mem run″) W (((κ, tt), (q, tt), tt, argsOf s n, valsOf s n), tt)
+      (devVal d) d (tt, (tt, tt))
       (tt, (tt, tt))) $ says ! (e ∙ after-run) $
       nothing ! $ move ! (1 ∷ 0 ∷ []) $ join ! $ frame ! $ nothing ! $ owned ! usize (Is usize) (uint-makes 𝓤 H A W w64) n _ (refl, n-fits) $ fjoin ! $
       move ! (1 ∷ 0 ∷ []) $ fjoin ! $ frame ! $

@@ -162,7 +162,8 @@ module _ {M : Type 1} (𝓤 : URA M) (H : Heap 𝓤) (A : Atoms 𝓤) (W : Given
     unfolding afterTurn
     third y d ev c z p small g c-is e =
         use0 W (raw (Pa 𝓤 H A at-mem run″ .pre (to-pa 𝓤 H A W at-mem run″ c))) (goes-pa 𝓤 H A W at-mem run″ c c-is) $
-        calls-at ! (fmOf 𝓤 H (W .laws) 𝓣) (Pa 𝓤 H A at-mem run″) known-pa (to-pa 𝓤 H A W at-mem run″ c) (and-then ! (load ! (from ! (stop !)) (look ! 4 refl)) (no-more !)) (λ w.
+        calls-at ! (fmOf 𝓤 H (W .laws) 𝓣) (Pa 𝓤 H A at-mem run″) known-pa (to-pa 𝓤 H A W at-mem run″ c)
+        (and-then ! (load ! (from ! (stop !)) (look ! 4 refl)) (no-more !)) (λ w.
         use1 W (later (some (λ (u : Unit {0}). (‵ ftrue ⊛ ‵ (unit .own u (w ∷ [])))
         ⊛ raw (ensured 𝓤 H A pa.ended (pa.clauses 𝓤 H A at-mem run″) tt (c, tt) tt u)))) (id⊢ 𝓤 _) $ await ! tt $ pick ! (λ u.
         split ! $ move ! (1 ∷ []) $ drop ! $ split ! $ drop ! $ peeks ! unit (Is unit) (shows 𝓤 H A unit) u (w ∷ []) (λ is. drop ! $
@@ -204,9 +205,11 @@ module _ {M : Type 1} (𝓤 : URA M) (H : Heap 𝓤) (A : Atoms 𝓤) (W : Given
         calls-at ! (fmOf 𝓤 H (W .laws) 𝓣) (Sl 𝓤 H A at-mem run″) known-sl (to-sl 𝓤 H A W at-mem run″ ν γ l₃ d r)
         (and-then ! (load ! (from ! (stop !)) (look ! 6 refl)) (and-then ! (load ! (from ! (stop !)) (look ! 3 refl)) (no-more !))) (λ w.
         use1 W (later (some (λ (c : Answer). ((‵ (flft (ν ∷ []) fullShare) ⊛ ‵ ftrue) ⊛ ‵ (U.the-row .own c (w ∷ [])))
-        ⊛ raw (ensured 𝓤 H A sl.ended (sl.clauses 𝓤 H A at-mem run″) (ν ∷ [], tt) (x 𝓤 H A W at-mem run″ l₃ γ d, (r, tt)) tt c)))) (id⊢ 𝓤 _) $ await ! tt $ pick ! (λ c.
+        ⊛ raw (ensured 𝓤 H A sl.ended (sl.clauses 𝓤 H A at-mem run″) (ν ∷ [], tt) (x 𝓤 H A W at-mem run″ l₃ γ d, (r, tt)) tt c)))) (id⊢ 𝓤 _) $
+        await ! tt $ pick ! (λ c.
         split ! $ move ! (1 ∷ []) $ use1 W (some
-        (λ (ws : Device × (Unit {0} × Unit {0})). ‵ (lasts sl.ended (ν ∷ [], tt) (x 𝓤 H A W at-mem run″ l₃ γ d, (r, tt)) ws) ⊛ raw (fact 𝓤 (Does d r (ws .0) c)))) (id⊢ 𝓤 _) $
+        (λ (ws : Device × (Unit {0} × Unit {0})). ‵ (lasts sl.ended (ν ∷ [], tt) (x 𝓤 H A W at-mem run″ l₃ γ d, (r, tt)) ws)
+        ⊛ raw (fact 𝓤 (Does d r (ws .0) c)))) (id⊢ 𝓤 _) $
         pick ! (λ ws.
         split ! $ move ! (1 ∷ []) $ heard ! (Does d r (ws .0) c) (λ did. fsplit ! $ move ! (2 ∷ []) $ split ! $ move ! (1 ∷ []) $
         peeks ! U.the-row (Is U.the-row) (shows 𝓤 H A U.the-row) c (w ∷ []) (λ is. drop ! $

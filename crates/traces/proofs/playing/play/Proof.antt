@@ -1,5 +1,5 @@
--- `traces::playing::play` meets its contract: the loop holds the device after i events by its parts, their answers stand before the untouched rest, and the last two
--- answer bytes are the device's. Each arm of the match is a step (proofs/Arms), and each turn keeps what is known (proofs/Turn).
+-- `traces::playing::play` meets its contract: the loop holds the device after i events by its parts, their answers stand before the untouched rest,
+-- and the last two answer bytes are the device's. Each arm of the match is a step (proofs/Arms), and each turn keeps what is known (proofs/Turn).
 -- Assumes nothing.
 mod Loop
 mod Places
