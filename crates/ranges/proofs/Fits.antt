@@ -80,8 +80,12 @@ module _ (B : ℕ → Type 0) (none : B 0) (less : (n : ℕ) → B n → B (n - 
 
   pub power-up-ok : (k : Kind) → Ok B (powerUp k)
   unfolding powerUp
-  power-up-ok k = record { zero = fresh-ok B none less; one = fresh-ok B none less;
-      bus = (omega arith, omega arith, omega arith, omega arith); arb = (omega arith, none) }
+  power-up-ok k = record {
+    zero = fresh-ok B none less;
+    one = fresh-ok B none less;
+    bus = (omega arith, omega arith, omega arith, omega arith);
+    arb = (omega arith, none);
+  }
 
   from-ok : (rs : List Raw) (d : Device) → RawsOk B rs → Ok B d → Ok B (runFrom d rs)
   unfolding runFrom

@@ -54,8 +54,7 @@ pub fn long_functions(tree: &Tree) -> Vec<String> {
 /// The lines of proofs that are too wide, a sentence each.
 pub fn wide_lines(tree: &Tree) -> Vec<String> {
     let mut found = Vec::new();
-    for path in tree.paths("crates/", ".antt").into_iter().filter(|path| path.contains("/proofs/"))
-    {
+    for path in tree.paths("crates/", ".antt").filter(|path| path.contains("/proofs/")) {
         for (at, line) in tree.text(path).unwrap_or_default().lines().enumerate() {
             let wide = line.chars().count();
             if wide > WIDEST {
