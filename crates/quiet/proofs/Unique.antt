@@ -9,7 +9,7 @@ use Rattle.quiet.proofs.owner_ticks.Reads as owner-ticks
 use Rattle.quiet.proofs.is_still.Reads as is-still
 use Rattle.quiet.proofs.is_calm.Reads as is-calm
 use Rattle.quiet.proofs.quiet_ticks.Reads as quiet-ticks
-use Rattle.quiet.proofs.settled_ticks.Reads as settled-ticks
+use Rattle.quiet.proofs.counts_left.Reads as counts-left
 use Rattle.quiet.proofs.after_ticks.Reads as after-ticks
 
 pub hold-ticks-once : OneResult hold-ticks.Post
@@ -36,8 +36,8 @@ is-calm-once κ a x y s t p q = once p q
 pub quiet-ticks-once : OneResult quiet-ticks.Post
 quiet-ticks-once κ a x y s t p q = once p q
 
-pub settled-ticks-once : OneResult settled-ticks.Post
-settled-ticks-once κ a x y s t p q = once p q
+pub counts-left-once : OneResult counts-left.Post
+counts-left-once κ a x y s t p q = once p q
 
 pub after-ticks-once : OneResult after-ticks.Post
 after-ticks-once κ a x y s t p q = once p q

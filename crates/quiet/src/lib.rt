@@ -133,21 +133,8 @@ pub fn is_calm(t: Turn, d: Device) -> bool
 
 // ---- how many
 
-fn counts_left(d: Device) -> u16
-    ensures { λ r. ⌜ r ≡ countsLeft d ⌝ }
-{
-    least_u16(
-        least_u16(hold_ticks(d.bus.hold), turn_ticks(turn_of(d.arb), d)),
-        least_u16(
-            scl_ticks(scl_high(d.bus), d.bus.lowscl),
-            sda_ticks(sda_high(d.bus), d.bus.lowsda),
-        ),
-    )
-}
-
-// The same for a device that is known to be settled, where it is all that is asked. The trace loop alone calls it: a function as large as this
-// is inlined only where a single place calls it, and uninlined the loop takes a quarter more instructions.
-pub fn settled_ticks(d: Device) -> u16
+// Of a device that is known to be settled it is all that is asked.
+pub fn counts_left(d: Device) -> u16
     ensures { λ r. ⌜ r ≡ countsLeft d ⌝ }
 {
     let hold = hold_ticks(d.bus.hold);

@@ -9,7 +9,6 @@ use Rattle.registers.proofs.after_read.Reads as after-read
 use Rattle.registers.proofs.empties_own.Reads as empties-own
 use Rattle.registers.proofs.reader_side.Reads as reader-side
 use Rattle.registers.proofs.sender_side.Reads as sender-side
-use Rattle.registers.proofs.byte_handed_out.Reads as byte-handed-out
 
 pub raised-in-once : OneResult raised-in.Post
 raised-in-once κ a x y s t p q = once p q
@@ -34,6 +33,3 @@ reader-side-once κ a x y s t p q = once p q
 
 pub sender-side-once : OneResult sender-side.Post
 sender-side-once κ a x y s t p q = once p q
-
-pub byte-handed-out-once : OneResult byte-handed-out.Post
-byte-handed-out-once κ a x y s t p q = once p q

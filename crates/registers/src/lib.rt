@@ -19,9 +19,6 @@ use fields::pointer_of;
 use fields::port_of;
 use fields::side_with;
 
-// What ID reads as.
-const ID_BYTE: u8 = 0x38;
-
 // ---- interrupts
 
 // The interrupts with this one set too, if it happened.
@@ -122,30 +119,6 @@ pub fn register_byte(
         Register::IntMask => own.mask,
         Register::MailLow => own.mail.low,
         Register::MailHigh => own.mail.high,
-    }
-}
-
-// The same byte for the loop over events, inlined there since no other place calls it.
-pub fn byte_handed_out(
-    granted: bool,
-    theirs: bool,
-    reader: Side,
-    partner: Side,
-    b: Bus,
-    initfail: bool,
-) -> u8
-    ensures { λ r. ⌜ r ≡ registerByte (reader .pointer) granted theirs reader partner b initfail ⌝ }
-{
-    let at = pointer_of(reader);
-    match at {
-        Register::Id => ID_BYTE,
-        Register::Contr => contr_byte(granted, reader.contr),
-        Register::Status => status_byte(theirs, reader, partner, b, initfail),
-        Register::Rt => reader.rt,
-        Register::IntStatus => int_status_byte(bus_hung(b), reader.ints),
-        Register::IntMask => reader.mask,
-        Register::MailLow => reader.mail.low,
-        Register::MailHigh => reader.mail.high,
     }
 }
 

@@ -41,7 +41,6 @@ use crate::turns::granted_side;
 use crate::turns::stop_grants;
 use arbiter::Device;
 use arbiter::Raw;
-use arbiter::Stepped;
 use bits::least_usize;
 use bus::idle_kept;
 use fields::rolls_over;
@@ -50,7 +49,7 @@ use format::put_answer;
 use ports::commanded_side;
 use ports::stopped_side;
 use quiet::after_ticks;
-use quiet::settled_ticks;
+use quiet::counts_left;
 use registers::empties_own;
 use registers::fallen_side;
 use registers::reader_side;
@@ -58,15 +57,7 @@ use registers::sender_side;
 use resets::reset_device;
 use step::answered;
 use step::step_device;
-use writing::light_writer;
 use writing::writer_side;
-
-// The one place here that steps a device.
-fn step_one(d: Device, r: Raw) -> Stepped
-    ensures { λ s. ⌜ s ≡ step d r ⌝ }
-{
-    step_device(d, r)
-}
 
 // The first n events of these bytes from a settled device, each answered at its place. TICKs that move nothing but counts are taken together, and an event
 // that ends with its own effect does so here, on the one side or the two that it moves; so do the STOP that brings a grant and the byte that claims alone,
@@ -95,7 +86,7 @@ pub(crate) fn play(from: Device, events: &[u8], answers: &mut [u8], n: usize) ->
             let s0 = sides[0];
             let s1 = sides[1];
             let d = device_of(kind, s0, s1, bus, arb);
-            let k = settled_ticks(d);
+            let k = counts_left(d);
             if k == 0 {} else {
                 let last = i + least_usize(k as usize, n - i);
                 let j = play_ticks(events, answers, i, last, answer_kept(0, 0, owner, lines));
@@ -128,7 +119,7 @@ pub(crate) fn play(from: Device, events: &[u8], answers: &mut [u8], n: usize) ->
                     if takes_bytes(s) {
                         if writes_lightly(r.x, r.y, arb, s) {
                             let o = sides[1 - at];
-                            sides[at] = light_writer(rolls, granted_at(r.x, arb), r.y, s);
+                            sides[at] = writer_side(rolls, granted_at(r.x, arb), r.y, s);
                             sides[1 - at] = partner_written(r.y, s, o);
                             let s0 = sides[0];
                             let s1 = sides[1];
@@ -316,7 +307,7 @@ pub(crate) fn play(from: Device, events: &[u8], answers: &mut [u8], n: usize) ->
         }
         let s0 = sides[0];
         let s1 = sides[1];
-        let s = step_one(device_of(kind, s0, s1, bus, arb), r);
+        let s = step_device(device_of(kind, s0, s1, bus, arb), r);
         let a = s.answer;
         put_answer(answers, i, a);
         let e = s.device;
@@ -343,7 +334,7 @@ pub(crate) fn step_each(from: Device, events: &[u8], answers: &mut [u8], n: usiz
     let mut d = from;
     let mut i: usize = 0;
     while i < n {
-        let s = step_one(d, event_at(events, i));
+        let s = step_device(d, event_at(events, i));
         put_answer(answers, i, s.answer);
         d = s.device;
         i += 1;

@@ -50,9 +50,8 @@ use ports::is_at_rest;
 use ports::is_for_writing;
 use quiet::is_calm;
 use quiet::is_still;
-use registers::byte_handed_out;
 use registers::is_asserted_by;
-use writing::light_partner;
+use registers::register_byte;
 use writing::mail_written;
 use writing::writable_at;
 use writing::writer_side;
@@ -141,7 +140,7 @@ pub(crate) fn writes_lightly(x: u8, v: u8, a: Arbitration, s: Side) -> bool
 pub(crate) fn partner_written(v: u8, s: Side, o: Side) -> Side
     ensures { λ r. ⌜ r ≡ mailWritten (s .pointer) v o ⌝ }
 {
-    light_partner(pointer_of(s), v, o)
+    mail_written(pointer_of(s), v, o)
 }
 
 // The byte that a READ of this master hands out; s is its side, and o is its partner's.
@@ -150,7 +149,7 @@ pub(crate) fn byte_read(x: u8, a: Arbitration, s: Side, o: Side, b: Bus) -> u8
 {
     let granted = granted_at(x, a);
     let theirs = partner_granted_at(x, a);
-    byte_handed_out(granted, theirs, s, o, b, a.initfail)
+    register_byte(granted, theirs, s, o, b, a.initfail)
 }
 
 pub(crate) fn commanded_number(c: u8) -> u8

@@ -7,8 +7,6 @@ use Rattle.writing.proofs.written_by_1.Reads as written-by-1
 use Rattle.writing.proofs.paired_by.Reads as paired-by
 use Rattle.writing.proofs.writer_side.Reads as writer-side
 use Rattle.writing.proofs.mail_written.Reads as mail-written
-use Rattle.writing.proofs.light_writer.Reads as light-writer
-use Rattle.writing.proofs.light_partner.Reads as light-partner
 
 pub writable-at-once : OneResult writable-at.Post
 writable-at-once κ a x y s t p q = once p q
@@ -27,9 +25,3 @@ writer-side-once κ a x y s t p q = once p q
 
 pub mail-written-once : OneResult mail-written.Post
 mail-written-once κ a x y s t p q = once p q
-
-pub light-writer-once : OneResult light-writer.Post
-light-writer-once κ a x y s t p q = once p q
-
-pub light-partner-once : OneResult light-partner.Post
-light-partner-once κ a x y s t p q = once p q

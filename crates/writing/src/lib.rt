@@ -242,39 +242,3 @@ pub fn paired_by(v0: u8, v1: u8, d: Device) -> Device
         d,
     )
 }
-
-// ---- the two sides for the loop over events, inlined there since no other place calls them
-
-// The writer's own side, as writer_side has it.
-pub fn light_writer(rolls: bool, granted: bool, v: u8, w: Side) -> Side
-    ensures { λ r. ⌜ r ≡ writeRisen rolls (ownWritten granted (w .pointer) v w) ⌝ }
-{
-    let n = register_number(pointer_of(w));
-    side_with(
-        risen(rolls, w.auto, pointer_of(w)),
-        pick_u8((n == 3) & !granted, v, w.rt),
-        contr_after(n == 1, granted, v, w.contr),
-        ints_after(n == 4, n == 2, v, w.ints),
-        w.mail,
-        w.auto,
-        port_of(w),
-        pick_u8(n == 5, v % 128, w.mask),
-    )
-}
-
-// Its partner's side, as mail_written has it.
-pub fn light_partner(r: Register, v: u8, p: Side) -> Side
-    ensures { λ n. ⌜ n ≡ mailWritten r v p ⌝ }
-{
-    let n = register_number(r);
-    side_with(
-        pointer_of(p),
-        p.rt,
-        p.contr,
-        raised_in(p.ints, 0x20, (n == 7) & !p.mail.full),
-        mail_after(n, v, p.mail),
-        p.auto,
-        port_of(p),
-        p.mask,
-    )
-}

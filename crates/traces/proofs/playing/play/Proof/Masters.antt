@@ -65,7 +65,7 @@ loop-again-3 c =
     let opened = sym (back10 .before .before .before .before .before .before .takes-bytes .ensures)
     ∙ back10 .before .before .before .before .before .if5 .taken in
     let light = sym (back10 .before .before .before .before .writes-lightly .ensures) ∙ back10 .before .before .before .if6 .taken in
-    let writer = back10 .light-writer in
+    let writer = back10 .writer-side in
     let partner = c .before .before .before .before .before .before .before .before .before .partner-written in
     let number = c .before .before .before .before .written-number in
     let lines = c .before .before .before .before .before .before .lines-shown in

@@ -90,7 +90,7 @@ loop-again-17 c =
     let settled = known .4 in
     let within = back10 .before .before .before .before .before .before .before .loop-test .taken in
     let claimed = c .before .before .before .before .before .before .claimed-arb in
-    let side = c .before .before .before .before .before .writer-side in
+    let side = c .before .before .before .before .before .writer-side2 in
     let wrote = side .ensures ∙ ap (λ (x : Bool). writeRisen x (ownWritten false (s .pointer) (r .y) s))
     (back20 .before .before .before .rolls-over .ensures) in
     let arm = claim-arm kind (at .sides) (at .bus) (at .arb) two (at .owner) (at .lines) (known .5) (known .6) r (first-holds _ _ (all .1))
