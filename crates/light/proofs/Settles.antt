@@ -2,12 +2,13 @@
 -- Assumes nothing.
 use mathlib.Core.Path.{_≡_, refl, sym, ap, ap₂, subst, _∙_}
 use mathlib.Core.Bool.{Bool, true, false, not, _&&_, false≢true, and-eq-true-iff, and-false}
+use mathlib.Core.List.{List, [], _∷_}
 use lib.Dec.{eqb}
 use Rattle.arbiter.specs.Words.{if_then_else_, sameMaster, side}
 use Rattle.arbiter.specs.State.{ownsTurn, atRest}
 use Rattle.arbiter.specs.Order.{claimBy, winner, groundOf, claimAfter}
 use Rattle.arbiter.specs.Effects.{freshSide, powerUp}
-use Rattle.arbiter.specs.Steps.{step}
+use Rattle.arbiter.specs.Steps.{step, runFrom}
 use Rattle.arbiter.specs.AuditWords.{next}
 use Rattle.arbiter.specs.declared.Master.{Master}
 use Rattle.arbiter.specs.declared.Master.the-variants.{Zero, One}
@@ -17,6 +18,7 @@ use Rattle.arbiter.specs.declared.Turn.the-variants.{Nobody, Claims, Owns}
 use Rattle.arbiter.specs.declared.Switch.{Switch}
 use Rattle.arbiter.specs.declared.Switch.the-variants.{Apart, Initialising, Closed}
 use Rattle.arbiter.specs.declared.Device.{Device}
+use Rattle.arbiter.specs.declared.Raw.{Raw}
 use Rattle.arbiter.proofs.Settled.{loses, isDue, Ready, parts-ready}
 use Rattle.arbiter.proofs.Choice.{not-true, same-self, turn-owns}
 use Rattle.arbiter.proofs.Connected.{serves, asksOn, Served, unserved, serves-owner, step-served}
@@ -183,3 +185,9 @@ stays-settled d r h =
           let ready = subst Ready (sym (x .after)) (parts-ready e d) in
           (ready .0 .0, ready-quiet (next d r) ready (step-served d r (settled-served d h)))
     ]
+
+-- and so over every run
+pub runs-settled : (d : Device) (rs : List Raw) → Settled d → Settled (runFrom d rs)
+unfolding runFrom
+runs-settled d [] h = h
+runs-settled d (r ∷ rs) h = runs-settled (step d r .device) rs (stays-settled d r h)

@@ -17,11 +17,14 @@ use Rattle.arbiter.specs.declared.Ran.{Ran}
 use Rattle.arbiter.specs.declared.Raw.{Raw}
 use Rattle.arbiter.proofs.Choice.{split}
 use Rattle.format.specs.Places.{eventAt}
+use Rattle.light.specs.Light.{Settled}
+use Rattle.light.proofs.Settles.{runs-settled}
 use Rattle.traces.proofs.Runs.{all-ran}
 use Rattle.share.specs.declared.Tally.{Tally}
 use Rattle.share.specs.declared.Point.{Point}
 use Rattle.share.specs.States.{statesFrom}
-use Rattle.share.specs.Walk.{isTickRaw, seenOf, noted, tallyFrom, Within, pointWith, NoTicks, othersTaken, left, Onward}
+use Rattle.traces.specs.Ticks.{isTickRaw}
+use Rattle.share.specs.Walk.{seenOf, noted, tallyFrom, Within, pointWith, NoTicks, othersTaken, left, Onward}
 use Rattle.share.proofs.Rounds.{again, event-is, within-more}
 
 -- one more in a row that is no TICK
@@ -106,12 +109,13 @@ module _ (b : List ℕ) (n : ℕ) (whole : eventBytes * n ≤ length b) where
       later : NoTicks (suc k) i b → NoTicks k (i + 1) b
       later a j h = let e : i + 1 + j ≡ i + suc j = omega arith in ap (λ (x : ℕ). isTickRaw (eventAt x b)) e ∙ a (suc j) (omega arith)
 
-  pub others-onward : (p q : Point) (k : ℕ) → (k ≡ 0 → ⊥) → Within (p .at) (p .tally) → p .at + k ≤ n → NoTicks k (p .at) b → q ≡ othersTaken p k b
-      → Onward b n p q
-  others-onward p q k some within more none e =
+  pub others-onward : (p q : Point) (k : ℕ) → (k ≡ 0 → ⊥) → Within (p .at) (p .tally) → Settled (p .device) → p .at + k ≤ n → NoTicks k (p .at) b
+      → q ≡ othersTaken p k b → Onward b n p q
+  others-onward p q k some within settled more none e =
       subst (λ (x : Point). Onward b n p x) (sym e) (
         omega (arith, some),
         more,
         within-more (p .at) k (p .tally) within,
         walk k (p .at) (p .tally) (p .device) none more,
+        runs-settled (p .device) (rawsIn k (drop (eventBytes * p .at) b)) settled,
       )

@@ -8,7 +8,7 @@ use mathlib.Core.List.{List}
 use native.Mathlib.Nat.{le-refl}
 use native.Mathlib.Omega.{arith}
 use lib.Dec.{eqb}
-use lib.ListN.{length}
+use lib.ListN.{length, replicate}
 use borrow.Author.Tests.{eqb-true, eqb-false}
 use Rattle.arbiter.specs.Words.{if_then_else_, worth}
 use Rattle.arbiter.specs.Steps.{step}
@@ -18,15 +18,18 @@ use Rattle.arbiter.specs.declared.Raw.{Raw}
 use Rattle.arbiter.specs.declared.Stepped.{Stepped}
 use Rattle.format.specs.Places.{eventAt}
 use Rattle.quiet.specs.Counts.{withCounts, afterTicks}
-use Rattle.quiet.specs.Quiet.{quietTicks, tick}
-use Rattle.quiet.proofs.Ticks.{quiet, after-none}
+use Rattle.light.specs.Light.{Settled}
+use Rattle.light.proofs.Settles.{stays-settled, runs-settled}
+use Rattle.quiet.specs.Quiet.{quietTicks, tick, ticks}
+use Rattle.quiet.proofs.Ticks.{quiet, quiet-together, after-none}
 use Rattle.arbiter.proofs.Choice.{split}
 use Rattle.share.specs.declared.Seen.{Seen}
 use Rattle.share.specs.declared.Tally.{Tally}
 use Rattle.share.specs.declared.Point.{Point}
 use Rattle.share.specs.Numbers.{larger}
 use Rattle.share.specs.States.{statesFrom}
-use Rattle.share.specs.Walk.{isTickRaw, seenOf, waitedOn, noted, noTally, tallyFrom, Within, pointWith, oneTaken, quietTaken, AllTicks, left, Onward}
+use Rattle.traces.specs.Ticks.{isTickRaw}
+use Rattle.share.specs.Walk.{seenOf, waitedOn, noted, noTally, tallyFrom, Within, pointWith, oneTaken, quietTaken, AllTicks, left, Onward}
 use Rattle.share.proofs.Numbers.{larger-left, larger-right, larger-most}
 use Rattle.share.proofs.Rounds.{again, all-left, none-left, within-noted, within-after}
 
@@ -124,6 +127,12 @@ none-within : Within 0 noTally
 unfolding noTally
 none-within = omega arith
 
+-- ---- after quiet TICKs a settled device is settled
+
+quiet-settled : (j : ℕ) (d : Device) → j ≤ quietTicks d → Settled d → Settled (afterTicks j d)
+unfolding ticks
+quiet-settled j d few h = subst Settled (quiet-together d j few .0) (runs-settled d (replicate j tick) h)
+
 -- ---- quiet TICKs one by one
 
 module _ (b : List ℕ) (n : ℕ) (whole : eventBytes * n ≤ length b) where
@@ -167,9 +176,9 @@ module _ (b : List ℕ) (n : ℕ) (whole : eventBytes * n ≤ length b) where
 
   -- ---- a round
 
-  pub one-onward : (p q : Point) → p .at < n → Within (p .at) (p .tally) → q ≡ oneTaken p (eventAt (p .at) b) → Onward b n p q
+  pub one-onward : (p q : Point) → p .at < n → Within (p .at) (p .tally) → Settled (p .device) → q ≡ oneTaken p (eventAt (p .at) b) → Onward b n p q
   unfolding oneTaken
-  one-onward p q more within e =
+  one-onward p q more within settled e =
       let r = eventAt (p .at) b in
       let d = step (p .device) r .device in
       let t = if isTickRaw r then noted 1 (seenOf d) (p .tally) else p .tally in
@@ -178,17 +187,19 @@ module _ (b : List ℕ) (n : ℕ) (whole : eventBytes * n ≤ length b) where
         omega arith,
         within-after (p .at) (isTickRaw r) (seenOf d) (p .tally) t refl within,
         again b n (p .at) more whole (p .tally) t (p .device) d r refl refl refl,
+        stays-settled (p .device) r settled,
       )
 
-  pub quiet-onward : (p q : Point) (j : ℕ) → (j ≡ 0 → ⊥) → Within (p .at) (p .tally) → p .at + j ≤ n → j ≤ quietTicks (p .device) → AllTicks j (p .at) b → q
-      ≡ quietTaken p j → Onward b n p q
+  pub quiet-onward : (p q : Point) (j : ℕ) → (j ≡ 0 → ⊥) → Within (p .at) (p .tally) → Settled (p .device) → p .at + j ≤ n → j ≤ quietTicks (p .device)
+      → AllTicks j (p .at) b → q ≡ quietTaken p j → Onward b n p q
   unfolding quietTaken
-  quiet-onward p q j some within more few all e =
+  quiet-onward p q j some within settled more few all e =
       subst (λ (x : Point). Onward b n p x) (sym e) (
         omega (arith, some),
         more,
         within-noted (p .at) j (seenOf (afterTicks j (p .device))) (p .tally) within,
         quiet-counts (p .device) j (p .at) (p .tally) (omega (arith, some)) all more few,
+        quiet-settled j (p .device) few settled,
       )
 
   -- ---- before the first round and after the last

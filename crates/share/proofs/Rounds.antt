@@ -21,7 +21,8 @@ use Rattle.share.specs.declared.Seen.{Seen}
 use Rattle.share.specs.declared.Tally.{Tally}
 use Rattle.share.specs.Numbers.{larger}
 use Rattle.share.specs.States.{listedIf, statesFrom}
-use Rattle.share.specs.Walk.{isTickRaw, seenOf, waitedOn, noted, tallyFrom, Within, left}
+use Rattle.traces.specs.Ticks.{isTickRaw}
+use Rattle.share.specs.Walk.{seenOf, waitedOn, noted, tallyFrom, Within, left}
 use Rattle.share.proofs.Numbers.{larger-most}
 use Rattle.share.proofs.Ticks.{told-tick}
 

@@ -14,7 +14,7 @@ use Rattle.arbiter.specs.declared.Event.{Event}
 use Rattle.arbiter.specs.declared.Event.the-variants.{Command, Write, Read, Stop, Pair, Lines, Tick, Pulse, Reset, GeneralCall}
 use Rattle.arbiter.specs.declared.Decoded.{Decoded}
 use Rattle.arbiter.proofs.Choice.{split, either}
-use Rattle.share.specs.Walk.{isTickRaw}
+use Rattle.traces.specs.Ticks.{isTickRaw}
 
 module _ (d : Device) where
   abbrev ticks : Decoded → Bool

@@ -5,7 +5,6 @@ use Rattle.arbiter.proofs.Once.{OneResult, OneLeft, once}
 use Rattle.share.proofs.empty_totals.Reads as empty-totals
 use Rattle.share.proofs.add_trace.Reads as add-trace
 use Rattle.share.proofs.join.Reads as join
-use Rattle.share.proofs.counting.count_events.Reads as count-events
 use Rattle.share.proofs.lent.add_totals.Reads as add-totals
 use Rattle.share.proofs.lent.join_lent.Reads as join-lent
 
@@ -17,9 +16,6 @@ add-trace-once κ a x y s t p q = once p q
 
 pub join-once : OneResult join.Post
 join-once κ a x y s t p q = once p q
-
-pub count-events-once : OneResult count-events.Post
-count-events-once κ a x y s t p q = once p q
 
 pub add-totals-once : OneLeft (λ κ s. now (s .0)) add-totals.Post
 add-totals-once κ a x y s t p q = (once (p .0) (q .0), once (p .1) (q .1))

@@ -2,9 +2,9 @@
 -- Assumes nothing.
 use Prim.Native.Nat.{ℕ, _+_, _-_, _*_, _<_, _≤_}
 use mathlib.Core.Path.{_≡_}
-use mathlib.Core.Bool.{Bool, false, _&&_, _||_}
+use mathlib.Core.Bool.{Bool, false, _||_}
 use mathlib.Core.List.{List, [], _∷_}
-use lib.Dec.{eqb, ltb}
+use lib.Dec.{ltb}
 use lib.ListN.{drop}
 use Rattle.arbiter.specs.Words.{if_then_else_, worth}
 use Rattle.arbiter.specs.State.{owns, connected}
@@ -14,18 +14,16 @@ use Rattle.arbiter.specs.declared.Master.the-variants.{Zero, One}
 use Rattle.arbiter.specs.declared.Device.{Device}
 use Rattle.arbiter.specs.declared.Raw.{Raw}
 use Rattle.format.specs.Places.{eventAt}
+use Rattle.light.specs.Light.{Settled}
 use Rattle.quiet.specs.Counts.{afterTicks}
 use Rattle.quiet.specs.Quiet.{tick}
+use Rattle.traces.specs.Ticks.{isTickRaw}
 use Rattle.share.specs.declared.Point.{Point}
 use Rattle.share.specs.declared.Seen.{Seen}
 use Rattle.share.specs.declared.Tally.{Tally}
 use Rattle.share.specs.declared.Totals.{Totals}
 use Rattle.share.specs.Numbers.{larger}
 use Rattle.share.specs.States.{statesFrom, waits, unowned}
-
--- four bytes that are a TICK: every device takes it
-abbrev pub isTickRaw : Raw → Bool
-isTickRaw r = eqb (r .kind) 6 && eqb (r .x) 0 && eqb (r .y) 0 && eqb (r .z) 0
 
 -- what is seen of a state
 unfoldable pub seenOf : Device → Seen
@@ -156,13 +154,14 @@ othersTaken p k b = pointWith (runFrom (p .device) (rawsIn k (drop (eventBytes *
 abbrev pub left : List ℕ → ℕ → ℕ → List Raw
 left b n i = rawsIn (n - i) (drop (eventBytes * i) b)
 
--- q is further on than p, and with what is left comes to the same counts
+-- q is further on than p, and with what is left comes to the same counts; its device is settled
 abbrev pub Onward : List ℕ → ℕ → Point → Point → Type 0
 Onward b n p q =
     (p .at < q .at)
     × (q .at ≤ n)
     × Within (q .at) (q .tally)
     × (tallyFrom (q .tally) (statesFrom (q .device) (left b n (q .at))) ≡ tallyFrom (p .tally) (statesFrom (p .device) (left b n (p .at))))
+    × Settled (q .device)
 
 -- the counts of the first n events; none where there are not so many, or more than a trace has
 unfoldable pub countedIn : Device → List ℕ → ℕ → Tally

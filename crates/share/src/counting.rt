@@ -6,10 +6,12 @@ ghost use lib.ListN.{length};
 ghost use Rattle.arbiter.specs.Words.{if_then_else_, worth};
 ghost use Rattle.arbiter.specs.Traces.{eventBytes, mostEvents, rawsIn};
 ghost use Rattle.format.specs.Places.{eventAt};
+ghost use Rattle.light.specs.Light.{Settled};
 ghost use Rattle.quiet.specs.Quiet.{quietTicks};
 ghost use Rattle.share.specs.Numbers.{larger};
 ghost use Rattle.share.specs.States.{statesFrom};
-ghost use Rattle.share.specs.Walk.{isTickRaw, seenOf, waitedOn, noted, noTally, tallyFrom, Within, pointWith, oneTaken, quietTaken, AllTicks, NoTicks, othersTaken, Onward, countedIn};
+ghost use Rattle.traces.specs.Ticks.{isTickRaw};
+ghost use Rattle.share.specs.Walk.{seenOf, waitedOn, noted, noTally, tallyFrom, Within, pointWith, oneTaken, quietTaken, AllTicks, NoTicks, othersTaken, Onward, countedIn};
 use crate::Point;
 use crate::Seen;
 use crate::Tally;
@@ -24,9 +26,10 @@ use format::EVENT_BYTES;
 use format::MOST_EVENTS;
 use format::event_at;
 use quiet::after_ticks;
-use quiet::quiet_ticks;
+use quiet::counts_left;
 use step::step_device;
-use traces::run_events;
+use traces::run_settled;
+use traces::ticks::is_tick;
 
 // ---- one state
 
@@ -111,12 +114,6 @@ fn note(j: u16, s: Seen, t: Tally) -> Tally
     }
 }
 
-fn is_tick(r: Raw) -> bool
-    ensures { λ b. ⌜ b ≡ isTickRaw r ⌝ }
-{
-    (r.kind == 6) & (r.x == 0) & (r.y == 0) & (r.z == 0)
-}
-
 // The state after one event is noted, if the event is a TICK.
 fn note_after(r: Raw, d: Device, t: Tally) -> Tally
     requires { ⌜ Within (mostEvents - 1) t ⌝ }
@@ -172,13 +169,13 @@ fn smaller_of(a: u16, b: usize) -> u16
     if (a as usize) < b { a } else { b as u16 }
 }
 
-// How many quiet TICKs follow from here on. Where the next event is none, nobody asks how many are quiet.
+// How many quiet TICKs follow from here on. Where the next event is none, nobody asks how many are quiet; of a settled device the counts alone are asked.
 fn quiet_run(d: Device, events: &[u8], at: usize, n: usize) -> u16
-    requires { ⌜ (at < n) × (eventBytes * n ≤ length (now events)) ⌝ }
+    requires { ⌜ (at < n) × (eventBytes * n ≤ length (now events)) × Settled d ⌝ }
     ensures { λ r. ⌜ (at + r ≤ n) × (r ≤ quietTicks d) × AllTicks r at (now (events .entry)) ⌝ }
 {
     if is_tick(event_at(events, at)) {
-        tick_run(events, at, smaller_of(quiet_ticks(d), n - at))
+        tick_run(events, at, smaller_of(counts_left(d), n - at))
     } else {
         0
     }
@@ -201,7 +198,7 @@ fn other_run(events: &[u8], at: usize, limit: u16) -> u16
 
 // k events of which none is a TICK.
 fn take_others(p: Point, events: &[u8], k: u16) -> Point
-    requires { ⌜ (k ≤ 32) × (p .at + k ≤ mostEvents) × (eventBytes * (p .at + k) ≤ length (now events)) ⌝ }
+    requires { ⌜ (k ≤ 32) × (p .at + k ≤ mostEvents) × (eventBytes * (p .at + k) ≤ length (now events)) × Settled (p .device) ⌝ }
     ensures { λ r. ⌜ r ≡ othersTaken p k (now (events .entry)) ⌝ }
 {
     let at = p.at;
@@ -209,13 +206,13 @@ fn take_others(p: Point, events: &[u8], k: u16) -> Point
     let from = EVENT_BYTES * at;
     let end = EVENT_BYTES * next;
     let mut answers = [0u8; 128];
-    let ran = run_events(p.device, &events[from..end], &mut answers);
+    let ran = run_settled(p.device, &events[from..end], &mut answers);
     point_with(ran.device, p.tally, next)
 }
 
 // A TICK, and quiet ones that follow it.
 fn take_ticks(p: Point, events: &[u8], n: usize) -> Point
-    requires { ⌜ (p .at < n) × (n ≤ mostEvents) × (eventBytes * n ≤ length (now events)) × Within (p .at) (p .tally) ⌝ }
+    requires { ⌜ (p .at < n) × (n ≤ mostEvents) × (eventBytes * n ≤ length (now events)) × Within (p .at) (p .tally) × Settled (p .device) ⌝ }
     ensures { λ r. ⌜ Onward (now (events .entry)) n p r ⌝ }
 {
     let at = p.at;
@@ -228,7 +225,7 @@ fn take_ticks(p: Point, events: &[u8], n: usize) -> Point
 }
 
 fn take_next(p: Point, events: &[u8], n: usize) -> Point
-    requires { ⌜ (p .at < n) × (n ≤ mostEvents) × (eventBytes * n ≤ length (now events)) × Within (p .at) (p .tally) ⌝ }
+    requires { ⌜ (p .at < n) × (n ≤ mostEvents) × (eventBytes * n ≤ length (now events)) × Within (p .at) (p .tally) × Settled (p .device) ⌝ }
     ensures { λ r. ⌜ Onward (now (events .entry)) n p r ⌝ }
 {
     let at = p.at;
@@ -241,7 +238,7 @@ fn take_next(p: Point, events: &[u8], n: usize) -> Point
 }
 
 fn count_all(from: Device, events: &[u8], n: usize) -> Tally
-    requires { ⌜ (eventBytes * n ≤ length (now events)) × (n ≤ mostEvents) ⌝ }
+    requires { ⌜ (eventBytes * n ≤ length (now events)) × (n ≤ mostEvents) × Settled from ⌝ }
     ensures { λ r. ⌜ r ≡ tallyFrom noTally (statesFrom from (rawsIn n (now (events .entry)))) ⌝ }
 {
     let mut p = point_with(from, empty_tally(), 0);
@@ -253,7 +250,8 @@ fn count_all(from: Device, events: &[u8], n: usize) -> Tally
 }
 
 // The states after the TICKs among the first n events, of which there are enough and no more than a trace has; else nothing is counted.
-pub fn count_events(from: Device, events: &[u8], n: usize) -> Tally
+pub(crate) fn count_events(from: Device, events: &[u8], n: usize) -> Tally
+    requires { ⌜ Settled from ⌝ }
     ensures { λ r. ⌜ r ≡ countedIn from (now (events .entry)) n ⌝ }
 {
     if (MOST_EVENTS < n) | (events.len() / EVENT_BYTES < n) {

@@ -3,7 +3,7 @@ mod playing;
 mod raws;
 pub mod reading;
 mod sides;
-mod ticks;
+pub mod ticks;
 mod turns;
 
 ghost use mathlib.Core.Path.{_≡_};
@@ -77,6 +77,14 @@ pub fn run_events(d: Device, events: &[u8], answers: &mut [u8]) -> Ran
     run_from(is_settled(d), d, events, answers)
 }
 
+// The same from a settled device, of which nobody asks whether it is. A caller knows that it is: see docs/PROMISES.md.
+pub fn run_settled(d: Device, events: &[u8], answers: &mut [u8]) -> Ran
+    requires { ⌜ Settled d ⌝ }
+    ensures { λ r. ⌜ (r ≡ ran d (now (events .entry)) (now (answers .entry))) × (now (answers .exit) ≡ bufferRan d (now (events .entry)) (now (answers .entry))) ⌝ }
+{
+    run_from(true, d, events, answers)
+}
+
 fn reported(number: u8, address: u8, events: usize, device: Device) -> Report
     ensures { λ r. ⌜ r ≡ reportWith number address events device ⌝ }
 {
@@ -100,7 +108,7 @@ pub fn run_trace(t: &[u8], out: &mut [u8]) -> Report
             reported(number, 0, 0, fresh(Kind::Pca9641))
         }
         TraceRead::Accepted(address, _, kind) => {
-            let r = run_from(true, fresh(kind), events_in(t), out);
+            let r = run_settled(fresh(kind), events_in(t), out);
             reported(r.number, address, r.events, r.device)
         }
     }

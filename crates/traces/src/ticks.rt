@@ -11,7 +11,7 @@ use bits::wide_u32;
 use format::EVENT_BYTES;
 
 // The four bytes as one number, low first: one load and one test in machine code.
-pub(crate) fn is_tick(r: Raw) -> bool
+pub fn is_tick(r: Raw) -> bool
     ensures { λ t. ⌜ t ≡ isTickRaw r ⌝ }
 {
     wide_u32(r.kind) + 256 * wide_u32(r.x) + 65536 * wide_u32(r.y) + 16777216 * wide_u32(r.z) == 6

@@ -1,7 +1,9 @@
 -- `share::totals_of` meets its contract.
 -- Assumes nothing.
-use mathlib.Core.Path.{sym, _∙_}
+use mathlib.Core.Path.{sym, subst, _∙_}
 use borrow.Author.Needs.{needs}
+use Rattle.light.specs.Light.{Settled}
+use Rattle.light.proofs.Settles.{settled-at-power-up}
 use Rattle.share.proofs.Own.{own-refused, has-head, own-accepted}
 use Rattle.share.proofs.totals_of.Statement.{statement}
 use Rattle.share.proofs.totals_of.Tie as tie
@@ -17,6 +19,9 @@ part-count-events-start c =
     let told = c .before .before in
     let h = sym (told .before .before .read-trace .ensures .0) ∙ told .read2 .given .1 in
     has-head _ _ _ _ h
+
+count-events-requires : tie.Need-count-events-requires
+count-events-requires c κs = subst Settled (sym (c .before .fresh .ensures)) (settled-at-power-up _)
 
 returns : tie.Need-returns
 returns c =
@@ -40,6 +45,8 @@ totals-of-spec =
     (λ c. search needs) (λ c κs. search needs)
     sub-count-events
     part-count-events-start
-    (λ c. search needs) (λ c κs. search needs) (λ c κs. search needs) (λ c κs. search needs)
+    (λ c. search needs)
+    count-events-requires
+    (λ c κs. search needs) (λ c κs. search needs)
     returns
     returns-2)

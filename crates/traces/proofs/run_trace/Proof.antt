@@ -9,8 +9,8 @@ use Rattle.traces.proofs.Accepted.{played-report, played-buffer, refuse
 use Rattle.traces.proofs.run_trace.Statement.{statement}
 use Rattle.traces.proofs.run_trace.Tie as tie
 
-run-from-requires : tie.Need-run-from-requires
-run-from-requires c κs = λ h. subst Settled (sym (c .before .before .fresh2 .ensures)) (settled-at-power-up _)
+run-settled-requires : tie.Need-run-settled-requires
+run-settled-requires c κs = subst Settled (sym (c .before .before .fresh2 .ensures)) (settled-at-power-up _)
 
 returns : tie.Need-returns
 returns c =
@@ -27,8 +27,8 @@ returns-2 c =
     let told = part .before .before .before in
     let h = sym (told .before .before .read-trace .ensures .0) ∙ told .read2 .given .1 in
     let new = part .before .fresh2 .ensures in (
-      c .reported2 .ensures ∙ played-report _ _ _ _ _ h _ _ _ new (part .events-in .ensures) (ran .run-from .ensures .0),
-      ran .run-from .ensures .1 ∙ played-buffer _ _ _ _ _ h _ _ new (part .events-in .ensures),
+      c .reported2 .ensures ∙ played-report _ _ _ _ _ h _ _ _ new (part .events-in .ensures) (ran .run-settled .ensures .0),
+      ran .run-settled .ensures .1 ∙ played-buffer _ _ _ _ _ h _ _ new (part .events-in .ensures),
     )
 
 pub run-trace-spec : {M : Type 1} → statement M
@@ -37,7 +37,7 @@ run-trace-spec =
     (tie.spec
     (λ c κs. search needs) (λ c. search needs) (λ c κs. search needs) (λ c κs. search needs) (λ c κs. search needs)
     (λ c. search needs) (λ c κs. search needs) (λ c κs. search needs)
-    run-from-requires
+    run-settled-requires
     (λ c κs. search needs)
     returns
     (λ c. search needs)

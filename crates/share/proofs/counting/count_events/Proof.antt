@@ -10,7 +10,10 @@ returns : tie.Need-returns
 returns c = c .empty-tally .ensures ∙ sym (counted-none _ _ _ (c .before .if1 .taken))
 
 count-all-requires : tie.Need-count-all-requires
-count-all-requires c κs = let start = c .before .before .args in counted-enough (start .events .now) (start .n) (c .if1 .left)
+count-all-requires c κs =
+    let start = c .before .before in
+    let few = counted-enough (start .args .events .now) (start .args .n) (c .if1 .left) in
+    (few .0, few .1, start .pre)
 
 returns-2 : tie.Need-returns-2
 returns-2 c =

@@ -18,7 +18,7 @@ returns-2 c =
     let run = test .before .other-run .ensures in
     let few = test .before .before .smaller-of .ensures in
     let start = test .before .before .before .before in
-    others-onward (start .args .events .now) (start .args .n) (start .pre .2) (start .args .p) _ _ (test .if1 .left) (start .pre .3)
+    others-onward (start .args .events .now) (start .args .n) (start .pre .2) (start .args .p) _ _ (test .if1 .left) (start .pre .3) (start .pre .4)
     (omega (arith, run .0, few .1, start .pre .0)) (run .1) (c .take-others .ensures)
 
 pub take-next-spec : {M : Type 1} → statement M

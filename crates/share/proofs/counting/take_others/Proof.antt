@@ -15,7 +15,7 @@ returns : tie.Need-returns
 returns c =
     let start = c .before .before .before .before .before .before in
     let p = start .args .p in
-    let done = ap (λ (x : Ran). x .device) (c .before .before .run-events .ensures .0)
+    let done = ap (λ (x : Ran). x .device) (c .before .before .run-settled .ensures .0)
     ∙ others-ran (p .device) (p .at) (start .args .k) (start .args .events .now) _ (start .pre .2) (omega (arith, start .pre .0)) in
     c .point-with .ensures ∙ ap (λ (d : Device). pointWith d (p .tally) (p .at + start .args .k)) done
 
