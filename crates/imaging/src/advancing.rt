@@ -18,7 +18,7 @@ ghost use Rattle.imaging.specs.Advancing.{toldWith, toldOf, imageTold, i
 use crate::Told;
 use crate::high_of;
 use crate::low_of;
-use crate::step_image;
+use crate::step_any;
 use advance::MOST_TICKS;
 use advance::changes::same_shown;
 use arbiter::Device;
@@ -104,7 +104,7 @@ fn tick_on(image: &mut [u8]) -> u32
 {
     let mut before = [0u8; 38];
     copy(image, &mut before);
-    step_image(
+    step_any(
         image,
         Raw {
             kind: 6,

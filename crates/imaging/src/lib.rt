@@ -258,9 +258,8 @@ fn step_good(image: &mut [u8], r: Raw) -> Answer
     s.answer
 }
 
-// One event on an image: the answer, and the image is that of the new device. Refused by 9 for a buffer of another length and then by 16 for
-// a field outside its range, with 00, 00, 00 after the number, and the buffer is left as it was.
-pub fn step_image(image: &mut [u8], r: Raw) -> Answer
+// One event on an image, whatever its kind.
+pub(crate) fn step_any(image: &mut [u8], r: Raw) -> Answer
     ensures { λ a. ⌜ (a ≡ imageAnswer (now (image .entry)) r) × (now (image .exit) ≡ imageAfter (now (image .entry)) r) ⌝ }
 {
     let number = image_number(image);
@@ -268,5 +267,29 @@ pub fn step_image(image: &mut [u8], r: Raw) -> Answer
         step_good(image, r)
     } else {
         refused_by(number)
+    }
+}
+
+// One event on an image: the answer, and the image is that of the new device. Refused by 9 for a buffer of another length and then by 16 for
+// a field outside its range, with 00, 00, 00 after the number, and the buffer is left as it was.
+//
+// Each kind has a call of its own, so that a compiler with room makes of each what is left of the step for that kind (docs/SPEED.md, "Single
+// steps"). For a microcontroller the calls are one.
+pub fn step_image(image: &mut [u8], r: Raw) -> Answer
+    ensures { λ a. ⌜ (a ≡ imageAnswer (now (image .entry)) r) × (now (image .exit) ≡ imageAfter (now (image .entry)) r) ⌝ }
+{
+    let what = r.kind;
+    match what {
+        0 => step_any(image, r),
+        1 => step_any(image, r),
+        2 => step_any(image, r),
+        3 => step_any(image, r),
+        4 => step_any(image, r),
+        5 => step_any(image, r),
+        6 => step_any(image, r),
+        7 => step_any(image, r),
+        8 => step_any(image, r),
+        9 => step_any(image, r),
+        _ => step_any(image, r),
     }
 }

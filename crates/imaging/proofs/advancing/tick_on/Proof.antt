@@ -24,7 +24,7 @@ is-changed-in-requires c κs =
     let start = c .before .before .before .before .before .before .before .before .before .before .before in
     let good = start .pre .0 in
     let was = c .before .before .before .before .before .before .before .copy .ensures .1 ∙ copied _ _ (sym (start .pre .1)) in
-    let left = c .before .before .before .before .step-image .ensures .1 ∙ tick-leaves _ good in
+    let left = c .before .before .before .before .step-any .ensures .1 ∙ tick-leaves _ good in
     let still = subst (λ (l : List ℕ). isImage l ≡ true) (sym was) good in
     let stays = subst (λ (l : List ℕ). isImage l ≡ true) (sym left) (tick-stays _ good) in
     (still, stays, image-good _ still .0, image-good _ stays .0)
@@ -34,7 +34,7 @@ returns c =
     let start = c .before .before .before .before .before .before .before .before .before .before .before .before .before in
     let good = start .pre .0 in
     let was = c .before .before .before .before .before .before .before .before .before .copy .ensures .1 ∙ copied _ _ (sym (start .pre .1)) in
-    let left = c .before .before .before .before .before .before .step-image .ensures .1 ∙ tick-leaves _ good in
+    let left = c .before .before .before .before .before .before .step-any .ensures .1 ∙ tick-leaves _ good in
     let told = c .before .is-changed-in .ensures ∙ ap₂ changes (ap deviceIn was) (ap deviceIn left ∙ tick-back _ good) in
     (c .one-if-u32 .ensures .0 ∙ ap (worth 1) told, c .one-if-u32 .ensures .1, left)
 

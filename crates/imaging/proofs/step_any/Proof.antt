@@ -1,11 +1,11 @@
--- `imaging::step_image` meets its contract.
+-- `imaging::step_any` meets its contract.
 -- Assumes nothing.
 use mathlib.Core.Path.{sym, ap, _∙_}
 use borrow.Author.Needs.{needs}
 use borrow.Author.Tests.{eq-eqb, ne-eqb}
 use Rattle.layout.specs.Images.{refusedBy, imageAnswer, imageAfter}
-use Rattle.imaging.proofs.step_image.Statement.{statement}
-use Rattle.imaging.proofs.step_image.Tie as tie
+use Rattle.imaging.proofs.step_any.Statement.{statement}
+use Rattle.imaging.proofs.step_any.Tie as tie
 
 step-good-requires : tie.Need-step-good-requires
 unfolding imageAnswer imageAfter
@@ -25,8 +25,8 @@ returns-2 c =
     let bad = ne-eqb _ _ (λ e. c .before .if1 .left (number ∙ e)) in
     (simp bad (c .refused-by .ensures ∙ ap refusedBy number), simp bad)
 
-pub step-image-spec : {M : Type 1} → statement M
-step-image-spec =
+pub step-any-spec : {M : Type 1} → statement M
+step-any-spec =
     tie.close
     (tie.spec
     (λ c κs. search needs)
