@@ -123,7 +123,8 @@ export class Tab {
   }
 
   async close() {
-    rmSync(this.downloads, { recursive: true, force: true });
+    // The browser may still be renaming what it saved.
+    rmSync(this.downloads, { recursive: true, force: true, maxRetries: 5 });
     await this.browser.send('Target.disposeBrowserContext', { browserContextId: this.context });
   }
 }
