@@ -1,7 +1,8 @@
 //! Holds the pages to what they name: every link, and every path between backquotes, leads somewhere in the repository.
 //!
 //! A path is looked for at the root, under `crates/`, beside the page, in the folders of the paths that its line names before it, and at last as
-//! the end of any path, since a page that speaks of a crate says `specs/Answers.antt`. Commands are left out: tools/try-pages runs those.
+//! the end of any path, since a page that speaks of a crate says `specs/Answers.antt`. A file of definitions may be named without its ending, with its
+//! folder or after it. Commands are left out: tools/try-pages runs those.
 
 use crate::tables::quoted;
 use crate::tree::Tree;
@@ -37,10 +38,8 @@ pub fn link_faults(tree: &Tree) -> Vec<String> {
             found.extend(
                 lost.map(|link| format!("{page}, line {at}: the link to {link} leads nowhere.")),
             );
-            let lost = lost_paths(tree, page, line);
-            found.extend(
-                lost.iter().map(|path| format!("{page}, line {at}: there is no `{path}`.")),
-            );
+            let lost = lost_paths(tree, page, line).into_iter().chain(lost_definitions(tree, line));
+            found.extend(lost.map(|path| format!("{page}, line {at}: there is no `{path}`.")));
         }
     }
     found
@@ -98,6 +97,37 @@ fn lost_paths(tree: &Tree, page: &str, line: &str) -> Vec<String> {
         }
     }
     lost
+}
+
+/// The files of definitions of a line that are nowhere: each in `sheets/specs/Sheets`, and in "`sheets/specs/`: `Sheets`, `Waits`", up to a semicolon.
+fn lost_definitions(tree: &Tree, line: &str) -> Vec<String> {
+    let mut lost = Vec::new();
+    for part in line.split("; ") {
+        let mut folder = "";
+        let names = quoted(part);
+        for name in &names {
+            let file = match name.split_once("/specs/") {
+                Some((_, "")) if part.contains(&format!("`{name}`: ")) => {
+                    folder = name;
+                    continue;
+                }
+                Some((krate, file)) if is_word(file) && !krate.contains('/') => name.clone(),
+                None if !folder.is_empty() && is_word(name) => format!("{folder}{name}"),
+                _ => continue,
+            };
+            if !tree.has(&format!("crates/{file}.antt")) {
+                lost.push(file);
+            }
+        }
+    }
+    lost
+}
+
+/// True of a name as files of definitions have them: letters and digits, the first of them a capital one. `X` stands for any.
+fn is_word(name: &str) -> bool {
+    name.len() > 1
+        && name.starts_with(|c: char| c.is_ascii_uppercase())
+        && name.chars().all(|c| c.is_ascii_alphanumeric())
 }
 
 /// True of a name that looks like a path of the repository: it ends as a file that is kept or a folder, or it begins as one at the root.

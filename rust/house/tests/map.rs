@@ -148,6 +148,7 @@ fn a_link_to_what_is_there() {
         "[a](README.md) and [b](../README.md#lamps), [c](#the-lamp), [d](../samples), [e](https://example.org/x)",
         "`docs/LAMP.md`, `LAMP.md`, `../README.md`, `lamp/specs/Lamp.antt`, `tools/light`, `samples/`, `one.trace`",
         "`rust/eye/src/lib.rs` with `Cargo.toml`, `src/`, `specs/Lamp.antt`",
+        "`lamp/specs/Lamp`; `lamp/specs/`: `Lamp`, `lit`; `Lit`",
         "`crates/X/specs/`, `NAME.trace`, `build/lib`, `lamp/bright`, `--csv`, `a b.md`, `lamp::lit`, `night/*.trace`",
         "```\n`docs/GONE.md`\n```",
         "    cat `docs/GONE.md`",
@@ -174,5 +175,8 @@ fn a_link_to_what_is_not_there() {
     ] {
         let told = links_after(&format!("So says `{path}`."));
         assert_eq!(told, [format!("docs/LAMP.md, line 3: there is no `{path}`.")]);
+    }
+    for line in ["`lamp/specs/Eye`", "`lamp/specs/`: `Lamp`, `Eye`; `Eye`"] {
+        assert_eq!(links_after(line), ["docs/LAMP.md, line 3: there is no `lamp/specs/Eye`."]);
     }
 }
