@@ -3,7 +3,7 @@
 -- Assumes nothing.
 use Prim.Native.Nat.{ℕ, zero, suc, _+_, _-_, _*_, _≤_, _<_}
 use mathlib.Core.Path.{_≡_, refl, sym, ap, subst, _∙_}
-use mathlib.Core.Bool.{Bool, true, false, _&&_, false≢true}
+use mathlib.Core.Bool.{Bool, true, false}
 use mathlib.Core.List.{List}
 use native.Mathlib.Nat.{le-refl}
 use native.Mathlib.Omega.{arith}
@@ -29,23 +29,10 @@ use Rattle.share.specs.declared.Point.{Point}
 use Rattle.share.specs.Numbers.{larger}
 use Rattle.share.specs.States.{statesFrom}
 use Rattle.traces.specs.Ticks.{isTickRaw}
+use Rattle.traces.proofs.Batch.{is-tick-raw}
 use Rattle.share.specs.Walk.{seenOf, waitedOn, noted, noTally, tallyFrom, Within, pointWith, oneTaken, quietTaken, AllTicks, left, Onward}
 use Rattle.share.proofs.Numbers.{larger-left, larger-right, larger-most}
 use Rattle.share.proofs.Rounds.{again, all-left, none-left, within-noted, within-after}
-
--- ---- the four bytes of a TICK
-
-both : (a b : Bool) → a && b ≡ true → (a ≡ true) × (b ≡ true)
-both true true h = (refl, refl)
-both true false h = absurd (false≢true h)
-both false b h = absurd (false≢true h)
-
-pub is-tick : (r : Raw) → isTickRaw r ≡ true → r ≡ tick
-is-tick r h =
-    let p = both (eqb (r .kind) 6 && eqb (r .x) 0 && eqb (r .y) 0) (eqb (r .z) 0) h in
-    let q = both (eqb (r .kind) 6 && eqb (r .x) 0) (eqb (r .y) 0) (p .0) in
-    let s = both (eqb (r .kind) 6) (eqb (r .x) 0) (q .0) in
-    λ j. record { kind = eqb-true (r .kind) 6 (s .0) j; x = eqb-true (r .x) 0 (s .1) j; y = eqb-true (r .y) 0 (q .1) j; z = eqb-true (r .z) 0 (p .1) j }
 
 -- ---- the code's points
 
@@ -71,7 +58,7 @@ quiet-taken p j d s t q ed es et eq =
 pub ticks-more : (k at : ℕ) (b : List ℕ) (r : Raw) → AllTicks k at b → r ≡ eventAt (at + k) b → isTickRaw r ≡ true → AllTicks (k + 1) at b
 ticks-more k at b r all e h i l =
     split (eqb i k)
-    (λ t. ap (λ (x : ℕ). eventAt (at + x) b) (eqb-true i k t) ∙ sym e ∙ is-tick r h)
+    (λ t. ap (λ (x : ℕ). eventAt (at + x) b) (eqb-true i k t) ∙ sym e ∙ is-tick-raw r h)
     (λ f. let other = eqb-false i k f in all i (omega (arith, l, other)))
 
 -- ---- what is seen stays, and so noting one state and then m more is noting 1 + m
