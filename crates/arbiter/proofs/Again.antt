@@ -4,7 +4,8 @@ use mathlib.Core.Path.{◌≡◌, refl, sym, ap, ap₂, ◌∙◌}
 use mathlib.Core.Bool.{Bool, true, false, not, ◌&&◌, ◌||◌, false≢true, or-false}
 use Rattle.arbiter.specs.Types.{ℕ, Master, Zero, One, Turn, Nobody, Claims, Owns, Bus, Switch, Apart, Initialising, Closed}
 use Rattle.arbiter.specs.Types.{NoClock, Device}
-use Rattle.arbiter.specs.Words.{if◌then◌else◌, same_master}
+use Rattle.std.specs.Prelude.{if◌then◌else◌}
+use Rattle.arbiter.specs.Words.{same_master}
 use Rattle.arbiter.specs.Parts.{with_turn, with_bus}
 use Rattle.arbiter.specs.Parts.{with_arb}
 use Rattle.arbiter.specs.State.{owns_turn, owns, scl_high, sda_high, is_idle}

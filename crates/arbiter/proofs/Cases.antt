@@ -2,7 +2,8 @@
 -- Assumes nothing.
 use mathlib.Core.Path.{◌≡◌, refl, sym, ap, subst, ◌∙◌}
 use mathlib.Core.Bool.{Bool, true, false, ◌&&◌}
-use Rattle.arbiter.specs.Types.{ℕ, List, [], ◌∷◌, eqb, ltb, Master, Zero, One, Ground, Sole, Turn, Nobody, Claims, Owns, Switch, Apart, Initialising}
+use Rattle.std.specs.Prelude.{◌∷◌}
+use Rattle.arbiter.specs.Types.{ℕ, List, [], eqb, ltb, Master, Zero, One, Ground, Sole, Turn, Nobody, Claims, Owns, Switch, Apart, Initialising}
 use Rattle.arbiter.specs.Types.{Closed, Clock, NoClock, ClockLow, ClockHigh, Device, Raw, Event, Decoded, Reads, UnknownKind, BadField, OutOfSequence}
 use Rattle.arbiter.specs.Types.{Stepped}
 use Rattle.arbiter.specs.Words.{same_master, side}
@@ -103,7 +104,8 @@ module _ (P : Device → Type 0) (d : Device) (plain : (w : Switch) (fail : Bool
 abbrev pub Unsaid : Raw → Device → Type 0
 Unsaid r d = ((such : Event → Device → Bool) → accepted such r d ≡ false) × (levelled r d ≡ d)
 
-unsaid : (x : Decoded) (r : Raw) (d : Device) → decode r ≡ x → ((such : Event → Device → Bool) → accepted_as such x d ≡ false) → levelled_by x d ≡ d → Unsaid r d
+unsaid : (x : Decoded) (r : Raw) (d : Device) → decode r ≡ x → ((such : Event → Device → Bool) → accepted_as such x d ≡ false) → levelled_by x d ≡ d
+    → Unsaid r d
 unsaid x r d h a l = ((λ such. ap (λ (y : Decoded). accepted_as such y d) h ∙ a such), ap (λ (y : Decoded). levelled_by y d) h ∙ l)
 
 -- what holds of every event taken in sequence and of every refusal holds of the step

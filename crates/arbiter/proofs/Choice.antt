@@ -4,7 +4,8 @@ use mathlib.Core.Path.{◌≡◌, refl, sym, ap, ◌∙◌}
 use mathlib.Core.Bool.{Bool, true, false, not, ◌||◌, not-not, true≢false, false≢true}
 use native.Mathlib.Omega.{arith}
 use Rattle.arbiter.specs.Types.{ℕ, suc, Master, Zero, One, Ground, Turn, Nobody, Claims, Owns, Side, Device}
-use Rattle.arbiter.specs.Words.{if◌then◌else◌, partner, same_master, of, side}
+use Rattle.std.specs.Prelude.{if◌then◌else◌}
+use Rattle.arbiter.specs.Words.{partner, same_master, of, side}
 use Rattle.arbiter.specs.State.{owns_turn}
 
 -- ---- tests

@@ -3,7 +3,8 @@
 use mathlib.Core.Path.{◌≡◌, refl, sym, ap, ◌∙◌}
 use mathlib.Core.Bool.{Bool, true, false, ◌&&◌, false≢true, and-eq-true_iff}
 use mathlib.Core.List.{List}
-use Rattle.arbiter.specs.Types.{ℕ, ◌+◌, ltb, Master, Zero, One, Ground, Turn, Nobody, Claims, Owns, Switch, Apart, Initialising, Closed, Clock, NoClock}
+use Rattle.std.specs.Prelude.{◌+◌}
+use Rattle.arbiter.specs.Types.{ℕ, ltb, Master, Zero, One, Ground, Turn, Nobody, Claims, Owns, Switch, Apart, Initialising, Closed, Clock, NoClock}
 use Rattle.arbiter.specs.Types.{ClockLow, ClockHigh, Kind, Device, Raw, Event}
 use Rattle.arbiter.specs.Words.{same_master, partner, side}
 use Rattle.arbiter.specs.State.{owns_turn, owns, closed_for}

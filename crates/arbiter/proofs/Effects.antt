@@ -2,11 +2,12 @@
 -- Assumes nothing.
 use mathlib.Core.Path.{◌≡◌, refl, sym, ap, ◌∙◌}
 use mathlib.Core.Bool.{true≢false, false≢true, and-false}
-use Rattle.arbiter.specs.Types.{ℕ, Bool, true, false, not, ◌&&◌, ◌||◌, Master, Zero, One, Turn, Nobody, Claims, Owns, Port, Open, Register, Id, Contr}
+use Rattle.std.specs.Prelude.{◌&&◌, ◌||◌, if◌then◌else◌}
+use Rattle.arbiter.specs.Types.{ℕ, Bool, true, false, not, Master, Zero, One, Turn, Nobody, Claims, Owns, Port, Open, Register, Id, Contr}
 use Rattle.arbiter.specs.Types.{Status, Rt, IntStatus, IntMask, MailLow, MailHigh, Side, Bus, Device, Event, Command, Write, Read, Stop, Pair, Lines}
 use Rattle.arbiter.specs.Types.{Tick, Pulse, Reset, GeneralCall}
 use Rattle.arbiter.specs.Rules.{rolls}
-use Rattle.arbiter.specs.Words.{if◌then◌else◌, bit, partner, side}
+use Rattle.arbiter.specs.Words.{bit, partner, side}
 use Rattle.arbiter.specs.Parts.{with_port}
 use Rattle.arbiter.specs.State.{owns_turn, owns, at_rest}
 use Rattle.arbiter.specs.Registers.{withdraws, own_written, mail_written, drives_written, turn_written}

@@ -13,7 +13,8 @@ use Rattle.arbiter.specs.State.{owns_turn, owns}
 use Rattle.arbiter.specs.Registers.{disconnected, withdraws, control_of, own_written, mail_written, turn_written}
 use Rattle.arbiter.specs.Events.{soft_reset}
 use Rattle.arbiter.specs.Effects.{write_risen, partner_side, hold_asked, written, paired, was_read, lined, ticked, fresh_side, was_reset, effect}
-use Rattle.arbiter.specs.Order.{is_reset, is_tick, clock_of, levels, runs_out, lost, losses_from, losses, cut_from, cut, claim_after, claim, granted, grant_from}
+use Rattle.arbiter.specs.Order.{is_reset, is_tick, clock_of, levels, runs_out, lost, losses_from, losses, cut_from, cut, claim_after, claim, granted}
+use Rattle.arbiter.specs.Order.{grant_from}
 use Rattle.arbiter.specs.Order.{grant, connect}
 use Rattle.arbiter.specs.Steps.{parts, taken, refused}
 use Rattle.arbiter.specs.Audit.{EndsDisconnected}

@@ -2,9 +2,10 @@
 -- Assumes nothing.
 use mathlib.Core.Path.{◌≡◌, refl, sym, ap, ap₂, ◌∙◌, subst}
 use mathlib.Core.Bool.{true≢false, false≢true, and-eq-true_iff, or-false}
-use Rattle.arbiter.specs.Types.{ℕ, Bool, true, false, not, ◌&&◌, ◌||◌, List, [], ◌∷◌, eqb, Master, Zero, One, Ground, Sole, Priority, LastGranted, Turn}
+use Rattle.std.specs.Prelude.{◌&&◌, ◌||◌, ◌∷◌, if◌then◌else◌}
+use Rattle.arbiter.specs.Types.{ℕ, Bool, true, false, not, List, [], eqb, Master, Zero, One, Ground, Sole, Priority, LastGranted, Turn}
 use Rattle.arbiter.specs.Types.{Nobody, Claims, Owns, Device, Raw, Event}
-use Rattle.arbiter.specs.Words.{if◌then◌else◌, partner, same_master, side}
+use Rattle.arbiter.specs.Words.{partner, same_master, side}
 use Rattle.arbiter.specs.State.{at_rest, owns_turn, claims_turn}
 use Rattle.arbiter.specs.Order.{is_reset, levels, lost, losses, ground_of, claim_by, winner, new_claim, claim_after}
 use Rattle.arbiter.specs.Steps.{ground_number, turn_ground, parts, run_from, run}

@@ -7,8 +7,9 @@ use mathlib.Core.Logic.{◌⊎◌, inl, inr}
 use mathlib.Core.List.{append-nil}
 use native.Mathlib.Omega.{arith}
 use borrow.Author.Tests.{eq-eqb, eqb-true, ltb-true, ltb-false}
-use Rattle.arbiter.specs.Types.{ℕ, ◌+◌, Bool, true, false, not, ◌&&◌, ◌||◌, List, [], ◌∷◌, ◌++◌, eqb, ltb, Kind, Device, Raw}
-use Rattle.arbiter.specs.Words.{if◌then◌else◌, worth}
+use Rattle.std.specs.Prelude.{◌+◌, ◌&&◌, ◌||◌, ◌∷◌, ◌++◌, if◌then◌else◌}
+use Rattle.arbiter.specs.Types.{ℕ, Bool, true, false, not, List, [], eqb, ltb, Kind, Device, Raw}
+use Rattle.arbiter.specs.Words.{worth}
 use Rattle.arbiter.specs.State.{sda_high, scl_hung_limit, sda_hung_limit, bus_hung}
 use Rattle.arbiter.specs.Effects.{counted_to, power_up}
 use Rattle.arbiter.specs.Steps.{run_from, run}
@@ -186,7 +187,8 @@ module _ (k : Kind) (rs : List Raw) (runs : ClockRuns k rs) where
 
   scl_short : eqb (run k rs).bus.lowscl scl_hung_limit ≡ false
   scl_short =
-      short scl_hung_limit (run k rs).bus.lowscl (λ r d. ends_low_scl r d || scl_moves r d) (λ r d h. (neither (ends_low_scl r d) (scl_moves r d) h).1) (omega arith)
+      short scl_hung_limit (run k rs).bus.lowscl (λ r d. ends_low_scl r d || scl_moves r d) (λ r d h. (neither (ends_low_scl r d) (scl_moves r d) h).1)
+      (omega arith)
       (stuck scl_hung_limit (λ (x : Device). x.bus.lowscl) (λ r d. ends_low_scl r d || scl_moves r d) scl_restarts scl_fresh k rs)
 
   sda_short : eqb (run k rs).bus.lowsda sda_hung_limit ≡ false

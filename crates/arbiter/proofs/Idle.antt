@@ -5,7 +5,7 @@ use Rattle.arbiter.specs.Types.{Bool, true, Turn, Nobody, Claims, Owns, Zero, On
 use Rattle.arbiter.specs.Parts.{with_idle}
 use Rattle.arbiter.specs.Effects.{effect}
 use Rattle.arbiter.specs.Order.{is_reset, is_tick, clock_of, losses, cut, claim, granted, grant_from, grant}
-use Rattle.arbiter.specs.Steps.{parts, step}
+use Rattle.arbiter.specs.Steps.{parts}
 use Rattle.arbiter.specs.AuditWords.{next}
 use Rattle.arbiter.proofs.Cases.{grant_cases}
 use Rattle.arbiter.proofs.Order.{cut_still, connect_still}

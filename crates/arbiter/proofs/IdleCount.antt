@@ -6,9 +6,10 @@ use mathlib.Core.Bool.{true≢false, false≢true, and-eq-true_iff, and-false}
 use native.Mathlib.Nat.{add-zero}
 use native.Mathlib.Omega.{arith}
 use borrow.Author.Tests.{eq-eqb, ne_eqb, lt-ltb}
-use Rattle.arbiter.specs.Types.{ℕ, ◌+◌, ◌-◌, Bool, true, false, not, ◌&&◌, ◌||◌, List, [], ◌∷◌, eqb, Master, Bus, Device, Raw, Tick}
+use Rattle.std.specs.Prelude.{◌+◌, ◌-◌, ◌&&◌, ◌||◌, ◌∷◌, if◌then◌else◌}
+use Rattle.arbiter.specs.Types.{ℕ, Bool, true, false, not, List, [], eqb, Master, Bus, Device, Raw, Tick}
 use Rattle.arbiter.specs.Rules.{limit_of, idle_limit}
-use Rattle.arbiter.specs.Words.{if◌then◌else◌, worth}
+use Rattle.arbiter.specs.Words.{worth}
 use Rattle.arbiter.specs.State.{owns, scl_high, sda_high, is_idle}
 use Rattle.arbiter.specs.Effects.{ticked_bus, ticked, effect}
 use Rattle.arbiter.specs.Order.{is_reset, is_tick, busy_after, scl_changed, settled_bus, levels}

@@ -4,7 +4,8 @@ use Prim.Native.Nat.{◌<◌, ◌≤◌}
 use mathlib.Core.Path.{◌≡◌, sym, ap, ◌∙◌, subst}
 use mathlib.Core.Bool.{true≢false}
 use native.Mathlib.Omega.{arith}
-use Rattle.arbiter.specs.Types.{◌+◌, ◌-◌, true, false, List, [], ◌∷◌, ◌++◌, Master, Ground, Sole, Owns, Device, Raw}
+use Rattle.std.specs.Prelude.{◌+◌, ◌-◌, ◌∷◌, ◌++◌}
+use Rattle.arbiter.specs.Types.{true, false, List, [], Master, Ground, Sole, Owns, Device, Raw}
 use Rattle.arbiter.specs.Words.{worth, partner}
 use Rattle.arbiter.specs.State.{owns, is_idle}
 use Rattle.arbiter.specs.Order.{is_reset}

@@ -1,7 +1,7 @@
 -- Every step keeps the kind of part, so that a run of a kind is of that kind. And what else is needed of a kind's rules: its idle limit is not 0.
 -- Assumes nothing.
-use mathlib.Core.Path.{◌≡◌, refl, ap, ◌∙◌}
-use Rattle.arbiter.specs.Types.{ℕ, Bool, true, false, List, eqb, Turn, Nobody, Claims, Owns, Kind, Pca9641, Tpt29641, Clock, Device, Raw, Event, Command}
+use mathlib.Core.Path.{◌≡◌, refl, ◌∙◌}
+use Rattle.arbiter.specs.Types.{Bool, false, eqb, Turn, Nobody, Claims, Owns, Kind, Pca9641, Tpt29641, Clock, Device, Raw, Event, Command}
 use Rattle.arbiter.specs.Types.{Write, Read, Stop, Pair, Lines, Tick, Pulse, Reset, GeneralCall, Decoded, Reads, UnknownKind, BadField}
 use Rattle.arbiter.specs.Rules.{rules_of, limit_of, idle_limit}
 use Rattle.arbiter.specs.Words.{side}
@@ -10,7 +10,7 @@ use Rattle.arbiter.specs.Effects.{written, paired, was_read, lined, ticked, was_
 use Rattle.arbiter.specs.Order.{is_reset, is_tick, clock_of, runs_out, levels, lost, losses_from, losses, cut_from, cut, claim, granted, grant_from, grant}
 use Rattle.arbiter.specs.Order.{connect}
 use Rattle.arbiter.specs.Steps.{parts, run}
-use Rattle.arbiter.specs.AuditWords.{next, levelled_by, levelled}
+use Rattle.arbiter.specs.AuditWords.{levelled_by, levelled}
 use Rattle.arbiter.specs.Audit.{KeepsKind, RunsOfKind}
 use Rattle.arbiter.proofs.Choice.{either}
 use Rattle.arbiter.proofs.Cases.{cut_cases, grant_cases, connect_cases, step_keeps, run_keeps}

@@ -4,14 +4,14 @@ use mathlib.Core.Path.{◌≡◌, refl, sym, ap, ap₂, ◌∙◌, subst}
 use mathlib.Core.Bool.{true≢false, false≢true, and-false, or-false}
 use native.Mathlib.Omega.{arith}
 use borrow.Author.Tests.{eq-eqb, eqb-true}
-use Rattle.arbiter.specs.Types.{ℕ, ◌-◌, Bool, true, false, not, ◌&&◌, ◌||◌, eqb, Bus, Device, Raw, Event, Command, Write, Read, Stop, Pair, Lines, Tick}
+use Rattle.std.specs.Prelude.{◌-◌, ◌&&◌, ◌||◌, if◌then◌else◌}
+use Rattle.arbiter.specs.Types.{ℕ, Bool, true, false, not, eqb, Bus, Device, Raw, Event, Command, Write, Read, Stop, Pair, Lines, Tick}
 use Rattle.arbiter.specs.Types.{Pulse, Reset, GeneralCall}
-use Rattle.arbiter.specs.Words.{if◌then◌else◌}
 use Rattle.arbiter.specs.State.{scl_high, sda_high, scl_hung_limit, sda_hung_limit}
 use Rattle.arbiter.specs.Events.{soft_reset}
 use Rattle.arbiter.specs.Effects.{counted_to, ticked, was_reset, effect}
 use Rattle.arbiter.specs.Order.{is_reset, is_tick, scl_changed, levels}
-use Rattle.arbiter.specs.Steps.{parts, step}
+use Rattle.arbiter.specs.Steps.{parts}
 use Rattle.arbiter.specs.AuditWords.{next, reset, tick}
 use Rattle.arbiter.specs.Hung.{same_level, scl_moves, ends_low_scl, ends_low_sda}
 use Rattle.arbiter.proofs.Choice.{either, split, if_true, neither}
@@ -153,7 +153,8 @@ scl_next =
 -- SCL's level has changed in part 2 if it is another after the step than before it.
 changed_moves : (before after : Bus) → scl_changed before after ≡ not (same_level (scl_high before) (scl_high after))
 changed_moves before after =
-    split (scl_high before) (λ p. split (scl_high after) (λ q. simp (p, q)) (λ q. simp (p, q))) (λ p. split (scl_high after) (λ q. simp (p, q)) (λ q. simp (p, q)))
+    split (scl_high before) (λ p. split (scl_high after) (λ q. simp (p, q)) (λ q. simp (p, q)))
+    (λ p. split (scl_high after) (λ q. simp (p, q)) (λ q. simp (p, q)))
 
 pub sda_next : (r : Raw) (d : Device) → Still d.bus → (next d r).bus.lowsda
     ≡ (if ends_low_sda r d then 0 else counted_to sda_hung_limit (tick r d) d.bus.lowsda)

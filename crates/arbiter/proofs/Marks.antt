@@ -29,5 +29,6 @@ unfolding rules_of byte_of address_of contr_byte status_byte register_byte is_as
     decode in_sequence acknowledged outcome commanded written paired was_read lined ticked fresh_side was_reset power_up effect
     levels lost losses_from losses cut_from cut winner claim granted grant_from grant joined clocked kept_joined connect_from connect
     parts owner_byte lines_byte byte_read refused taken step_event step_decoded step run_from answers_from run
-    raws_in read_kind read_counted read_strapped read_trace listing_of listing old_number converted converted_number converted_bytes trace_of paid_for contests sections
+    raws_in read_kind read_counted read_strapped read_trace listing_of listing old_number converted converted_number converted_bytes trace_of paid_for contests
+    sections
 readings_hold = refl

@@ -7,12 +7,14 @@ use lib.ListN.{length-append, length-drop, get_or-append}
 use lib.Seq.{drop-append-le, get_or-append-add, get_or-append_seam}
 use borrow.Author.Tests.{eqb-true, not-false, ltb-false, lt-ltb}
 use Prim.Native.Nat.{◌≤◌, ◌<◌}
-use Rattle.arbiter.specs.Types.{ℕ, ◌+◌, ◌*◌, not, List, [], ◌∷◌, ◌++◌, eqb, ltb, length, drop, Pca9641, Raw, Strapped, Address, Unlisted, TraceCut}
+use Rattle.std.specs.Prelude.{◌+◌, ◌*◌, ◌∷◌, ◌++◌}
+use Rattle.arbiter.specs.Types.{ℕ, not, List, [], eqb, ltb, length, drop, Pca9641, Raw, Strapped, Address, Unlisted, TraceCut}
 use Rattle.arbiter.specs.Types.{Accepted, Refused}
 use Rattle.arbiter.specs.Straps.{address_of}
 use Rattle.arbiter.specs.Effects.{power_up}
 use Rattle.arbiter.specs.Steps.{answers_from}
-use Rattle.arbiter.specs.Traces.{pin_count, pin_bytes, head_bytes, event_bytes, most_events, events_end, whole_bytes, kind_count, kind_number, kind_section, kind_at}
+use Rattle.arbiter.specs.Traces.{pin_count, pin_bytes, head_bytes, event_bytes, most_events, events_end, whole_bytes, kind_count, kind_number, kind_section}
+use Rattle.arbiter.specs.Traces.{kind_at}
 use Rattle.arbiter.specs.Traces.{byte_at, pins_in, count_in, raws_in, events_in, read_kind, read_trace}
 use Rattle.arbiter.specs.OldTraces.{old_counted, old_strapped, old_number, converted, ConvertedAccepted, OldRefused}
 use Rattle.arbiter.proofs.Choice.{passed}

@@ -3,9 +3,10 @@
 use mathlib.Core.Path.{◌≡◌, refl, sym, ap, ◌∙◌, subst}
 use mathlib.Core.Bool.{true≢false, false≢true, and-eq-true_iff}
 use borrow.Author.Tests.{eqb-true}
-use Rattle.arbiter.specs.Types.{ℕ, Bool, true, false, ◌&&◌, eqb, Master, Zero, One, Ground, Turn, Nobody, Claims, Owns, Port, Side, Bus, Kind, Device}
+use Rattle.std.specs.Prelude.{◌&&◌, if◌then◌else◌}
+use Rattle.arbiter.specs.Types.{ℕ, Bool, true, false, eqb, Master, Zero, One, Ground, Turn, Nobody, Claims, Owns, Port, Side, Bus, Kind, Device}
 use Rattle.arbiter.specs.Types.{Clock, Event}
-use Rattle.arbiter.specs.Words.{if◌then◌else◌, side}
+use Rattle.arbiter.specs.Words.{side}
 use Rattle.arbiter.specs.Parts.{with_turn, with_side, with_arb}
 use Rattle.arbiter.specs.State.{at_rest}
 use Rattle.arbiter.specs.Order.{is_tick, clock_of, losses_from, losses, cut_from, cut, claim_after, claim, granted, grant_from, grant, connect}

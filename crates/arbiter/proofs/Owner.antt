@@ -4,9 +4,10 @@ use mathlib.Core.Path.{◌≡◌, refl, sym, ap, ap₂, ◌∙◌, subst}
 use mathlib.Core.Bool.{and-true, true≢false, false≢true}
 use mathlib.Core.Logic.{◌⊎◌, inl, inr}
 use borrow.Author.Tests.{eq-eqb}
-use Rattle.arbiter.specs.Types.{ℕ, ◌-◌, Bool, true, false, ◌&&◌, ◌||◌, Master, Zero, One, Ground, Sole, Turn, Nobody, Claims, Owns, Device, Event}
+use Rattle.std.specs.Prelude.{◌-◌, ◌&&◌, ◌||◌, if◌then◌else◌}
+use Rattle.arbiter.specs.Types.{ℕ, Bool, true, false, Master, Zero, One, Ground, Sole, Turn, Nobody, Claims, Owns, Device, Event}
 use Rattle.arbiter.specs.Rules.{idle_limit}
-use Rattle.arbiter.specs.Words.{if◌then◌else◌, partner, side}
+use Rattle.arbiter.specs.Words.{partner, side}
 use Rattle.arbiter.specs.State.{owns_turn, owns, at_rest}
 use Rattle.arbiter.specs.Effects.{ticked, effect}
 use Rattle.arbiter.specs.Order.{is_reset, is_tick, levels, runs_out, lost, losses_from, losses, claim_by, new_claim, claim_after}

@@ -2,9 +2,9 @@
 -- Assumes nothing.
 use mathlib.Core.Path.{◌≡◌, refl, sym, ap, ◌∙◌, subst}
 use mathlib.Core.Bool.{false≢true}
-use Rattle.arbiter.specs.Types.{Bool, true, false, ◌&&◌, Device, Raw, Event, Command, Write, Read, Stop, Pair, Lines, Tick, Pulse, Reset, GeneralCall}
+use Rattle.std.specs.Prelude.{◌&&◌, if◌then◌else◌}
+use Rattle.arbiter.specs.Types.{Bool, true, false, Device, Raw, Event, Command, Write, Read, Stop, Pair, Lines, Tick, Pulse, Reset, GeneralCall}
 use Rattle.arbiter.specs.Types.{Decoded, Reads, Stepped}
-use Rattle.arbiter.specs.Words.{if◌then◌else◌}
 use Rattle.arbiter.specs.Events.{decode, in_sequence}
 use Rattle.arbiter.specs.Order.{is_reset, is_tick}
 use Rattle.arbiter.specs.Steps.{parts, refused, taken, step_event, step_decoded, step}

@@ -7,7 +7,8 @@ use mathlib.Core.Bool.{true≢false}
 use native.Mathlib.Nat.{sub-zero}
 use native.Mathlib.Omega.{arith}
 use borrow.Author.Tests.{ne_eqb, eq-eqb}
-use Rattle.arbiter.specs.Types.{ℕ, ◌+◌, ◌-◌, Bool, true, false, not, ◌&&◌, List, [], ◌∷◌, ◌++◌, eqb, Master, Device, Raw}
+use Rattle.std.specs.Prelude.{◌+◌, ◌-◌, ◌&&◌, ◌∷◌, ◌++◌}
+use Rattle.arbiter.specs.Types.{ℕ, Bool, true, false, not, List, [], eqb, Master, Device, Raw}
 use Rattle.arbiter.specs.Words.{worth}
 use Rattle.arbiter.specs.State.{owns, is_idle}
 use Rattle.arbiter.specs.Steps.{run_from, run}

@@ -2,9 +2,10 @@
 -- Assumes nothing.
 use mathlib.Core.Path.{◌≡◌, refl, sym, ap, ◌∙◌}
 use mathlib.Core.Bool.{false≢true}
-use Rattle.arbiter.specs.Types.{ℕ, Bool, true, false, ◌||◌, Master, Zero, One, Turn, Nobody, Device, Event, Command, Write, Read, Stop, Pair, Lines, Tick}
+use Rattle.std.specs.Prelude.{◌||◌, if◌then◌else◌}
+use Rattle.arbiter.specs.Types.{ℕ, Bool, true, false, Master, Zero, One, Turn, Nobody, Device, Event, Command, Write, Read, Stop, Pair, Lines, Tick}
 use Rattle.arbiter.specs.Types.{Pulse, Reset, GeneralCall}
-use Rattle.arbiter.specs.Words.{if◌then◌else◌, side}
+use Rattle.arbiter.specs.Words.{side}
 use Rattle.arbiter.specs.State.{owns_turn, owns}
 use Rattle.arbiter.specs.Effects.{fresh_side, hold_asked, was_reset, effect}
 use Rattle.arbiter.specs.Order.{is_reset, levels, claim_after}

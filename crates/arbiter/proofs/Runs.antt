@@ -3,7 +3,8 @@
 use mathlib.Core.Path.{◌≡◌, refl}
 use mathlib.Core.Bool.{and-eq-true_iff}
 use native.Mathlib.Omega.{arith}
-use Rattle.arbiter.specs.Types.{◌+◌, Bool, true, false, not, List, [], ◌∷◌, ◌++◌, Device, Raw}
+use Rattle.std.specs.Prelude.{◌+◌, ◌∷◌, ◌++◌}
+use Rattle.arbiter.specs.Types.{Bool, true, false, not, List, [], Device, Raw}
 use Rattle.arbiter.specs.Words.{worth}
 use Rattle.arbiter.specs.Effects.{power_up}
 use Rattle.arbiter.specs.Steps.{step, run_from, run}

@@ -4,7 +4,8 @@ use Prim.Native.Nat.{◌<◌}
 use native.Mathlib.Omega.{arith}
 use mathlib.Core.Path.{◌≡◌, refl, sym, ap, ap₂, ◌∙◌}
 use mathlib.Core.Bool.{Bool, true, false, not, ◌&&◌, ◌||◌, beq, false≢true, and-eq-true_iff, and-true, and-false}
-use Rattle.arbiter.specs.Types.{ℕ, ◌+◌, ◌*◌, eqb, ltb, Master, Zero, One, Ground, Sole, Priority, LastGranted, Turn, Nobody, Claims, Owns, Contr, Status}
+use Rattle.std.specs.Prelude.{◌+◌, ◌*◌}
+use Rattle.arbiter.specs.Types.{ℕ, eqb, ltb, Master, Zero, One, Sole, Priority, LastGranted, Turn, Nobody, Claims, Owns, Contr, Status}
 use Rattle.arbiter.specs.Types.{Control, Side, Bus, Switch, Apart, Initialising, Closed, Arbitration, Device, Raw, Stepped}
 use Rattle.arbiter.specs.Words.{bit, worth, byte_of, same_master, partner, side}
 use Rattle.arbiter.specs.State.{owns_turn, owns, closed_for, is_initialising, scl_high, sda_high, bus_hung}

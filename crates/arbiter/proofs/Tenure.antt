@@ -5,10 +5,11 @@ use mathlib.Core.Path.{◌≡◌, refl, sym, ap, ◌∙◌, subst}
 use mathlib.Core.Bool.{true≢false, false≢true, and-eq-true_iff, and-false}
 use mathlib.Core.Logic.{⊎_elim}
 use native.Mathlib.Nat.{sub-zero}
-use Rattle.arbiter.specs.Types.{ℕ, ◌-◌, Bool, true, false, not, ◌&&◌, ◌||◌, List, eqb, Master, Ground, Nobody, Owns, Control, Side, Kind, Device, Raw}
+use Rattle.std.specs.Prelude.{◌-◌, ◌&&◌, ◌||◌, if◌then◌else◌}
+use Rattle.arbiter.specs.Types.{ℕ, Bool, true, false, not, List, eqb, Master, Ground, Nobody, Owns, Control, Side, Kind, Device, Raw}
 use Rattle.arbiter.specs.Types.{Event}
 use Rattle.arbiter.specs.Rules.{limit_of, idle_limit}
-use Rattle.arbiter.specs.Words.{if◌then◌else◌, worth, side}
+use Rattle.arbiter.specs.Words.{worth, side}
 use Rattle.arbiter.specs.Parts.{with_contr, with_rt}
 use Rattle.arbiter.specs.State.{owns, is_idle}
 use Rattle.arbiter.specs.Effects.{ticked, effect, power_up}

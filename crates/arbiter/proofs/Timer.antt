@@ -3,7 +3,8 @@
 use mathlib.Core.Path.{◌≡◌, refl, sym, ap, ◌∙◌}
 use mathlib.Core.Bool.{true≢false}
 use borrow.Author.Tests.{eq-eqb}
-use Rattle.arbiter.specs.Types.{Bool, true, false, not, ◌&&◌, List, [], ◌∷◌, eqb, Master, Zero, One, Turn, Nobody, Claims, Owns, Kind, Device, Raw}
+use Rattle.std.specs.Prelude.{◌&&◌, ◌∷◌}
+use Rattle.arbiter.specs.Types.{Bool, true, false, not, List, [], eqb, Master, Zero, One, Turn, Nobody, Claims, Owns, Kind, Device, Raw}
 use Rattle.arbiter.specs.State.{owns}
 use Rattle.arbiter.specs.Rules.{limit_of, idle_limit}
 use Rattle.arbiter.specs.Order.{lost, losses_from, losses}

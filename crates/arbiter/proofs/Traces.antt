@@ -4,7 +4,8 @@ use mathlib.Core.Path.{◌≡◌, ◌∙◌, refl, ap}
 use native.Mathlib.Omega.{arith}
 use borrow.Author.Tests.{le-ltb, eq-eqb}
 use Prim.Native.Nat.{◌≤◌}
-use Rattle.arbiter.specs.Types.{ℕ, zero, suc, ◌+◌, ◌*◌, List, [], ◌∷◌, ◌++◌, true, length, Kind, Pca9641, Tpt29641, Raw, Address, Accepted}
+use Rattle.std.specs.Prelude.{◌+◌, ◌*◌, ◌∷◌, ◌++◌}
+use Rattle.arbiter.specs.Types.{ℕ, zero, suc, List, [], true, length, Kind, Pca9641, Tpt29641, Raw, Address, Accepted}
 use Rattle.arbiter.specs.Straps.{address_of}
 use Rattle.arbiter.specs.Traces.{pin_count, pin_bytes, head_bytes, event_bytes, most_events, events_end, whole_bytes, kind_count, kind_number, is_kind, kind_of}
 use Rattle.arbiter.specs.Traces.{kind_at, byte_at, pins_in, count_in, raws_in, read_kind, read_counted, read_strapped, read_trace}
@@ -52,7 +53,8 @@ module _ (t : List ℕ) (room address n : ℕ) (first : byte_at 0 t ≡ pin_coun
         le-ltb (length t) (events_end n) long,
       )
 
-  pub accepts : (k : Kind) → length t ≡ whole_bytes n → byte_at (events_end n) t ≡ kind_count → kind_at n t ≡ kind_number k → event_bytes * n ≤ room → read_trace t room
+  pub accepts : (k : Kind) → length t ≡ whole_bytes n → byte_at (events_end n) t ≡ kind_count → kind_at n t ≡ kind_number k → event_bytes * n ≤ room
+      → read_trace t room
       ≡ Accepted address n k
   accepts k whole counted kind fits = reads_on (omega arith) ∙ read_as address n t room k whole counted kind fits
 

@@ -2,7 +2,8 @@
 -- Assumes nothing.
 use mathlib.Core.Path.{◌≡◌, refl, sym, ap, ◌∙◌, subst}
 use mathlib.Core.Bool.{true≢false, and-eq-true_iff}
-use Rattle.arbiter.specs.Types.{Bool, true, false, not, List, [], ◌∷◌, Master, Zero, One, Ground, Sole, Claims, Owns, Device, Raw, Stop, Reads}
+use Rattle.std.specs.Prelude.{◌∷◌}
+use Rattle.arbiter.specs.Types.{Bool, true, false, not, List, [], Master, Zero, One, Ground, Sole, Claims, Owns, Device, Raw, Stop, Reads}
 use Rattle.arbiter.specs.Words.{partner}
 use Rattle.arbiter.specs.State.{owns, claims_turn, claims}
 use Rattle.arbiter.specs.Events.{decode, in_sequence}

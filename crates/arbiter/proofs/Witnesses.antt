@@ -4,7 +4,8 @@
 use mathlib.Core.Path.{◌≡◌, refl, ap, ◌∙◌}
 use mathlib.Core.Bool.{Bool, true, false, not, ◌&&◌, false≢true, and-eq-true_iff}
 use borrow.Author.Tests.{ltb-true, leb-true, eqb-true, not-true}
-use Rattle.arbiter.specs.Types.{ℕ, ◌+◌, List, [], ◌∷◌, ◌++◌, eqb, Master, Zero, One, Claims, Apart, Kind, Pca9641, Tpt29641, Device, Raw, Event, Command}
+use Rattle.std.specs.Prelude.{◌+◌, ◌∷◌, ◌++◌}
+use Rattle.arbiter.specs.Types.{ℕ, List, [], eqb, Master, Zero, One, Apart, Kind, Pca9641, Tpt29641, Device, Raw, Event, Command}
 use Rattle.arbiter.specs.Types.{Write, Read, Stop, Pair, Lines, Tick, Pulse, Reset, GeneralCall, Decoded, Reads, UnknownKind, BadField}
 use Rattle.arbiter.specs.Rules.{rules_of, limit_of}
 use Rattle.arbiter.specs.Words.{byte_of, partner, same_master}
@@ -20,7 +21,8 @@ use Rattle.arbiter.specs.State.{owns, is_idle, claims}
 use Rattle.arbiter.specs.Audit.{OneConnected, ApartUnowned, ResetEnds, ReserveLasts, ReserveEnds, ReserveExact, PartnerNext, PartnerInTime}
 use Rattle.arbiter.specs.Audit.{PartnerInTimeThroughout, HeldUntilLetGo, IdleTimerExact, IdleTimerEnds, RefusedUnchanged}
 use Rattle.arbiter.specs.Witnesses.{one_connected, apart_unowned, reset_ends, reserve_lasts, reserve_ends, reserve_exact, exact_idle, exact_busy, next_at_rest}
-use Rattle.arbiter.specs.Witnesses.{next_at_stop, partner_in_time, partner_in_time_throughout, held_until_let_go, idle_timer_exact, idle_timer_ends, refused_unchanged}
+use Rattle.arbiter.specs.Witnesses.{next_at_stop, partner_in_time, partner_in_time_throughout, held_until_let_go, idle_timer_exact, idle_timer_ends}
+use Rattle.arbiter.specs.Witnesses.{refused_unchanged}
 use Rattle.arbiter.specs.Witnesses.{all_met, witnesses_of, WitnessesMeet}
 
 pub witnesses_meet : WitnessesMeet

@@ -2,8 +2,8 @@
 -- ones included. Those that name a device and no run hold of every device. Each is proved in proofs/, under the same name in small
 -- letters; Answers has them all.
 -- Assumes nothing.
-use Rattle.std.specs.Prelude.{◌<◌, ◌≤◌, ◌≡◌}
-use Rattle.arbiter.specs.Types.{ℕ, ◌+◌, ◌/◌, ◌%◌, true, false, not, ◌&&◌, ◌||◌, List, [], ◌∷◌, ◌++◌, eqb, ltb, Master, Contr, Status, Apart, NoClock, Kind, Device, Raw, Stop, Reads}
+use Rattle.std.specs.Prelude.{◌<◌, ◌≤◌, ◌≡◌, ◌+◌, ◌/◌, ◌%◌, ◌&&◌, ◌||◌, ◌∷◌, ◌++◌}
+use Rattle.arbiter.specs.Types.{ℕ, true, false, not, List, [], eqb, ltb, Master, Contr, Status, Apart, NoClock, Kind, Device, Raw, Stop, Reads}
 use Rattle.arbiter.specs.Rules.{limit_of}
 use Rattle.arbiter.specs.Words.{bit, partner, side}
 use Rattle.arbiter.specs.State.{owns, claims, connected, is_initialising, is_idle}

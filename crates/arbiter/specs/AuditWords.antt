@@ -1,7 +1,8 @@
 -- The words of the auditor's statements: what is said of an event in a state, and of the events of a run.
 -- Assumes nothing.
-use Rattle.arbiter.specs.Types.{ℕ, ◌+◌, Bool, true, false, not, ◌&&◌, List, [], ◌∷◌, Master, Register, Id, Contr, Status, Rt, IntStatus, IntMask, MailLow, MailHigh, Side, Device, Raw, Event, Command, Write, Read, Stop, Pair, Lines, Tick, Pulse, Reset, GeneralCall, Decoded, Reads, UnknownKind, BadField}
-use Rattle.arbiter.specs.Words.{if◌then◌else◌, bit, worth, same_master, of, side}
+use Rattle.std.specs.Prelude.{◌+◌, ◌&&◌, ◌∷◌, if◌then◌else◌}
+use Rattle.arbiter.specs.Types.{ℕ, Bool, true, false, not, List, [], Master, Register, Id, Contr, Status, Rt, IntStatus, IntMask, MailLow, MailHigh, Side, Device, Raw, Event, Command, Write, Read, Stop, Pair, Lines, Tick, Pulse, Reset, GeneralCall, Decoded, Reads, UnknownKind, BadField}
+use Rattle.arbiter.specs.Words.{bit, worth, same_master, of, side}
 use Rattle.arbiter.specs.State.{owns, at_rest}
 use Rattle.arbiter.specs.Events.{decode, in_sequence}
 use Rattle.arbiter.specs.Effects.{effect}

@@ -1,8 +1,8 @@
 -- INT_STATUS and INT_MSK are kept as bytes (Registers). Here is what the operations on them mean bit by bit, in document 01's words, for
 -- every value that they can have. proofs/Bitwise.antt proves it.
 -- Assumes nothing.
-use Rattle.std.specs.Prelude.{◌≡◌, ◌<◌}
-use Rattle.arbiter.specs.Types.{ℕ, Bool, not, ◌&&◌, ◌||◌}
+use Rattle.std.specs.Prelude.{◌≡◌, ◌<◌, ◌&&◌, ◌||◌}
+use Rattle.arbiter.specs.Types.{ℕ, Bool, not}
 use Rattle.arbiter.specs.Words.{bit}
 use Rattle.arbiter.specs.Registers.{is_asserted, cleared}
 

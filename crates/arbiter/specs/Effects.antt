@@ -1,8 +1,9 @@
 -- Document 01, "Events", the table's last column, and part 1 of a step: the event's own effect.
 -- Assumes nothing.
-use Rattle.arbiter.specs.Types.{ℕ, ◌+◌, ◌-◌, ◌%◌, Bool, true, false, not, ◌&&◌, eqb, ltb, Master, Zero, One, Turn, Nobody, Never, Rest, Open, Writing, Register, Id, Contr, Status, Rt, IntStatus, IntMask, MailLow, MailHigh, Side, Bus, Apart, Arbitration, Kind, Device, Event, Command, Write, Read, Stop, Pair, Lines, Tick, Pulse, Reset, GeneralCall}
+use Rattle.std.specs.Prelude.{◌+◌, ◌-◌, ◌%◌, ◌&&◌, if◌then◌else◌}
+use Rattle.arbiter.specs.Types.{ℕ, Bool, true, false, not, eqb, ltb, Master, Zero, One, Turn, Nobody, Never, Rest, Open, Writing, Register, Id, Contr, Status, Rt, IntStatus, IntMask, MailLow, MailHigh, Side, Bus, Apart, Arbitration, Kind, Device, Event, Command, Write, Read, Stop, Pair, Lines, Tick, Pulse, Reset, GeneralCall}
 use Rattle.arbiter.specs.Rules.{idle_limit, rolls}
-use Rattle.arbiter.specs.Words.{if◌then◌else◌, bit, partner, side, device}
+use Rattle.arbiter.specs.Words.{bit, partner, side, device}
 use Rattle.arbiter.specs.Parts.{with_port, with_auto, with_pointer, with_ints, with_mail, with_turn, with_reserve, with_side}
 use Rattle.arbiter.specs.State.{owns, scl_high, sda_high, is_idle, scl_hung_limit, sda_hung_limit}
 use Rattle.arbiter.specs.Registers.{mail_emptied_int, int_in_int, raised, own_written, mail_written, drives_written, turn_written}

@@ -1,7 +1,8 @@
 -- Document 01, "Events": how four bytes read as an event, with refusals 2 and 3, and which events a device takes, with refusal 4.
 -- Assumes nothing.
-use Rattle.arbiter.specs.Types.{ℕ, ◌/◌, ◌%◌, Bool, true, false, not, ◌&&◌, ◌||◌, eqb, ltb, Master, Zero, One, Register, Id, Contr, Status, Rt, IntStatus, IntMask, MailLow, MailHigh, Raw, Event, Command, Write, Read, Stop, Pair, Lines, Tick, Pulse, Reset, GeneralCall, Decoded, Reads, UnknownKind, BadField, Outcome, Done, NotAcknowledged, OutOfSequence, Device}
-use Rattle.arbiter.specs.Words.{if◌then◌else◌, side}
+use Rattle.std.specs.Prelude.{◌/◌, ◌%◌, ◌&&◌, ◌||◌, if◌then◌else◌}
+use Rattle.arbiter.specs.Types.{ℕ, Bool, true, false, not, eqb, ltb, Master, Zero, One, Register, Id, Contr, Status, Rt, IntStatus, IntMask, MailLow, MailHigh, Raw, Event, Command, Write, Read, Stop, Pair, Lines, Tick, Pulse, Reset, GeneralCall, Decoded, Reads, UnknownKind, BadField, Outcome, Done, NotAcknowledged, OutOfSequence, Device}
+use Rattle.arbiter.specs.Words.{side}
 use Rattle.arbiter.specs.State.{at_rest, for_writing, is_initialising}
 
 -- ---- four bytes as an event

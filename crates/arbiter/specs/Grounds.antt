@@ -1,8 +1,8 @@
 -- Request #107: what is shown of the ground on which a claim was won, as statements over every run. proofs/Grounds.antt and proofs/Contests.antt prove them.
 -- Assumes nothing.
-use Rattle.std.specs.Prelude.{◌≡◌}
-use Rattle.arbiter.specs.Types.{ℕ, ◌/◌, ◌%◌, Bool, true, false, not, ◌&&◌, ◌||◌, List, eqb, Master, Zero, One, Kind, Device, Raw, Pair, Reads}
-use Rattle.arbiter.specs.Words.{if◌then◌else◌, partner, side}
+use Rattle.std.specs.Prelude.{◌≡◌, ◌/◌, ◌%◌, ◌&&◌, ◌||◌, if◌then◌else◌}
+use Rattle.arbiter.specs.Types.{ℕ, Bool, true, false, not, List, eqb, Master, Zero, One, Kind, Device, Raw, Pair, Reads}
+use Rattle.arbiter.specs.Words.{partner, side}
 use Rattle.arbiter.specs.State.{owns, claims}
 use Rattle.arbiter.specs.Events.{decode}
 use Rattle.arbiter.specs.Steps.{step, run_from, run}

@@ -1,8 +1,8 @@
 -- Request #102: what BUS_HUNG means over the history of the lines' levels, and that a clock which runs is never shown as a hung bus.
 -- proofs/Hung.antt proves it.
 -- Assumes nothing.
-use Rattle.std.specs.Prelude.{◌≤◌, ◌≡◌, ◌⊎◌}
-use Rattle.arbiter.specs.Types.{ℕ, Bool, true, false, not, ◌||◌, List, ◌++◌, Kind, Device, Raw}
+use Rattle.std.specs.Prelude.{◌≤◌, ◌≡◌, ◌⊎◌, ◌||◌, ◌++◌}
+use Rattle.arbiter.specs.Types.{ℕ, Bool, true, false, not, List, Kind, Device, Raw}
 use Rattle.arbiter.specs.State.{scl_high, sda_high, scl_hung_limit, sda_hung_limit, bus_hung}
 use Rattle.arbiter.specs.Steps.{run}
 use Rattle.arbiter.specs.AuditWords.{next, reset, ticks_in, never}

@@ -1,7 +1,7 @@
 -- Request #102 by examples, as STATUS and the interrupt output show them: bit 2 of STATUS is BUS_HUNG. proofs/HungRows.antt proves the table.
 -- Assumes nothing.
-use Rattle.std.specs.Prelude.{◌≡◌}
-use Rattle.arbiter.specs.Types.{ℕ, true, not, List, [], ◌∷◌, ◌++◌, Pca9641, Device, Raw}
+use Rattle.std.specs.Prelude.{◌≡◌, ◌∷◌, ◌++◌}
+use Rattle.arbiter.specs.Types.{ℕ, true, not, List, [], Pca9641, Device, Raw}
 use Rattle.arbiter.specs.State.{bus_hung}
 use Rattle.arbiter.specs.Effects.{power_up}
 use Rattle.arbiter.specs.AuditWords.{throughout}

@@ -1,7 +1,7 @@
 -- Document 01, M1: the listing's text, as the codes of its characters.
 -- Assumes nothing.
-use Rattle.arbiter.specs.Types.{ℕ, ◌+◌, ◌*◌, ◌/◌, ◌%◌, List, [], ◌∷◌, ◌++◌, ltb, Answer, TraceRead, Accepted, Refused}
-use Rattle.arbiter.specs.Words.{if◌then◌else◌}
+use Rattle.std.specs.Prelude.{◌+◌, ◌*◌, ◌/◌, ◌%◌, ◌∷◌, ◌++◌, if◌then◌else◌}
+use Rattle.arbiter.specs.Types.{ℕ, List, [], ltb, Answer, TraceRead, Accepted, Refused}
 use Rattle.arbiter.specs.Traces.{most_events, answer_room, refusal_number, read_trace, answers_in}
 
 -- ---- numbers as text

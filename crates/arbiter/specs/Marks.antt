@@ -1,10 +1,10 @@
 -- Document 01, "Marked examples", as one table of what the definitions give and what the paper says; and in a second one "Readings we have
 -- already paid for", the winner table seen from outside, and M1's trace written, converted and damaged. proofs/Marks.antt proves each whole.
 -- Assumes nothing.
-use Rattle.std.specs.Prelude.{◌≡◌, take}
+use Rattle.std.specs.Prelude.{◌≡◌, take, ◌∷◌, ◌++◌}
 use Prim.Native.Char.{code}
 use Prim.Native.String.{String, [] as empty, ◌∷◌ as ◌then◌}
-use Rattle.arbiter.specs.Types.{ℕ, zero, suc, List, [], ◌∷◌, ◌++◌, map, Zero, One, LastGranted, Turn, Claims, Kind, Pca9641, Tpt29641, Raw, Answer, Strapped, Address, Unlisted}
+use Rattle.arbiter.specs.Types.{ℕ, zero, suc, List, [], map, Zero, One, LastGranted, Turn, Claims, Kind, Pca9641, Tpt29641, Raw, Answer, Strapped, Address, Unlisted}
 use Rattle.arbiter.specs.Straps.{pins, address_of}
 use Rattle.arbiter.specs.Steps.{step, run}
 use Rattle.arbiter.specs.Traces.{events_in}

@@ -1,10 +1,9 @@
 -- Request #105: traces as they were before it, without the section for the kind of part, and the same trace with that section added.
 -- proofs/OldTraces.antt proves the statements.
 -- Assumes nothing.
-use Rattle.std.specs.Prelude.{◌≤◌, ◌≡◌}
-use Rattle.arbiter.specs.Types.{ℕ, ◌+◌, ◌*◌, not, List, [], ◌++◌, eqb, ltb, length, drop, Pca9641, Strapped, Address, Unlisted, TraceCut, TooManyEvents, BytesAfterEnd, BadStraps, NoRoom, BadCount, Accepted, Refused}
+use Rattle.std.specs.Prelude.{◌≤◌, ◌≡◌, ◌*◌, ◌++◌, if◌then◌else◌}
+use Rattle.arbiter.specs.Types.{ℕ, not, List, [], eqb, ltb, length, drop, Pca9641, Strapped, Address, Unlisted, TraceCut, TooManyEvents, BytesAfterEnd, BadStraps, NoRoom, BadCount, Accepted, Refused}
 use Rattle.arbiter.specs.declared.Written.{Written}
-use Rattle.arbiter.specs.Words.{if◌then◌else◌}
 use Rattle.arbiter.specs.Straps.{address_of}
 use Rattle.arbiter.specs.Traces.{pin_count, pin_bytes, head_bytes, event_bytes, most_events, events_end, kind_section, byte_at, pins_in, count_in, events_in, read_trace, answers_in, refusal_number}
 

@@ -1,7 +1,8 @@
 -- Document 01, "Order inside a step", parts 2 to 7. Part 1, the event's own effect, is in Effects.
 -- Assumes nothing.
-use Rattle.arbiter.specs.Types.{ℕ, ◌+◌, Bool, true, false, not, ◌&&◌, ◌||◌, List, [], ◌∷◌, eqb, ltb, get_or, Master, Zero, One, Ground, Sole, Priority, LastGranted, Turn, Nobody, Claims, Owns, Last, Never, Was, Side, Bus, Switch, Apart, Initialising, Closed, Arbitration, Device, Clock, NoClock, ClockLow, ClockHigh, Event, Command, Write, Read, Stop, Pair, Lines, Tick, Pulse, Reset, GeneralCall}
-use Rattle.arbiter.specs.Words.{if◌then◌else◌, worth, partner, same_master, side, device}
+use Rattle.std.specs.Prelude.{◌+◌, ◌&&◌, ◌||◌, ◌∷◌, if◌then◌else◌}
+use Rattle.arbiter.specs.Types.{ℕ, Bool, true, false, not, List, [], eqb, ltb, get_or, Master, Zero, One, Ground, Sole, Priority, LastGranted, Turn, Nobody, Claims, Owns, Last, Never, Was, Side, Bus, Switch, Apart, Initialising, Closed, Arbitration, Device, Clock, NoClock, ClockLow, ClockHigh, Event, Command, Write, Read, Stop, Pair, Lines, Tick, Pulse, Reset, GeneralCall}
+use Rattle.arbiter.specs.Words.{worth, partner, same_master, side, device}
 use Rattle.arbiter.specs.Parts.{with_lock_req, with_bus_connect, with_bus_init, with_contr, with_ints, with_idle, with_turn, with_switch, with_init_fail, with_side, with_bus, with_arb}
 use Rattle.arbiter.specs.State.{at_rest, scl_high, sda_high, is_idle}
 use Rattle.arbiter.specs.Registers.{granted_int, lost_int, raised, disconnected, released}

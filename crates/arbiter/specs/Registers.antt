@@ -1,7 +1,8 @@
 -- Document 01, "Registers, one set per master": what a master reads, when an output is asserted, and what a written byte does.
 -- Assumes nothing.
-use Rattle.arbiter.specs.Types.{ℕ, ◌-◌, ◌%◌, Bool, true, false, not, ◌&&◌, ◌||◌, eqb, bit_and, bit_or, Master, Turn, Nobody, Register, Id, Contr, Status, Rt, IntStatus, IntMask, MailLow, MailHigh, Control, Side, Bus, Device}
-use Rattle.arbiter.specs.Words.{if◌then◌else◌, bit, worth, byte_of, partner, side}
+use Rattle.std.specs.Prelude.{◌-◌, ◌%◌, ◌&&◌, ◌||◌, if◌then◌else◌}
+use Rattle.arbiter.specs.Types.{ℕ, Bool, true, false, not, eqb, bit_and, bit_or, Master, Turn, Nobody, Register, Id, Contr, Status, Rt, IntStatus, IntMask, MailLow, MailHigh, Control, Side, Bus, Device}
+use Rattle.arbiter.specs.Words.{bit, worth, byte_of, partner, side}
 use Rattle.arbiter.specs.Parts.{with_bus_connect, with_contr, with_rt, with_ints, with_mask, with_mail, with_drives}
 use Rattle.arbiter.specs.State.{owns, scl_high, sda_high, bus_hung}
 

@@ -1,6 +1,7 @@
 -- What a state shows, in document 01's words: who owns and who is connected, a port at rest, the levels of the lines, an idle bus, BUS_HUNG.
 -- Assumes nothing.
-use Rattle.arbiter.specs.Types.{ℕ, Bool, true, false, not, ◌&&◌, ◌||◌, eqb, Master, Turn, Nobody, Claims, Owns, Port, Rest, Open, Writing, Bus, Switch, Apart, Initialising, Closed, Device}
+use Rattle.std.specs.Prelude.{◌&&◌, ◌||◌}
+use Rattle.arbiter.specs.Types.{ℕ, Bool, true, false, not, eqb, Master, Turn, Nobody, Claims, Owns, Port, Rest, Open, Writing, Bus, Switch, Apart, Initialising, Closed, Device}
 use Rattle.arbiter.specs.Words.{same_master}
 
 -- ---- turn and switch

@@ -1,7 +1,8 @@
 -- Document 01, "Order inside a step" as a whole, "Answers", and a run of events from power-up.
 -- Assumes nothing.
-use Rattle.arbiter.specs.Types.{ℕ, ◌+◌, ◌*◌, List, [], ◌∷◌, Master, Zero, One, Ground, Sole, Priority, LastGranted, Turn, Nobody, Claims, Owns, Switch, Apart, Initialising, Closed, Kind, Device, Raw, Event, Command, Write, Read, Stop, Pair, Lines, Tick, Pulse, Reset, GeneralCall, Decoded, Reads, UnknownKind, BadField, OutOfSequence, Answer, Stepped}
-use Rattle.arbiter.specs.Words.{if◌then◌else◌, worth, side}
+use Rattle.std.specs.Prelude.{◌+◌, ◌*◌, ◌∷◌, if◌then◌else◌}
+use Rattle.arbiter.specs.Types.{ℕ, List, [], Master, Zero, One, Ground, Sole, Priority, LastGranted, Turn, Nobody, Claims, Owns, Switch, Apart, Initialising, Closed, Kind, Device, Raw, Event, Command, Write, Read, Stop, Pair, Lines, Tick, Pulse, Reset, GeneralCall, Decoded, Reads, UnknownKind, BadField, OutOfSequence, Answer, Stepped}
+use Rattle.arbiter.specs.Words.{worth, side}
 use Rattle.arbiter.specs.State.{is_initialising, scl_high, sda_high}
 use Rattle.arbiter.specs.Registers.{reads_at, output}
 use Rattle.arbiter.specs.Events.{decode, decoded_number, in_sequence, outcome, outcome_number}

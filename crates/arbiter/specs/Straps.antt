@@ -1,7 +1,7 @@
 -- Document 01, "Straps": from the four pins to the address, and from the address to its pins.
 -- Assumes nothing.
-use Rattle.arbiter.specs.Types.{ℕ, ◌+◌, ◌*◌, ◌%◌, Bool, true, false, not, ◌&&◌, List, [], ◌∷◌, ◌++◌, map, eqb, ltb, Pins, Strapped, Address, Unlisted, Strapping, Straps, Outside}
-use Rattle.arbiter.specs.Words.{if◌then◌else◌}
+use Rattle.std.specs.Prelude.{◌+◌, ◌*◌, ◌%◌, ◌&&◌, ◌∷◌, ◌++◌, if◌then◌else◌}
+use Rattle.arbiter.specs.Types.{ℕ, Bool, true, false, not, List, [], map, eqb, ltb, Pins, Strapped, Address, Unlisted, Strapping, Straps, Outside}
 
 -- "Pin codes: 0 VSS, 1 VDD, 2 pull-down, 3 pull-up. VSS and VDD are ties, the others resistors."
 abbrev pub is_code : ℕ → Bool

@@ -1,8 +1,8 @@
 -- Document 01, "Answers and the trace": how bytes read as a trace, the refusals in their order, and what a trace's run leaves.
 -- Assumes nothing.
-use Rattle.arbiter.specs.Types.{ℕ, zero, suc, ◌+◌, ◌*◌, ◌/◌, ◌%◌, not, List, [], ◌∷◌, ◌++◌, eqb, ltb, length, drop, get_or, Bool, Kind, Pca9641, Tpt29641, Device, Raw, Answer, Pins, Strapped, Address, Unlisted, Refusal, TraceCut, TooManyEvents, BytesAfterEnd, BadStraps, NoRoom, BadCount, UnknownPart, TraceRead, Accepted, Refused, Report}
+use Rattle.std.specs.Prelude.{◌+◌, ◌*◌, ◌/◌, ◌%◌, ◌∷◌, ◌++◌, if◌then◌else◌}
+use Rattle.arbiter.specs.Types.{ℕ, zero, suc, not, List, [], eqb, ltb, length, drop, get_or, Bool, Kind, Pca9641, Tpt29641, Device, Raw, Answer, Pins, Strapped, Address, Unlisted, Refusal, TraceCut, TooManyEvents, BytesAfterEnd, BadStraps, NoRoom, BadCount, UnknownPart, TraceRead, Accepted, Refused, Report}
 use Rattle.arbiter.specs.declared.Ran.{Ran}
-use Rattle.arbiter.specs.Words.{if◌then◌else◌}
 use Rattle.arbiter.specs.Straps.{pins, address_of}
 use Rattle.arbiter.specs.Effects.{power_up}
 use Rattle.arbiter.specs.Steps.{run_from, answers_from, run}

@@ -3,8 +3,8 @@
 -- proofs/Witnesses.antt proves the table whole. GrantedAtRest and EndsDisconnected ask for a grant taken and for a grant ended, which stand
 -- among the premises of ReserveLasts and PartnerNext.
 -- Assumes nothing.
-use Rattle.std.specs.Prelude.{◌≡◌, leb}
-use Rattle.arbiter.specs.Types.{ℕ, ◌+◌, ◌-◌, Bool, true, not, ◌&&◌, List, [], ◌∷◌, ◌++◌, eqb, ltb, Master, Zero, One, Kind, Device, Raw}
+use Rattle.std.specs.Prelude.{◌≡◌, leb, ◌+◌, ◌-◌, ◌&&◌, ◌∷◌, ◌++◌}
+use Rattle.arbiter.specs.Types.{ℕ, Bool, true, not, List, [], eqb, ltb, Master, Zero, One, Kind, Device, Raw}
 use Rattle.arbiter.specs.Rules.{limit_of}
 use Rattle.arbiter.specs.Words.{partner, of}
 use Rattle.arbiter.specs.State.{owns, connected, is_idle}

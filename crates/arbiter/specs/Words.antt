@@ -1,11 +1,7 @@
--- Words that every other file uses: the choice by a test, a byte and its bits, and what belongs to one of the two masters.
+-- Words that every other file uses: a byte and its bits, and what belongs to one of the two masters. The choice by a test is the library's.
 -- Assumes nothing.
-use Rattle.arbiter.specs.Types.{ℕ, ◌+◌, ◌/◌, ◌%◌, ◌^◌, Bool, true, false, eqb, Master, Zero, One, Side, Bus, Arbitration, Device}
-
-infixr 20 if◌then◌else◌
-abbrev pub if◌then◌else◌ : {A : Type 0} → Bool → A → A → A
-if true then x else y = x
-if false then x else y = y
+use Rattle.std.specs.Prelude.{◌+◌, ◌/◌, ◌%◌, ◌^◌, if◌then◌else◌}
+use Rattle.arbiter.specs.Types.{ℕ, Bool, true, false, eqb, Master, Zero, One, Side, Bus, Arbitration, Device}
 
 -- ---- a byte and its bits
 

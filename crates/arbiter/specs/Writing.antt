@@ -1,12 +1,11 @@
 -- Request #101: the bytes of a trace from its pins, its events and, by #105, its kind of part; what the call that writes them leaves, and
 -- what reading and writing are to each other.
 -- Assumes nothing.
-use Rattle.arbiter.specs.Types.{ℕ, ◌*◌, ◌/◌, ◌%◌, not, List, [], ◌∷◌, ◌++◌, eqb, ltb, length, drop, Raw, Pins, Address, TraceCut, TooManyEvents, BadStraps, NoRoom, UnknownPart, Kind, Accepted}
-use Rattle.arbiter.specs.Words.{if◌then◌else◌}
+use Rattle.arbiter.specs.Types.{ℕ, not, List, [], eqb, ltb, length, drop, Raw, Pins, Address, TraceCut, TooManyEvents, BadStraps, NoRoom, UnknownPart, Kind, Accepted}
 use Rattle.arbiter.specs.Straps.{address_of, strapped_number}
 use Rattle.arbiter.specs.Traces.{pin_count, event_bytes, most_events, whole_bytes, byte_at, pins_in, raws_in, events_in, kind_section, is_kind, kind_of, read_trace, refusal_number, event_count}
 use Rattle.arbiter.specs.declared.Written.{Written}
-use Rattle.std.specs.Prelude.{◌≡◌, ◌<◌, ◌≤◌}
+use Rattle.std.specs.Prelude.{◌≡◌, ◌<◌, ◌≤◌, ◌*◌, ◌/◌, ◌%◌, ◌∷◌, ◌++◌, if◌then◌else◌}
 
 -- ---- the trace: "a count byte 4 and the pins AD3 to AD0; then a two-byte low-first count n up to 4,096, and n events", then "count byte 1
 -- and kind"

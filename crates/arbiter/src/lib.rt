@@ -1,4 +1,5 @@
 // The arbiter's types. What they mean is written in specs/, one file for each section of documents 01 and 02; specs/Lib.antt lists them in its order.
+#![tactic(auto)]
 
 // ---- limits
 
@@ -21,14 +22,14 @@ pub const CUT_TICKS: u16 = 35;
 // ---- who
 
 // The two masters, each at its own upstream port.
-#[derive(Drop)]
+#[derive(Clone, Copy)]
 pub enum Master {
     Zero,
     One,
 }
 
 // On what ground a claim was won: its master asked alone, or had priority, or was not the last granted.
-#[derive(Drop)]
+#[derive(Clone, Copy)]
 pub enum Ground {
     Sole,
     Priority,
@@ -36,7 +37,7 @@ pub enum Ground {
 }
 
 // Whose turn it is: nobody asks, m is the claimant and waits, m is granted and owns the bus. A claim has its ground, and the grant keeps it.
-#[derive(Drop)]
+#[derive(Clone, Copy)]
 pub enum Turn {
     Nobody,
     Claims(Master, Ground),
@@ -44,7 +45,7 @@ pub enum Turn {
 }
 
 // The last granted master.
-#[derive(Drop)]
+#[derive(Clone, Copy)]
 pub enum Last {
     Never,
     Was(Master),
@@ -53,7 +54,7 @@ pub enum Last {
 // ---- one master's port and registers
 
 // A port is at rest, open (but not for writing), or open for writing.
-#[derive(Drop)]
+#[derive(Clone, Copy)]
 pub enum Port {
     Rest,
     Open,
@@ -61,7 +62,7 @@ pub enum Port {
 }
 
 // The eight registers, by name. The pointer of a port is one of them.
-#[derive(Drop)]
+#[derive(Clone, Copy)]
 pub enum Register {
     Id,
     Contr,
@@ -74,7 +75,7 @@ pub enum Register {
 }
 
 // CONTR as it is stored: LOCK_GRANT is not, for it is read off the turn.
-#[derive(Drop)]
+#[derive(Clone, Copy)]
 pub struct Control {
     pub priority: bool,
     pub smbusdis: bool,
@@ -86,7 +87,7 @@ pub struct Control {
 }
 
 // A master's own mailbox.
-#[derive(Drop)]
+#[derive(Clone, Copy)]
 pub struct Mailbox {
     pub low: u8,
     pub high: u8,
@@ -95,7 +96,7 @@ pub struct Mailbox {
 
 // A master's registers and its port. INT_STATUS keeps its bits 5 to 0 as a byte: bit 6 equals BUS_HUNG and is not stored. The order of
 // the fields, here and below, is the one measured to run fastest.
-#[derive(Drop)]
+#[derive(Clone, Copy)]
 pub struct Side {
     pub pointer: Register,
     pub rt: u8,
@@ -110,7 +111,7 @@ pub struct Side {
 // ---- what the two share
 
 // The downstream bus: outside levels and INT_IN, the two drives, the hold, and what is counted. True is high, or released.
-#[derive(Drop)]
+#[derive(Clone, Copy)]
 pub struct Bus {
     pub outscl: bool,
     pub outsda: bool,
@@ -125,14 +126,14 @@ pub struct Bus {
 }
 
 // The switch says by itself whom it connects: apart, initialising for m after so many PULSEs of 0, or closed for m.
-#[derive(Drop)]
+#[derive(Clone, Copy)]
 pub enum Switch {
     Apart,
     Initialising(Master, u8),
     Closed(Master),
 }
 
-#[derive(Drop)]
+#[derive(Clone, Copy)]
 pub struct Arbitration {
     pub last: Last,
     pub initfail: bool,
@@ -142,13 +143,13 @@ pub struct Arbitration {
 }
 
 // The kind of part: the PCA9641 of source document 003, or the TPT29641 of 000.
-#[derive(Drop)]
+#[derive(Clone, Copy)]
 pub enum Kind {
     Pca9641,
     Tpt29641,
 }
 
-#[derive(Drop)]
+#[derive(Clone, Copy)]
 pub struct Device {
     pub kind: Kind,
     pub side0: Side,
@@ -160,7 +161,7 @@ pub struct Device {
 // ---- events and answers
 
 // The four bytes of an event as they come: the kind and three fields.
-#[derive(Drop)]
+#[derive(Clone, Copy)]
 pub struct Raw {
     pub kind: u8,
     pub x: u8,
@@ -169,7 +170,7 @@ pub struct Raw {
 }
 
 // The ten kinds of event.
-#[derive(Drop)]
+#[derive(Clone, Copy)]
 pub enum Event {
     Command(Master, u8),
     Write(Master, u8),
@@ -184,7 +185,7 @@ pub enum Event {
 }
 
 // The clock of an initialisation that an event is: none, or one with SDA low or high.
-#[derive(Drop)]
+#[derive(Clone, Copy)]
 pub enum Clock {
     NoClock,
     ClockLow,
@@ -192,7 +193,7 @@ pub enum Clock {
 }
 
 // Four bytes read as an event, or they do not: an unknown kind, or a field out of range or unused and not 0.
-#[derive(Drop)]
+#[derive(Clone, Copy)]
 pub enum Decoded {
     Reads(Event),
     UnknownKind,
@@ -200,7 +201,7 @@ pub enum Decoded {
 }
 
 // What a device makes of an event that reads as one.
-#[derive(Drop)]
+#[derive(Clone, Copy)]
 pub enum Outcome {
     Done,
     NotAcknowledged,
@@ -208,7 +209,7 @@ pub enum Outcome {
 }
 
 // The four bytes of an answer: the outcome's number, the byte read, owner and switch, outputs and levels.
-#[derive(Drop)]
+#[derive(Clone, Copy)]
 pub struct Answer {
     pub outcome: u8,
     pub read: u8,
@@ -217,7 +218,7 @@ pub struct Answer {
 }
 
 // The new device, and the answer.
-#[derive(Drop)]
+#[derive(Clone, Copy)]
 pub struct Stepped {
     pub device: Device,
     pub answer: Answer,
@@ -226,7 +227,7 @@ pub struct Stepped {
 // ---- straps and traces
 
 // The codes of the four address pins.
-#[derive(Drop)]
+#[derive(Clone, Copy)]
 pub struct Pins {
     pub ad3: u8,
     pub ad2: u8,
@@ -235,21 +236,21 @@ pub struct Pins {
 }
 
 // The address of a strapping.
-#[derive(Drop)]
+#[derive(Clone, Copy)]
 pub enum Strapped {
     Address(u8),
     Unlisted,
 }
 
 // The strapping of an address.
-#[derive(Drop)]
+#[derive(Clone, Copy)]
 pub enum Strapping {
     Straps(Pins),
     Outside,
 }
 
 // Why a whole trace is refused.
-#[derive(Drop)]
+#[derive(Clone, Copy)]
 pub enum Refusal {
     TraceCut,
     TooManyEvents,
@@ -261,14 +262,14 @@ pub enum Refusal {
 }
 
 // A trace is accepted, with its address, its count of events and its kind of part, or refused.
-#[derive(Drop)]
+#[derive(Clone, Copy)]
 pub enum TraceRead {
     Accepted(u8, usize, Kind),
     Refused(Refusal),
 }
 
 // What a run of a trace reports beside the answers.
-#[derive(Drop)]
+#[derive(Clone, Copy)]
 pub struct Report {
     pub number: u8,
     pub address: u8,
@@ -277,7 +278,7 @@ pub struct Report {
 }
 
 // What a run of raw events from any device reports beside the answers.
-#[derive(Drop)]
+#[derive(Clone, Copy)]
 pub struct Ran {
     pub number: u8,
     pub events: usize,
@@ -285,7 +286,7 @@ pub struct Ran {
 }
 
 // What the writing of a trace reports: its number, and the length of what was written.
-#[derive(Drop)]
+#[derive(Clone, Copy)]
 pub struct Written {
     pub number: u8,
     pub length: usize,

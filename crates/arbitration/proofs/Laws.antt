@@ -6,7 +6,7 @@ use Prim.Native.Nat.{ℕ}
 use lib.Dec.{eqb}
 use lib.Bits.{bit_or}
 use Rattle.arbiter.specs.Rules.{idle_limit}
-use Rattle.arbiter.specs.Words.{if◌then◌else◌}
+use Rattle.std.specs.Prelude.{if◌then◌else◌}
 use Rattle.arbiter.specs.Parts.{with_contr, with_ints, with_idle, with_turn}
 use Rattle.arbiter.specs.State.{at_rest, owns_turn, claims_turn}
 use Rattle.arbiter.specs.Registers.{granted_int, lost_int, raised, disconnected, released}

@@ -6,7 +6,8 @@ use Rattle.arbiter.specs.Rules.{idle_limit}
 use Rattle.arbiter.specs.Words.{side}
 use Rattle.arbiter.specs.Parts.{with_turn, with_arb, with_side}
 use Rattle.arbiter.specs.Registers.{disconnected}
-use Rattle.arbiter.specs.Order.{runs_out, lost, losses_from, losses, cut_from, cut, winner, ground_of, claim_by, new_claim, claim_after, claim, granted, grant_from}
+use Rattle.arbiter.specs.Order.{runs_out, lost, losses_from, losses, cut_from, cut, winner, ground_of, claim_by, new_claim, claim_after, claim, granted}
+use Rattle.arbiter.specs.Order.{grant_from}
 use Rattle.arbiter.specs.Order.{grant}
 use Rattle.arbiter.specs.declared.Master.{Master}
 use Rattle.arbiter.specs.declared.Ground.{Ground}

@@ -1,6 +1,6 @@
 // Parts 5 and 6 of a step: the claim, with its winner table, and the grant; and when each has nothing to do.
-ghost use Rattle.std.specs.Prelude.{◌≤◌, ◌≡◌};
-ghost use Rattle.arbiter.specs.Words.{if◌then◌else◌, side};
+ghost use Rattle.std.specs.Prelude.{◌≤◌, ◌≡◌, if◌then◌else◌};
+ghost use Rattle.arbiter.specs.Words.{side};
 ghost use Rattle.arbiter.specs.Parts.{with_ints};
 ghost use Rattle.arbiter.specs.Registers.{granted_int, raised};
 ghost use Rattle.arbiter.specs.Order.{column, winner, ground_of, claim_by, new_claim, claim_after, claim, granted_arb, grant};

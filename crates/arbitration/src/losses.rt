@@ -1,6 +1,5 @@
 // Parts 3 and 4 of a step: the losses, and the cut after 35 ticks of low SCL; and when each has nothing to do.
-ghost use Rattle.std.specs.Prelude.{◌≡◌, false};
-ghost use Rattle.arbiter.specs.Words.{if◌then◌else◌};
+ghost use Rattle.std.specs.Prelude.{◌≡◌, false, if◌then◌else◌};
 ghost use Rattle.arbiter.specs.Registers.{disconnected};
 ghost use Rattle.arbiter.specs.Order.{runs_out, loser, losses, cut};
 ghost use Rattle.arbitration.specs.Cleared.{contr_unless};

@@ -1,6 +1,8 @@
 // Choices by a test without a branch over structs, a byte and its bits, and numbers: counts, the smaller of two, a byte in a wider type.
-ghost use Rattle.std.specs.Prelude.{◌-◌, ◌≤◌, ◌<◌, ◌≡◌, ltb};
-ghost use Rattle.arbiter.specs.Words.{if◌then◌else◌, bit, worth, byte_of};
+#![tactic(auto)]
+
+ghost use Rattle.std.specs.Prelude.{◌-◌, ◌≤◌, ◌<◌, ◌≡◌, ltb, if◌then◌else◌};
+ghost use Rattle.arbiter.specs.Words.{bit, worth, byte_of};
 ghost use Rattle.arbiter.specs.Effects.{counted_to};
 
 pub fn pick_bool(test: bool, x: bool, y: bool) -> bool

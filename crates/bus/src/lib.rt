@@ -1,6 +1,7 @@
 // The downstream bus: what it shows, one tick of its counts, its levels after an event, and its drives.
-ghost use Rattle.std.specs.Prelude.{◌≡◌, false};
-ghost use Rattle.arbiter.specs.Words.{if◌then◌else◌};
+#![tactic(auto)]
+
+ghost use Rattle.std.specs.Prelude.{◌≡◌, false, if◌then◌else◌};
 ghost use Rattle.arbiter.specs.Parts.{with_idle};
 ghost use Rattle.arbiter.specs.State.{scl_high, sda_high, is_idle, bus_hung};
 ghost use Rattle.arbiter.specs.Registers.{released};

@@ -4,7 +4,8 @@ use mathlib.Core.Path.{◌≡◌, refl, sym, ap, ◌∙◌}
 use mathlib.Core.Bool.{Bool, true, false, ◌&&◌}
 use Prim.Native.Nat.{ℕ, ◌+◌}
 use lib.Dec.{ltb}
-use Rattle.arbiter.specs.Words.{if◌then◌else◌, same_master, partner, side, device}
+use Rattle.std.specs.Prelude.{if◌then◌else◌}
+use Rattle.arbiter.specs.Words.{same_master, partner, side, device}
 use Rattle.arbiter.specs.Parts.{with_contr, with_arb, with_switch}
 use Rattle.arbiter.specs.State.{owns_turn}
 use Rattle.arbiter.specs.Order.{switched, joined, init_failed, clocked, kept_joined, connect_from}

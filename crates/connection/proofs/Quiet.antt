@@ -3,7 +3,8 @@
 -- Assumes nothing.
 use mathlib.Core.Path.{◌≡◌, refl, sym, ap}
 use mathlib.Core.Bool.{Bool, true, false, false≢true}
-use Rattle.arbiter.specs.Words.{if◌then◌else◌, side}
+use Rattle.std.specs.Prelude.{if◌then◌else◌}
+use Rattle.arbiter.specs.Words.{side}
 use Rattle.arbiter.specs.Order.{switched, joined, clocked, kept_joined, connect_from, connect}
 use Rattle.arbiter.specs.declared.Master.{Master}
 use Rattle.arbiter.specs.declared.Turn.{Turn}

@@ -1,7 +1,7 @@
 -- What becomes of the switch where grant and BUS_CONNECT are both true, as one small value: part 7 without the device.
 -- Assumes nothing.
-use Rattle.std.specs.Prelude.{ℕ, ◌+◌, Bool, true, false, not, ◌&&◌, ◌||◌, ltb}
-use Rattle.arbiter.specs.Words.{if◌then◌else◌, same_master}
+use Rattle.std.specs.Prelude.{ℕ, ◌+◌, Bool, true, false, not, ◌&&◌, ◌||◌, ltb, if◌then◌else◌}
+use Rattle.arbiter.specs.Words.{same_master}
 use Rattle.arbiter.specs.declared.Master.{Master}
 use Rattle.arbiter.specs.declared.Master.TheVariants.{Zero, One}
 use Rattle.arbiter.specs.declared.Turn.{Turn}

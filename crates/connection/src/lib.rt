@@ -1,4 +1,6 @@
 // Part 7 of a step: the switch, and the initialisation before it closes; and when it has nothing to do.
+#![tactic(auto)]
+
 ghost use Rattle.std.specs.Prelude.{◌≡◌};
 ghost use Rattle.arbiter.specs.Parts.{with_contr};
 ghost use Rattle.arbiter.specs.State.{is_initialising};
@@ -24,7 +26,7 @@ pub fn initialises(w: Switch) -> bool
 }
 
 // What becomes of the switch: an initialisation starts, ends, or ends in failure.
-#[derive(Drop)]
+#[derive(Clone, Copy)]
 pub struct Link {
     pub switch: Switch,
     pub starts: bool,

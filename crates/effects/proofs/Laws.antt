@@ -1,7 +1,7 @@
 -- Laws of `effects`: what READ does, by either master.
 -- Assumes nothing.
 use mathlib.Core.Path.{◌≡◌, refl}
-use Rattle.arbiter.specs.Words.{if◌then◌else◌, partner, side, device}
+use Rattle.arbiter.specs.Words.{partner, side, device}
 use Rattle.arbiter.specs.Registers.{reads_at}
 use Rattle.arbiter.specs.Events.{in_sequence, acknowledged, outcome, outcome_number}
 use Rattle.arbiter.specs.Effects.{empties, reader_side, sender_side, was_read, effect}

@@ -1,7 +1,6 @@
 -- An event's own effect with its outcome and the byte read, as one value: what part 1 hands to the rest of the step.
 -- Assumes nothing.
-use Rattle.std.specs.Prelude.{ℕ}
-use Rattle.arbiter.specs.Words.{if◌then◌else◌}
+use Rattle.std.specs.Prelude.{ℕ, if◌then◌else◌}
 use Rattle.arbiter.specs.Events.{in_sequence, outcome, outcome_number}
 use Rattle.arbiter.specs.Effects.{effect}
 use Rattle.arbiter.specs.Steps.{byte_read}

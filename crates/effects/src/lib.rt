@@ -1,4 +1,6 @@
 // Part 1 of a step: each event's own effect, with its outcome and the byte read. An event out of sequence changes nothing.
+#![tactic(auto)]
+
 ghost use Rattle.std.specs.Prelude.{◌≡◌};
 ghost use Rattle.arbiter.specs.Effects.{ticked_arb};
 ghost use Rattle.arbiter.specs.Events.{outcome_number};
@@ -19,7 +21,7 @@ use registers::{empties_own, fallen_side, reader_side, register_byte, sender_sid
 use resets::{reset_device, soft_reset};
 use writing::{paired_by, writable_at, written_by_0, written_by_1};
 
-#[derive(Drop)]
+#[derive(Clone, Copy)]
 pub struct Effect {
     pub device: Device,
     pub outcome: u8,

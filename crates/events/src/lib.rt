@@ -1,6 +1,7 @@
 // Four bytes as an event, and what the parts of a step ask of one.
-ghost use Rattle.std.specs.Prelude.{◌≡◌};
-ghost use Rattle.arbiter.specs.Words.{if◌then◌else◌};
+#![tactic(auto)]
+
+ghost use Rattle.std.specs.Prelude.{◌≡◌, if◌then◌else◌};
 ghost use Rattle.arbiter.specs.Events.{fitting, decode, decoded_number, raw_number, outcome_number};
 ghost use Rattle.arbiter.specs.Order.{is_tick, clock_of};
 ghost use Rattle.arbiter.specs.declared.Outcome.TheVariants.{Done, NotAcknowledged};

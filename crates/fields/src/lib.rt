@@ -3,9 +3,11 @@
 //
 // Structs are passed on as they stand and built by one call, never through a local copy: the step runs half as fast otherwise, since
 // the compiler then packs neighbouring fields into one word and takes them apart again at every step.
-ghost use Rattle.std.specs.Prelude.{◌≡◌};
+#![tactic(auto)]
+
+ghost use Rattle.std.specs.Prelude.{◌≡◌, if◌then◌else◌};
 ghost use Rattle.arbiter.specs.Rules.{limit_of, idle_limit, rolls};
-ghost use Rattle.arbiter.specs.Words.{if◌then◌else◌, same_master};
+ghost use Rattle.arbiter.specs.Words.{same_master};
 ghost use Rattle.arbiter.specs.State.{owns_turn, claims_turn, closed_for};
 ghost use Rattle.arbiter.specs.Parts.{with_turn};
 ghost use Rattle.arbiter.specs.Events.{master};

@@ -1,8 +1,7 @@
 -- Where the head of a trace, its events and its kind are, and where the answers go, for any bytes: a place past their end has no event and
 -- takes neither answer nor byte.
 -- Assumes nothing.
-use Rattle.std.specs.Prelude.{ℕ, ◌+◌, ◌*◌, List, [], ◌++◌, ltb, length, take, drop, set}
-use Rattle.arbiter.specs.Words.{if◌then◌else◌}
+use Rattle.std.specs.Prelude.{ℕ, ◌+◌, ◌*◌, List, [], ◌++◌, ltb, length, take, drop, set, if◌then◌else◌}
 use Rattle.arbiter.specs.Traces.{head_bytes, event_bytes, events_end, whole_bytes, count_in, raw_in, kind_section, kind_of, kind_at, event_count}
 use Rattle.arbiter.specs.Writing.{trace_head}
 use Rattle.arbiter.specs.declared.Kind.{Kind}

@@ -1,6 +1,8 @@
 // The format of a trace: its sections, where each begins and how long it is. Whoever reads, runs, lists or writes a trace has these from
 // here, and the number of a refusal. A trace is a count byte and the four pins, a two-byte count of events, then the events, four bytes each,
 // and last a count byte and the kind of part.
+#![tactic(auto)]
+
 ghost use Rattle.std.specs.Prelude.{◌+◌, ◌≤◌, ◌≡◌, length};
 ghost use Rattle.std.proofs.Math.Seq.{paste};
 ghost use Rattle.arbiter.specs.Traces.{byte_at, pins_in, count_in, events_end, whole_bytes, kind_number, is_kind, kind_of, kind_at, refusal_number};

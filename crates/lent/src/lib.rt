@@ -1,4 +1,6 @@
 // The lent device: the bench keeps one standing device, lends it to each step and finds the new state in it.
+#![tactic(auto)]
+
 ghost use Rattle.std.specs.Prelude.{◌≡◌};
 ghost use Rattle.arbiter.specs.Steps.{step};
 ghost use Rattle.lent.specs.Lent.{SteppedIn};

@@ -3,7 +3,8 @@
 use mathlib.Core.Path.{◌≡◌, refl}
 use mathlib.Core.Bool.{Bool, true, false}
 use Prim.Native.Nat.{ℕ, ◌%◌}
-use Rattle.arbiter.specs.Words.{if◌then◌else◌, bit}
+use Rattle.std.specs.Prelude.{if◌then◌else◌}
+use Rattle.arbiter.specs.Words.{bit}
 use Rattle.arbiter.specs.Parts.{with_port, with_auto, with_pointer}
 use Rattle.arbiter.specs.Events.{good_command}
 use Rattle.arbiter.specs.Effects.{register_at, commanded}
@@ -19,6 +20,7 @@ pub commanded_law : (c : ℕ) (s : Side) → commanded_by (good_command c) c s �
 unfolding commanded
 commanded_law c s = go (good_command c)
   where
-    go : (good : Bool) → commanded_by good c s ≡ (if good then with_port Writing (with_auto (bit 7 c) (with_pointer (register_at (c % 8)) s)) else with_port Open s)
+    go : (good : Bool) → commanded_by good c s
+        ≡ (if good then with_port Writing (with_auto (bit 7 c) (with_pointer (register_at (c % 8)) s)) else with_port Open s)
     go true = refl
     go false = refl

@@ -1,6 +1,7 @@
 // A master's port: at rest or open for writing, and what COMMAND and STOP do to its side.
-ghost use Rattle.std.specs.Prelude.{◌≡◌};
-ghost use Rattle.arbiter.specs.Words.{if◌then◌else◌};
+#![tactic(auto)]
+
+ghost use Rattle.std.specs.Prelude.{◌≡◌, if◌then◌else◌};
 ghost use Rattle.arbiter.specs.Parts.{with_port};
 ghost use Rattle.arbiter.specs.State.{at_rest, for_writing};
 ghost use Rattle.arbiter.specs.Effects.{commanded};

@@ -4,7 +4,7 @@ use mathlib.Core.Path.{◌≡◌, refl, ap}
 use mathlib.Core.Bool.{Bool, true, false, not, ◌&&◌}
 use Prim.Native.Nat.{ℕ}
 use lib.Bits.{bit_or, or_zero_r}
-use Rattle.arbiter.specs.Words.{if◌then◌else◌}
+use Rattle.std.specs.Prelude.{if◌then◌else◌}
 use Rattle.arbiter.specs.Parts.{with_port, with_pointer, with_ints, with_mail}
 use Rattle.arbiter.specs.Effects.{after_read, empties, reader_side}
 use Rattle.arbiter.specs.declared.Port.TheVariants.{Open}

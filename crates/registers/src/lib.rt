@@ -1,4 +1,6 @@
 // What a master reads of its registers and what reading does, when its output is asserted, and a fall of INT_IN.
+#![tactic(auto)]
+
 ghost use Rattle.std.specs.Prelude.{◌≡◌};
 ghost use Rattle.arbiter.specs.Registers.{contr_byte, status_byte, raised, int_status_byte, register_byte, is_asserted};
 ghost use Rattle.arbiter.specs.Effects.{after_read, is_mail_high, empties, reader_side, sender_side, int_in_fallen};

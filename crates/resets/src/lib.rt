@@ -1,4 +1,6 @@
 // What a reset and power-up leave.
+#![tactic(auto)]
+
 ghost use Rattle.std.specs.Prelude.{◌≡◌};
 ghost use Rattle.arbiter.specs.Words.{side};
 ghost use Rattle.arbiter.specs.Effects.{fresh_side, fresh_arb, was_reset, hold_asked, power_up};

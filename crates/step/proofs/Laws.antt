@@ -5,7 +5,8 @@ use mathlib.Core.Path.{◌≡◌, refl, ap}
 use mathlib.Core.Bool.{Bool, true, false, not, ◌&&◌}
 use native.Mathlib.Omega.{arith}
 use Prim.Native.Nat.{ℕ, ◌+◌}
-use Rattle.arbiter.specs.Words.{if◌then◌else◌, side}
+use Rattle.std.specs.Prelude.{if◌then◌else◌}
+use Rattle.arbiter.specs.Words.{side}
 use Rattle.arbiter.specs.Parts.{with_bus}
 use Rattle.arbiter.specs.State.{scl_high}
 use Rattle.arbiter.specs.Events.{soft_reset, in_sequence, acknowledged, outcome, outcome_number}

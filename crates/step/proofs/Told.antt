@@ -1,13 +1,8 @@
 -- An event carried through the parts and told is its step, and so are bytes that are no event, told with the device as it is.
 -- Assumes nothing.
-use Prim.Native.Nat.{ℕ}
 use mathlib.Core.Path.{◌≡◌, refl, ap, ◌∙◌}
 use mathlib.Core.Bool.{Bool, true, false}
-use mathlib.Core.Logic.{◌⊎◌, inl, inr}
-use native.Mathlib.Omega.{arith}
-use denote.Enum.Declared.{tag_of}
-use Rattle.arbiter.specs.contracts.Decoded.{the_type}
-use Rattle.arbiter.specs.Words.{if◌then◌else◌}
+use Rattle.std.specs.Prelude.{if◌then◌else◌}
 use Rattle.arbiter.specs.Events.{decoded_number, in_sequence, outcome, outcome_number}
 use Rattle.arbiter.specs.Steps.{parts, byte_read, answer, taken, refused, step_event, step_decoded}
 use Rattle.arbiter.specs.declared.Device.{Device}
@@ -35,9 +30,8 @@ pub told_event : (e : Event) (d : Device) → told (finished e d.bus (effect_of 
 told_event e d = ap told (moved_law e d) ∙ told_moved e d
 
 -- four bytes that do not read as an event
-pub told_unread : (x : Decoded) (d : Device) → (tag_of the_type x ≡ 1) ⊎ (tag_of the_type x ≡ 2) → stepped_with d (answer (decoded_number x) 0 d) ≡ step_decoded x d
+pub told_unread : (x : Decoded) (d : Device) → ((e : Event) → x ≡ Reads e → ⊥) → stepped_with d (answer (decoded_number x) 0 d) ≡ step_decoded x d
 unfolding step_decoded refused
-told_unread (Reads e) d (inl h) = let z : ◌≡◌ {A = ℕ} 0 1 = h in absurd (omega arith)
-told_unread (Reads e) d (inr h) = let z : ◌≡◌ {A = ℕ} 0 2 = h in absurd (omega arith)
+told_unread (Reads e) d h = absurd (h e refl)
 told_unread UnknownKind d h = refl
 told_unread BadField d h = refl

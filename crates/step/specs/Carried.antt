@@ -1,7 +1,6 @@
 -- Parts 3 to 7 as one, when they have nothing to do, part 1's effect carried through the other parts, and the answer after them.
 -- Assumes nothing.
-use Rattle.std.specs.Prelude.{ℕ, Bool, true, false, ◌&&◌, eqb}
-use Rattle.arbiter.specs.Words.{if◌then◌else◌}
+use Rattle.std.specs.Prelude.{ℕ, Bool, true, false, ◌&&◌, eqb, if◌then◌else◌}
 use Rattle.arbiter.specs.Events.{decoded_number, in_sequence, outcome, outcome_number}
 use Rattle.arbiter.specs.Order.{is_tick, clock_of, levels, losses, cut, claim, grant, connect}
 use Rattle.arbiter.specs.Steps.{parts, byte_read, answer}

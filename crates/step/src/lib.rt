@@ -1,4 +1,6 @@
 // A whole step: four bytes in, the new device and the four answer bytes out.
+#![tactic(auto)]
+
 ghost use Rattle.std.specs.Prelude.{◌+◌, ◌*◌, ◌≤◌, ◌≡◌, false};
 ghost use Rattle.arbiter.specs.Words.{worth};
 ghost use Rattle.arbiter.specs.State.{is_initialising};

@@ -5,9 +5,8 @@ use mathlib.Core.Bool.{Bool, true, false, not, ◌&&◌, false≢true, and-eq-tr
 use Prim.Native.Nat.{ℕ, ◌+◌}
 use lib.Dec.{eqb}
 use borrow.Author.Tests.{eqb-true}
-use Rattle.arbiter.specs.Words.{if◌then◌else◌}
+use Rattle.std.specs.Prelude.{if◌then◌else◌}
 use Rattle.arbiter.specs.Straps.{listed, first_address, low_bits, in_range, address_of, settings, straps_of}
-use Rattle.arbiter.specs.Straps.{strapped_number, strapped_address, strapping_number, address_number, address_value, straps_number}
 use Rattle.arbiter.specs.declared.Pins.{Pins}
 use Rattle.arbiter.specs.declared.Strapped.{Strapped}
 use Rattle.arbiter.specs.declared.Strapped.TheVariants.{Address, Unlisted}
@@ -92,31 +91,6 @@ back_to_address a h = (worked_pins a, straps_worked a h, pins_worked a h)
 pub none_outside : NoneOutside
 unfolding straps_of
 none_outside a h = rw h
-
--- ---- the paper's numbers: a call that answers by the map answers by its number and its value
-
-pub address_told : (p : Pins) (s : Strapped) → s ≡ address_of p →
-    (s ≡ address_of p) × ((strapped_number s ≡ address_number p) × (strapped_address s ≡ address_value p))
-unfolding address_of
-address_told p s e = (e, (ap strapped_number e ∙ number (listed p), ap strapped_address e ∙ value (listed p)))
-  where
-    address : ℕ
-    address = first_address p + low_bits p
-
-    number : (b : Bool) → strapped_number (if b then Address address else Unlisted) ≡ (if b then 0 else 8)
-    number true = refl
-    number false = refl
-
-    value : (b : Bool) → strapped_address (if b then Address address else Unlisted) ≡ (if b then address else 0)
-    value true = refl
-    value false = refl
-
-pub straps_told : (a : ℕ) (s : Strapping) → s ≡ straps_of a → (s ≡ straps_of a) × (strapping_number s ≡ straps_number a)
-straps_told a s e = (e, ap strapping_number e ∙ number (in_range a) refl)
-  where
-    number : (b : Bool) → in_range a ≡ b → strapping_number (straps_of a) ≡ (if b then 0 else 11)
-    number true h = ap strapping_number (back_to_address a h).1
-    number false h = ap strapping_number (none_outside a h)
 
 pub straps_hold : StrapsHold
 straps_hold = record { back_to_pins = back_to_pins; back_to_address = back_to_address; none_outside = none_outside; one_strapping = one_strapping }

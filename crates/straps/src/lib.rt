@@ -8,6 +8,8 @@
 //   AD3 VDD  08h    18h    28h    38h    48h    58h    68h    78h
 //
 // That is the paper's table but for its two "none", which come out as 00h and 78h. No address from these is in the range, 08h to 77h.
+#![tactic(auto)]
+
 ghost use Rattle.std.specs.Prelude.{◌≡◌};
 ghost use Rattle.arbiter.specs.Straps.{in_range, address_of, straps_of};
 ghost use Rattle.arbiter.specs.Straps.{strapped_number, strapped_address, strapping_number, address_number, address_value, straps_number};

@@ -5,7 +5,8 @@ use mathlib.Core.Bool.{Bool, true, false, not, ◌&&◌, ◌||◌}
 use Prim.Native.Nat.{ℕ, ◌%◌}
 use lib.Dec.{eqb}
 use lib.Bits.{or_zero_r}
-use Rattle.arbiter.specs.Words.{if◌then◌else◌, bit}
+use Rattle.std.specs.Prelude.{if◌then◌else◌}
+use Rattle.arbiter.specs.Words.{bit}
 use Rattle.arbiter.specs.Parts.{with_bus_connect, with_contr, with_rt, with_ints, with_mask, with_pointer, with_mail}
 use Rattle.arbiter.specs.Registers.{register_number, test_int, mail_full_int, raised, withdraws, control_of, cleared, disconnected, own_written, mail_written}
 use Rattle.arbiter.specs.Registers.{drives_written, turn_written}

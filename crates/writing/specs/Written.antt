@@ -1,7 +1,7 @@
 -- What a written byte does to one register alone, as the code's small functions have it.
 -- Assumes nothing.
-use Rattle.std.specs.Prelude.{ℕ, Bool, false, not, ◌&&◌, ◌||◌, eqb}
-use Rattle.arbiter.specs.Words.{if◌then◌else◌, bit}
+use Rattle.std.specs.Prelude.{ℕ, Bool, false, not, ◌&&◌, ◌||◌, eqb, if◌then◌else◌}
+use Rattle.arbiter.specs.Words.{bit}
 use Rattle.arbiter.specs.Parts.{with_bus_connect}
 use Rattle.arbiter.specs.Registers.{test_int, raised, withdraws, control_of, cleared}
 use Rattle.arbiter.specs.declared.Control.{Control}

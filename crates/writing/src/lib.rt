@@ -1,7 +1,8 @@
 // What a written byte does, by the register that the pointer names: to the writer's side, to its partner's side, to the drives and to the
 // turn; and so to the device, at a WRITE or a PAIR.
-ghost use Rattle.std.specs.Prelude.{◌≡◌};
-ghost use Rattle.arbiter.specs.Words.{if◌then◌else◌};
+#![tactic(auto)]
+
+ghost use Rattle.std.specs.Prelude.{◌≡◌, if◌then◌else◌};
 ghost use Rattle.arbiter.specs.Registers.{own_written, mail_written, drives_written, turn_written};
 ghost use Rattle.arbiter.specs.Events.{writable};
 ghost use Rattle.arbiter.specs.Effects.{after_write, write_risen, written, paired};
