@@ -31,7 +31,8 @@ use Rattle.arbiter.specs.Effects.{register_at}
 use Rattle.arbiter.proofs.Choice.{same_eq}
 use Rattle.quiet.specs.Counts.{counted_bus, with_counts}
 use Rattle.quiet.specs.Quiet.{Same}
-use Rattle.advance.specs.Changes.{agree, same_port, same_register, same_ground, same_turn, same_last, same_switch, same_control, same_mail, same_side, same_lines}
+use Rattle.advance.specs.Changes.{agree, same_port, same_register, same_ground, same_turn, same_last, same_switch, same_control, same_mail, same_side}
+use Rattle.advance.specs.Changes.{same_lines}
 use Rattle.advance.specs.Changes.{same_arb, same_kind, same_but_counts, same_shown, bare}
 
 -- ---- values

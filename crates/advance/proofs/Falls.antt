@@ -7,7 +7,8 @@ use lib.Dec.{eqb, ltb}
 use borrow.Author.Tests.{eqb-true}
 use native.Mathlib.Omega.{arith}
 use Rattle.arbiter.specs.Rules.{idle_limit}
-use Rattle.arbiter.specs.Words.{if◌then◌else◌, worth, side}
+use Rattle.std.specs.Prelude.{if◌then◌else◌}
+use Rattle.arbiter.specs.Words.{worth, side}
 use Rattle.arbiter.specs.State.{at_rest, scl_high, sda_high, is_idle, scl_hung_limit, bus_hung}
 use Rattle.arbiter.specs.Effects.{counted_to, ticked_bus, ticked}
 use Rattle.arbiter.specs.Order.{cut_ticks}

@@ -6,7 +6,8 @@ use mathlib.Core.Path.{◌≡◌, sym, subst, ◌∙◌}
 use mathlib.Core.Bool.{Bool, true, false, not, ◌||◌, false≢true}
 use mathlib.Core.List.{List, [], ◌∷◌}
 use native.Mathlib.Omega.{arith}
-use Rattle.arbiter.specs.Words.{if◌then◌else◌, side}
+use Rattle.std.specs.Prelude.{if◌then◌else◌}
+use Rattle.arbiter.specs.Words.{side}
 use Rattle.arbiter.specs.State.{scl_high, sda_high}
 use Rattle.arbiter.specs.Events.{soft_reset}
 use Rattle.arbiter.specs.Effects.{ticked, hold_asked, was_reset, effect, power_up}

@@ -7,7 +7,8 @@ use lib.Dec.{eqb, ltb}
 use borrow.Author.Tests.{eq-eqb}
 use native.Mathlib.Omega.{arith}
 use Rattle.arbiter.specs.Rules.{idle_limit}
-use Rattle.arbiter.specs.Words.{if◌then◌else◌, worth, partner, of, side}
+use Rattle.std.specs.Prelude.{if◌then◌else◌}
+use Rattle.arbiter.specs.Words.{worth, partner, of, side}
 use Rattle.arbiter.specs.State.{scl_high, sda_high, is_idle, bus_hung}
 use Rattle.arbiter.specs.Effects.{ticked, effect}
 use Rattle.arbiter.specs.Order.{cut_ticks, levels, losses, lost}

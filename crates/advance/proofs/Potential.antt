@@ -7,7 +7,8 @@ use mathlib.Core.Path.{◌≡◌, refl, ap}
 use mathlib.Core.Bool.{Bool, true, false, not, ◌&&◌, true≢false, false≢true}
 use lib.Dec.{eqb, ltb}
 use native.Mathlib.Omega.{arith}
-use Rattle.arbiter.specs.Words.{if◌then◌else◌, worth, of}
+use Rattle.std.specs.Prelude.{if◌then◌else◌}
+use Rattle.arbiter.specs.Words.{worth, of}
 use Rattle.arbiter.specs.State.{scl_high, sda_high, is_idle, bus_hung}
 use Rattle.arbiter.specs.Order.{cut_ticks}
 use Rattle.arbiter.specs.AuditWords.{requests}
@@ -89,7 +90,8 @@ module _ (idle scl sda : Bool) (losses : ℕ) (uncut after hung now : Bool) (cut
       go false false sda = let c = worth_rises after uncut cuts in let h = not_falls hung now hangs in omega arith
 
   -- a bus with a low line that is newly hung
-  pub of_hung : idle ≡ false → scl && sda ≡ false → hung ≡ false → now ≡ true → left_of idle scl sda losses after now + 1 ≤ left_of idle scl sda losses uncut hung
+  pub of_hung : idle ≡ false → scl && sda ≡ false → hung ≡ false → now ≡ true
+      → left_of idle scl sda losses after now + 1 ≤ left_of idle scl sda losses uncut hung
   of_hung i low h n = go idle scl sda i low
     where
       was : worth 1 (not hung) ≡ 1

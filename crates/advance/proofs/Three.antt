@@ -7,7 +7,8 @@ use lib.Dec.{eqb}
 use borrow.Author.Tests.{eqb-true, eqb-false, eq-eqb, ne_eqb}
 use native.Mathlib.Omega.{arith}
 use Rattle.arbiter.specs.Rules.{idle_limit}
-use Rattle.arbiter.specs.Words.{if◌then◌else◌, worth, side}
+use Rattle.std.specs.Prelude.{if◌then◌else◌}
+use Rattle.arbiter.specs.Words.{worth, side}
 use Rattle.arbiter.specs.State.{scl_high, sda_high, scl_hung_limit, sda_hung_limit, bus_hung}
 use Rattle.arbiter.specs.Events.{decode, in_sequence}
 use Rattle.arbiter.specs.Effects.{ticked_bus, ticked, effect}

@@ -1,8 +1,7 @@
 -- Runs that reach the bound of Bound.antt, and others that come near it, for a part of each kind. proofs/BoundWitness.antt computes them all.
 -- Assumes nothing.
-use Rattle.std.specs.Prelude.{ℕ, zero, suc, ◌+◌, ◌*◌, ◌≤◌, ◌≡◌, List, [], ◌∷◌, ◌++◌, map, length}
+use Rattle.std.specs.Prelude.{ℕ, zero, suc, ◌+◌, ◌*◌, ◌≤◌, ◌≡◌, List, [], ◌∷◌, ◌++◌, map, length, if◌then◌else◌}
 use Rattle.arbiter.specs.Rules.{limit_of}
-use Rattle.arbiter.specs.Words.{if◌then◌else◌}
 use Rattle.arbiter.specs.Steps.{step, run}
 use Rattle.arbiter.specs.Marks.{lines, general_call}
 use Rattle.arbiter.specs.Witnesses.{sets_rt, sets_contr}

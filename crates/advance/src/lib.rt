@@ -1,4 +1,6 @@
 // An advance by many ticks at once (request #113): quiet ticks are jumped over, and the others are taken one by one and compared.
+#![tactic(auto)]
+
 ghost use Rattle.std.specs.Prelude.{◌+◌, ◌≤◌, ◌<◌, ◌≡◌};
 ghost use Rattle.quiet.specs.Quiet.{tick, ticks};
 ghost use Rattle.arbiter.specs.Steps.{step};
@@ -17,7 +19,7 @@ pub mod changes;
 pub const MOST_TICKS: u32 = 65535;
 
 // What an advance reports: its number, the device after it, and how many of its ticks changed anything but counts.
-#[derive(Drop)]
+#[derive(Clone, Copy)]
 pub struct Advanced {
     pub number: u8,
     pub device: Device,
@@ -25,7 +27,7 @@ pub struct Advanced {
 }
 
 // On the way: the device, the ticks left to take, and how many so far changed anything but counts.
-#[derive(Drop)]
+#[derive(Clone, Copy)]
 pub struct Way {
     pub device: Device,
     pub left: u16,

@@ -10,7 +10,7 @@ use lib.ListN.{length, drop, length-append, length-drop}
 use lib.Seq.{take_at, drop-append-add, drop-drop}
 use borrow.Author.Tests.{eq-eqb, ne_eqb, eqb-true, eqb-false, ltb-false, le-ltb}
 use Rattle.arbiter.specs.declared.Kind.TheVariants.{Pca9641}
-use Rattle.arbiter.specs.Words.{if◌then◌else◌}
+use Rattle.std.specs.Prelude.{if◌then◌else◌}
 use Rattle.arbiter.specs.Traces.{most_bytes, kind_bytes, events_end, whole_bytes, kind_section, count_in}
 use Rattle.arbiter.specs.OldTraces.{old_number, converted, converted_number, converted_bytes, conversion, buffer_converted}
 use Rattle.arbiter.specs.declared.Written.{Written}

@@ -1,4 +1,6 @@
 // A trace from before the kind of part (#105), written into a lent buffer with the section of a PCA9641 added.
+#![tactic(auto)]
+
 ghost use Rattle.std.specs.Prelude.{◌≡◌};
 ghost use Rattle.arbiter.specs.OldTraces.{old_counted, old_number, converted_number, conversion, buffer_converted};
 
@@ -32,6 +34,7 @@ fn counted_number(t: &[u8]) -> u8
     0
 }
 
+#[tactic(auto, unfolding(arbiter::specs::OldTraces::old_number))]
 fn old_number(t: &[u8]) -> u8
     ensures { result ≡ old_number t.now }
 {
@@ -52,6 +55,7 @@ fn old_number(t: &[u8]) -> u8
     }
 }
 
+#[tactic(auto, unfolding(arbiter::specs::OldTraces::converted, arbiter::specs::OldTraces::converted_number))]
 fn convert_number(t: &[u8], room: usize) -> u8
     ensures { result ≡ converted_number t.now room }
 {
@@ -69,6 +73,7 @@ fn convert_number(t: &[u8], room: usize) -> u8
 
 // An old trace with its section added: its length, and its bytes in the lent buffer. A refusal by number leaves the buffer as it was and
 // has length 0.
+#[tactic(auto, using(crate::proofs::Laws::zero_fits, crate::proofs::Laws::refused_converted, crate::proofs::Laws::refused_buffer, crate::proofs::Laws::all_converted, crate::proofs::Laws::all_stored))]
 pub fn convert_trace(t: &[u8], out: &mut [u8]) -> Written
     ensures { (result ≡ conversion t.now out.old) × (out.new ≡ buffer_converted t.now out.old) }
 {

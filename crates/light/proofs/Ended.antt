@@ -3,7 +3,7 @@
 use Prim.Native.Nat.{ℕ}
 use mathlib.Core.Path.{◌≡◌, refl, sym, ap, ap₂, ◌∙◌}
 use mathlib.Core.Bool.{Bool, true, false, not, ◌&&◌, ◌||◌}
-use Rattle.arbiter.specs.Words.{if◌then◌else◌}
+use Rattle.std.specs.Prelude.{if◌then◌else◌}
 use Rattle.arbiter.specs.Events.{decode, decoded_number, in_sequence, outcome, outcome_number}
 use Rattle.arbiter.specs.Effects.{effect}
 use Rattle.arbiter.specs.Steps.{parts, byte_read, owner_byte, lines_byte, answer, taken, refused, step_event, step_decoded, step}

@@ -5,7 +5,8 @@ use mathlib.Core.Bool.{Bool, true, false, not, ◌&&◌, false≢true}
 use Prim.Native.Nat.{ℕ, ◌+◌}
 use lib.Dec.{eqb}
 use Rattle.arbiter.specs.Rules.{idle_limit}
-use Rattle.arbiter.specs.Words.{if◌then◌else◌, worth, partner, same_master, side, device}
+use Rattle.std.specs.Prelude.{if◌then◌else◌}
+use Rattle.arbiter.specs.Words.{worth, partner, same_master, side, device}
 use Rattle.arbiter.specs.Parts.{with_bus}
 use Rattle.arbiter.specs.State.{at_rest, claims_turn, scl_high, sda_high, is_idle, bus_hung}
 use Rattle.arbiter.specs.Registers.{is_asserted}

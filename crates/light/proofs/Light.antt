@@ -5,15 +5,16 @@ use mathlib.Core.Bool.{Bool, true, false, not, ◌&&◌, ◌||◌, false≢true,
 use Prim.Native.Nat.{ℕ, ◌%◌}
 use lib.Bits.{or_zero_r}
 use lib.Dec.{eqb}
-use Rattle.arbiter.specs.Words.{if◌then◌else◌, bit, partner, side, device}
+use Rattle.std.specs.Prelude.{if◌then◌else◌}
+use Rattle.arbiter.specs.Words.{bit, partner, side, device}
 use Rattle.arbiter.specs.Parts.{with_port, with_pointer, with_auto, with_mail, with_contr, with_rt, with_turn, with_drives}
 use Rattle.arbiter.specs.State.{claims_turn, owns_turn, owns}
 use Rattle.arbiter.specs.Registers.{mail_emptied_int, raised, control_of, disconnected, withdraws, own_written, mail_written, released}
 use Rattle.arbiter.specs.Registers.{drives_written, turn_written}
 use Rattle.arbiter.specs.Rules.{rolls}
 use Rattle.arbiter.specs.Events.{good_command}
-use Rattle.arbiter.specs.Effects.{register_at, after_read, after_write, commanded, writer_side, partner_side, written_bus, written_turn, written, paired, empties}
-use Rattle.arbiter.specs.Effects.{reader_side, sender_side, was_read, int_in_fallen, lined, effect}
+use Rattle.arbiter.specs.Effects.{register_at, after_read, after_write, commanded, writer_side, partner_side, written_bus, written_turn, written, paired}
+use Rattle.arbiter.specs.Effects.{empties, reader_side, sender_side, was_read, int_in_fallen, lined, effect}
 use Rattle.arbiter.specs.Order.{levels}
 use Rattle.arbiter.specs.Steps.{parts, owner_byte, lines_byte}
 use Rattle.arbiter.specs.declared.Master.{Master}
@@ -33,8 +34,7 @@ use Rattle.arbiter.proofs.Choice.{either, not_true}
 use Rattle.step.specs.Carried.{parts_three_to_seven}
 use Rattle.light.specs.Light.{Settled}
 use Rattle.light.specs.Ended.{leaves_turn, write_is_light, lined_bus, ends_itself, keeps_lines, its_end, EndsItself}
-use Rattle.light.proofs.Fits.{Alike, Fits, fits_on, fits_self, alike_fits}
-use Rattle.light.proofs.Fits.{fits_settles, held_settles, both_settle, same_owner, same_lines, lined_settles}
+use Rattle.light.proofs.Fits.{Alike, Fits, fits_on, fits_self, alike_fits, fits_settles, held_settles, both_settle, same_owner, same_lines, lined_settles}
 
 -- what is to be shown of one event
 abbrev Alone : Event → Device → Type 0

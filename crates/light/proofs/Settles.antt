@@ -4,7 +4,8 @@ use mathlib.Core.Path.{◌≡◌, refl, sym, ap, ap₂, subst, ◌∙◌}
 use mathlib.Core.Bool.{Bool, true, false, not, ◌&&◌, false≢true, and-eq-true_iff, and-false}
 use mathlib.Core.List.{List, [], ◌∷◌}
 use lib.Dec.{eqb}
-use Rattle.arbiter.specs.Words.{if◌then◌else◌, same_master, side}
+use Rattle.std.specs.Prelude.{if◌then◌else◌}
+use Rattle.arbiter.specs.Words.{same_master, side}
 use Rattle.arbiter.specs.State.{owns_turn, at_rest}
 use Rattle.arbiter.specs.Order.{claim_by, winner, ground_of, claim_after}
 use Rattle.arbiter.specs.Effects.{fresh_side, power_up}
@@ -118,17 +119,17 @@ module _ (d : Device) (ready : Ready d) (served : Served d) where
   abbrev ground : Ground
   ground = ground_of d.side0.contr.priority d.side1.contr.priority
 
-  quiet_from : (t : Turn) → d.arb.turn ≡ t → quiet_from t false d ≡ true
-  quiet_from Nobody e = all_hold _ _ _ _ _ (open_now Nobody e (λ j. refl)) refl (none_asks r0 r1 wins ground (claimed Nobody e)) refl refl
-  quiet_from (Claims Zero g) e =
+  quiet_from_lem : (t : Turn) → d.arb.turn ≡ t → quiet_from t false d ≡ true
+  quiet_from_lem Nobody e = all_hold _ _ _ _ _ (open_now Nobody e (λ j. refl)) refl (none_asks r0 r1 wins ground (claimed Nobody e)) refl refl
+  quiet_from_lem (Claims Zero g) e =
       all_hold _ _ _ _ _ (open_now (Claims Zero g) e (λ j. refl)) (due (Claims Zero g) e) (asks_0 r0 r1 wins g ground (claimed (Claims Zero g) e)) refl refl
-  quiet_from (Claims One g) e =
+  quiet_from_lem (Claims One g) e =
       all_hold _ _ _ _ _ (open_now (Claims One g) e (λ j. refl)) (due (Claims One g) e) (asks_1 r0 r1 wins g ground (claimed (Claims One g) e)) refl refl
-  quiet_from (Owns m g) e = all_hold _ _ _ _ _ (link m g d e served d.arb.switch refl) refl refl refl (kept (Owns m g) e)
+  quiet_from_lem (Owns m g) e = all_hold _ _ _ _ _ (link m g d e served d.arb.switch refl) refl refl refl (kept (Owns m g) e)
 
   ready_quiet : is_quiet false d ≡ true
   unfolding is_quiet
-  ready_quiet = quiet_from d.arb.turn refl
+  ready_quiet = quiet_from_lem d.arb.turn refl
 
 -- ---- a settled device's switch serves its owner
 

@@ -4,7 +4,8 @@ use Prim.Native.Nat.{ℕ}
 use mathlib.Core.Path.{◌≡◌, refl, sym, ap, ap₂, ◌∙◌}
 use mathlib.Core.Bool.{Bool, true, false, not, ◌&&◌, false≢true, and-eq-true_iff}
 use lib.Dec.{eqb}
-use Rattle.arbiter.specs.Words.{if◌then◌else◌, bit, partner, side, device}
+use Rattle.std.specs.Prelude.{if◌then◌else◌}
+use Rattle.arbiter.specs.Words.{bit, partner, side, device}
 use Rattle.arbiter.specs.Parts.{with_port, with_idle, with_turn, with_switch, with_init_fail, with_arb}
 use Rattle.arbiter.specs.State.{claims_turn, owns_turn, owns, at_rest, for_writing}
 use Rattle.arbiter.specs.Registers.{own_written, mail_written, drives_written, turn_written}

@@ -2,8 +2,8 @@
 -- PAIR of two such bytes, a STOP of one who does not claim or while SCL is held, and LINES that end no grant: parts 3 to 7 have nothing to do after them,
 -- part 2 none but after LINES, and the owner byte stays.
 -- Assumes nothing.
-use Rattle.std.specs.Prelude.{ℕ, ◌≡◌, Bool, true, false, not, ◌&&◌, ◌||◌, eqb}
-use Rattle.arbiter.specs.Words.{if◌then◌else◌, bit, same_master, side}
+use Rattle.std.specs.Prelude.{ℕ, ◌≡◌, Bool, true, false, not, ◌&&◌, ◌||◌, eqb, if◌then◌else◌}
+use Rattle.arbiter.specs.Words.{bit, same_master, side}
 use Rattle.arbiter.specs.Parts.{with_bus}
 use Rattle.arbiter.specs.State.{claims_turn, owns}
 use Rattle.arbiter.specs.Events.{in_sequence, outcome, outcome_number}

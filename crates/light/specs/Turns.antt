@@ -1,8 +1,8 @@
 -- Request #114: events that move the turn in a settled device and nothing of the other master. The STOP of a claimant brings it the grant; a byte to CONTR
 -- with LOCK_REQ, while nobody claims or owns, makes its writer the claimant.
 -- Assumes nothing.
-use Rattle.std.specs.Prelude.{ℕ, ◌≡◌, Bool, true, false, not, ◌&&◌, eqb}
-use Rattle.arbiter.specs.Words.{if◌then◌else◌, bit, partner, side, device}
+use Rattle.std.specs.Prelude.{ℕ, ◌≡◌, Bool, true, false, not, ◌&&◌, eqb, if◌then◌else◌}
+use Rattle.arbiter.specs.Words.{bit, partner, side, device}
 use Rattle.arbiter.specs.Parts.{with_port, with_ints, with_idle, with_turn}
 use Rattle.arbiter.specs.State.{claims_turn, for_writing}
 use Rattle.arbiter.specs.Registers.{granted_int, raised}

@@ -10,7 +10,7 @@ use lib.Dec.{eqb, ltb}
 use lib.ListN.{length, take, drop, length-map}
 use lib.Seq.{take_all, take-length, take_at, drop_at, length-take-le}
 use borrow.Author.Tests.{lt-ltb, le-ltb, eqb-true, ltb-true, ltb-false}
-use Rattle.arbiter.specs.Words.{if◌then◌else◌}
+use Rattle.std.specs.Prelude.{if◌then◌else◌}
 use Rattle.arbiter.specs.Effects.{power_up}
 use Rattle.arbiter.specs.Steps.{owner_byte}
 use Rattle.arbiter.specs.Traces.{event_bytes, raws_in, event_count}

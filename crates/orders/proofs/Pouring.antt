@@ -11,7 +11,7 @@ use lib.Dec.{leb}
 use lib.ListN.{length, get_or, take, drop, set, length-append, length-drop}
 use lib.Seq.{take_all, drop-cons, set_at}
 use borrow.Author.Tests.{le-leb, lt-leb, leb-true}
-use Rattle.arbiter.specs.Words.{if◌then◌else◌}
+use Rattle.std.specs.Prelude.{if◌then◌else◌}
 use Rattle.arbiter.specs.Traces.{event_bytes, raw_in, raws_in, event_count}
 use Rattle.orders.specs.Call.{script_in}
 use Rattle.orders.specs.Walk.{reached, bytes_from, pour}

@@ -1,7 +1,6 @@
 -- Request 109, the call: its refusals in their order, its answer, and what the lent buffer holds after it.
 -- Assumes nothing.
-use Rattle.std.specs.Prelude.{ℕ, ◌%◌, ◌≤◌, ◌≡◌, Bool, not, ◌&&◌, ◌||◌, List, ◌++◌, eqb, ltb, length, take, drop}
-use Rattle.arbiter.specs.Words.{if◌then◌else◌}
+use Rattle.std.specs.Prelude.{ℕ, ◌%◌, ◌≤◌, ◌≡◌, Bool, not, ◌&&◌, ◌||◌, List, ◌++◌, eqb, ltb, length, take, drop, if◌then◌else◌}
 use Rattle.arbiter.specs.Traces.{event_bytes, raws_in, event_count}
 use Rattle.arbiter.specs.declared.Raw.{Raw}
 use Rattle.orders.specs.Orders.{number_of_orders, order_bytes}

@@ -1,8 +1,8 @@
 -- Request 109: what the orders of two scripts are, said without building them. An order is a choice of places: for each of its places, the
 -- script from which the event comes. Two events that are equal bytes still have places of their own.
 -- Assumes nothing.
-use Rattle.std.specs.Prelude.{ℕ, suc, ◌+◌, ◌≤◌, ◌≡◌, Bool, true, false, ◌&&◌, List, [], ◌∷◌, map, length, replicate}
-use Rattle.arbiter.specs.Words.{if◌then◌else◌, same_master}
+use Rattle.std.specs.Prelude.{ℕ, suc, ◌+◌, ◌≤◌, ◌≡◌, Bool, true, false, ◌&&◌, List, [], ◌∷◌, map, length, replicate, if◌then◌else◌}
+use Rattle.arbiter.specs.Words.{same_master}
 use Rattle.arbiter.specs.declared.Master.{Master}
 use Rattle.arbiter.specs.declared.Master.TheVariants.{Zero, One}
 use Rattle.orders.specs.Orders.{orders, number_of_orders}

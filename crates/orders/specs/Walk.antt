@@ -1,8 +1,7 @@
 -- Walk of `orders`: how the code goes through the orders: it carries the device and the last byte, so that orders with a common beginning share
 -- its steps, and pours the bytes into the buffer up to a limit.
 -- Assumes nothing.
-use Rattle.std.specs.Prelude.{ℕ, ◌+◌, List, [], ◌∷◌, ◌++◌, leb, set}
-use Rattle.arbiter.specs.Words.{if◌then◌else◌}
+use Rattle.std.specs.Prelude.{ℕ, ◌+◌, List, [], ◌∷◌, ◌++◌, leb, set, if◌then◌else◌}
 use Rattle.arbiter.specs.Steps.{step}
 use Rattle.arbiter.specs.declared.Device.{Device}
 use Rattle.arbiter.specs.declared.Raw.{Raw}

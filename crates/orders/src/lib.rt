@@ -1,4 +1,6 @@
 // All orders of two start-up scripts (request #109), each from a fresh PCA9641: the third answer byte after each order's last event.
+#![tactic(auto)]
+
 ghost use Rattle.std.specs.Prelude.{◌≤◌, ◌≡◌, length};
 ghost use Rattle.arbiter.specs.Effects.{power_up};
 ghost use Rattle.arbiter.specs.Steps.{owner_byte};
@@ -17,14 +19,14 @@ use step::{fresh, step_device};
 const MOST_SCRIPTED: usize = 6;
 
 // A point on the way through the orders: the device, and the third byte of the last answer.
-#[derive(Drop)]
+#[derive(Clone, Copy)]
 pub struct Reached {
     pub device: Device,
     pub byte: u8,
 }
 
 // What the listing reports: its number, and how many orders it listed.
-#[derive(Drop)]
+#[derive(Clone, Copy)]
 pub struct Listed {
     pub number: u8,
     pub count: usize,

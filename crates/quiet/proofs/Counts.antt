@@ -1,12 +1,12 @@
 -- What a count is after j ticks: one tick more adds one, and none that has ticks left reaches what ends it.
 -- Assumes nothing.
-use mathlib.Core.Path.{◌≡◌, refl, sym, ap, ap₂, ◌∙◌}
-use mathlib.Core.Bool.{Bool, true, false, not, ◌&&◌, false≢true, and-false}
+use mathlib.Core.Path.{◌≡◌, refl, sym, ap, ◌∙◌}
+use mathlib.Core.Bool.{Bool, true, false, not, ◌&&◌}
 use Prim.Native.Nat.{ℕ, ◌-◌, ◌+◌, ◌<◌, ◌≤◌}
 use lib.Dec.{eqb, ltb}
-use borrow.Author.Tests.{eqb-true, eqb-false, eq-eqb, ne_eqb, ltb-true, ltb-false, lt-ltb, le-ltb}
+use borrow.Author.Tests.{eqb-true, eqb-false, ne_eqb, ltb-true, ltb-false, lt-ltb, le-ltb}
 use native.Mathlib.Omega.{arith}
-use Rattle.arbiter.specs.Words.{if◌then◌else◌}
+use Rattle.std.specs.Prelude.{if◌then◌else◌}
 use Rattle.arbiter.specs.State.{scl_hung_limit, sda_hung_limit}
 use Rattle.arbiter.specs.Effects.{counted_to}
 use Rattle.arbiter.specs.Order.{cut_ticks}
@@ -93,7 +93,8 @@ hold_kept j hold l =
 
 -- ---- low SCL
 
-scl_cases : {A : Type 0} (j n : ℕ) → j ≤ scl_left false n → (n + j < cut_ticks → A) → (cut_ticks ≤ n → n + j < scl_hung_limit → A) → (scl_hung_limit ≤ n → A) → A
+scl_cases : {A : Type 0} (j n : ℕ) → j ≤ scl_left false n → (n + j < cut_ticks → A) → (cut_ticks ≤ n → n + j < scl_hung_limit → A) → (scl_hung_limit ≤ n → A)
+    → A
 scl_cases j n l f g h =
     split (ltb n cut_ticks)
     (λ x.

@@ -2,17 +2,18 @@
 -- Assumes nothing.
 use mathlib.Core.Path.{◌≡◌, refl, sym, ap, ap₂, subst, ◌∙◌}
 use mathlib.Core.Bool.{Bool, true, false, not, ◌&&◌, ◌||◌, true≢false, false≢true, and-false, and-eq-true_iff}
-use Prim.Native.Nat.{ℕ, zero, suc, ◌-◌, ◌+◌, ◌<◌, ◌≤◌}
-use lib.Dec.{eqb, ltb}
+use Prim.Native.Nat.{ℕ, zero, suc, ◌-◌, ◌+◌, ◌≤◌}
+use lib.Dec.{eqb}
 use borrow.Author.Tests.{eqb-true, ne_eqb}
 use native.Mathlib.Omega.{arith}
 use Rattle.arbiter.specs.Rules.{limit_of, idle_limit}
-use Rattle.arbiter.specs.Words.{if◌then◌else◌, worth, side}
+use Rattle.std.specs.Prelude.{if◌then◌else◌}
+use Rattle.arbiter.specs.Words.{worth, side}
 use Rattle.arbiter.specs.Parts.{with_reserve}
 use Rattle.arbiter.specs.State.{at_rest, scl_high, sda_high, is_idle, scl_hung_limit, sda_hung_limit, bus_hung}
 use Rattle.arbiter.specs.Registers.{is_asserted}
 use Rattle.arbiter.specs.Effects.{counted_to, ticked_bus, ticked}
-use Rattle.arbiter.specs.Order.{runs_out, cut_ticks}
+use Rattle.arbiter.specs.Order.{runs_out}
 use Rattle.arbiter.specs.Steps.{owner_byte, lines_byte, answer, step, run_from}
 use Rattle.arbiter.specs.declared.Turn.{Turn}
 use Rattle.arbiter.specs.declared.Turn.TheVariants.{Nobody, Claims, Owns}
@@ -20,14 +21,12 @@ use Rattle.arbiter.specs.declared.Kind.{Kind}
 use Rattle.arbiter.specs.declared.Side.{Side}
 use Rattle.arbiter.specs.declared.Bus.{Bus}
 use Rattle.arbiter.specs.declared.Device.{Device}
-use Rattle.arbiter.specs.declared.Answer.{Answer}
 use Rattle.arbiter.specs.declared.Stepped.{Stepped}
-use Rattle.arbiter.proofs.Choice.{split, if_true, if_false, not_true}
+use Rattle.arbiter.proofs.Choice.{split, if_true, if_false}
 use Rattle.arbiter.proofs.KindKept.{limit_some}
 use Rattle.arbiter.proofs.Settled.{Still}
-use Rattle.arbitration.specs.Quiet.{no_loss, no_cut, no_claim, no_grant}
+use Rattle.arbitration.specs.Quiet.{no_loss, no_cut}
 use Rattle.fields.specs.Apart.{is_apart}
-use Rattle.connection.specs.Quiet.{switch_stays}
 use Rattle.quiet.specs.Counts.{least, risen, counted_bus, with_counts, after_ticks}
 use Rattle.quiet.specs.Quiet.{hold_left, scl_left, sda_left, idle_left, owner_left, turn_left, is_still, is_calm, counts_left, quiet_ticks, tick, Quiet, ticks}
 use Rattle.quiet.specs.Quiet.{Same, QuietTogether}

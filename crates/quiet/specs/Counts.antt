@@ -1,8 +1,7 @@
 -- The counts of a device, named once, and the device with them moved on by so many ticks, all else as it was (request #113).
 -- Assumes nothing.
-use Rattle.std.specs.Prelude.{ℕ, ◌+◌, ◌-◌, Bool, not, ◌&&◌, ltb}
+use Rattle.std.specs.Prelude.{ℕ, ◌+◌, ◌-◌, Bool, not, ◌&&◌, ltb, if◌then◌else◌}
 use Rattle.arbiter.specs.Rules.{idle_limit}
-use Rattle.arbiter.specs.Words.{if◌then◌else◌}
 use Rattle.arbiter.specs.Parts.{with_reserve}
 use Rattle.arbiter.specs.State.{scl_high, sda_high, is_idle, scl_hung_limit, sda_hung_limit}
 use Rattle.arbiter.specs.declared.Bus.{Bus}

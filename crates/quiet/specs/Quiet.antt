@@ -1,8 +1,8 @@
 -- Quiet of `quiet`: how many TICKs from a device on change nothing but counts. What that means are the laws at the end.
 -- Assumes nothing.
-use Rattle.std.specs.Prelude.{ℕ, ◌+◌, ◌-◌, ◌<◌, ◌≤◌, ◌≡◌, Bool, not, ◌&&◌, ◌||◌, eqb, ltb, replicate}
+use Rattle.std.specs.Prelude.{ℕ, ◌+◌, ◌-◌, ◌<◌, ◌≤◌, ◌≡◌, Bool, not, ◌&&◌, ◌||◌, eqb, ltb, replicate, if◌then◌else◌}
 use Rattle.arbiter.specs.Rules.{idle_limit}
-use Rattle.arbiter.specs.Words.{if◌then◌else◌, side}
+use Rattle.arbiter.specs.Words.{side}
 use Rattle.arbiter.specs.State.{scl_high, sda_high, is_idle, scl_hung_limit, sda_hung_limit, bus_hung}
 use Rattle.arbiter.specs.Order.{cut_ticks}
 use Rattle.arbiter.specs.Steps.{answer, step, run_from}

@@ -1,4 +1,6 @@
 // Quiet ticks: how many TICKs from a device on change nothing but counts, and the device after them. Both are true of every device value.
+#![tactic(auto)]
+
 ghost use Rattle.std.specs.Prelude.{◌-◌, ◌≡◌};
 ghost use Rattle.quiet.specs.Counts.{risen, counted_bus, with_counts, after_ticks};
 ghost use Rattle.quiet.specs.Quiet.{hold_left, scl_left, sda_left, idle_left, owner_left, turn_left, is_still, is_calm, counts_left, quiet_ticks};

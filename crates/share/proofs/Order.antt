@@ -9,9 +9,11 @@ use native.Mathlib.Omega.{arith}
 use lib.Dec.{eqb, ltb}
 use lib.ListN.{length}
 use borrow.Author.Tests.{ltb-true, ltb-false, le-ltb, lt-ltb}
-use Rattle.arbiter.specs.Words.{if◌then◌else◌, worth}
+use Rattle.std.specs.Prelude.{if◌then◌else◌}
+use Rattle.arbiter.specs.Words.{worth}
 use Rattle.arbiter.specs.Straps.{address_of}
-use Rattle.arbiter.specs.Traces.{pin_count, pin_bytes, head_bytes, event_bytes, most_events, events_end, kind_count, whole_bytes, answer_room, byte_at, pins_in, count_in}
+use Rattle.arbiter.specs.Traces.{pin_count, pin_bytes, head_bytes, event_bytes, most_events, events_end, kind_count, whole_bytes, answer_room, byte_at, pins_in}
+use Rattle.arbiter.specs.Traces.{count_in}
 use Rattle.arbiter.specs.Traces.{is_kind, kind_at, read_kind, read_counted, read_strapped, read_trace, refusal_number, read_number}
 use Rattle.arbiter.specs.declared.Refusal.{Refusal}
 use Rattle.arbiter.specs.declared.Strapped.{Strapped}
@@ -92,7 +94,8 @@ kind_not_nine a n t few =
     either NotNine (ltb (length t) (whole_bytes n)) (λ b e. omega arith) λ f3.
     either NotNine (not (is_kind (kind_at n t))) (λ b e. omega arith) λ f4.
     either NotNine (ltb (whole_bytes n) (length t)) (λ b e. omega arith) λ f5.
-    either NotNine (ltb answer_room (event_bytes * n)) (λ b e. let past = ltb-true answer_room (event_bytes * n) b in omega (arith, past, few)) λ f6 e. omega arith
+    either NotNine (ltb answer_room (event_bytes * n))
+    (λ b e. let past = ltb-true answer_room (event_bytes * n) b in omega (arith, past, few)) λ f6 e. omega arith
 
 counted_not_nine : (a : ℕ) (t : List ℕ) → NotNine (read_counted a t answer_room)
 unfolding read_counted

@@ -9,7 +9,7 @@ use lib.Dec.{eqb}
 use lib.ListN.{length, length-drop, take, drop}
 use lib.Seq.{drop-drop, length-take-le}
 use borrow.Author.Tests.{eqb-true, eqb-false}
-use Rattle.arbiter.specs.Words.{if◌then◌else◌}
+use Rattle.std.specs.Prelude.{if◌then◌else◌}
 use Rattle.arbiter.specs.Steps.{step, run_from}
 use Rattle.arbiter.specs.Traces.{event_bytes, raw_in, raws_in, ran}
 use Rattle.arbiter.specs.declared.Device.{Device}

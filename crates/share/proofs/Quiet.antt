@@ -10,7 +10,8 @@ use native.Mathlib.Omega.{arith}
 use lib.Dec.{eqb}
 use lib.ListN.{length, replicate}
 use borrow.Author.Tests.{eqb-true, eqb-false}
-use Rattle.arbiter.specs.Words.{if◌then◌else◌, worth}
+use Rattle.std.specs.Prelude.{if◌then◌else◌}
+use Rattle.arbiter.specs.Words.{worth}
 use Rattle.arbiter.specs.Steps.{step}
 use Rattle.arbiter.specs.Traces.{event_bytes, raws_in}
 use Rattle.arbiter.specs.declared.Device.{Device}

@@ -8,7 +8,8 @@ use native.Mathlib.Nat.{le_refl, le_trans}
 use native.Mathlib.Omega.{arith}
 use lib.Dec.{eqb, ltb}
 use borrow.Author.Tests.{ltb-true, le-ltb, lt-ltb}
-use Rattle.arbiter.specs.Words.{if◌then◌else◌, worth}
+use Rattle.std.specs.Prelude.{if◌then◌else◌}
+use Rattle.arbiter.specs.Words.{worth}
 use Rattle.arbiter.specs.Effects.{power_up}
 use Rattle.arbiter.specs.Traces.{head_bytes, most_events, answer_room, events_in, read_trace, refusal_number, read_number}
 use Rattle.arbiter.specs.declared.Master.TheVariants.{Zero, One}

@@ -1,7 +1,6 @@
 -- The totals in a lent buffer of 17 numbers, in the order of the record: what adding a trace to them, and joining other totals to them, answers and leaves.
 -- Assumes nothing.
-use Rattle.std.specs.Prelude.{ℕ, ◌≡◌, Bool, ◌&&◌, List, [], ◌∷◌, eqb, length, get_or}
-use Rattle.arbiter.specs.Words.{if◌then◌else◌}
+use Rattle.std.specs.Prelude.{ℕ, ◌≡◌, Bool, ◌&&◌, List, [], ◌∷◌, eqb, length, get_or, if◌then◌else◌}
 use Rattle.share.specs.declared.Totals.{Totals}
 use Rattle.share.specs.Share.{added, joined}
 

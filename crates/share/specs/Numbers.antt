@@ -1,7 +1,6 @@
 -- Numbers of the totals: a sum that stops at the top of 64 bits, and the larger of two.
 -- Assumes nothing.
-use Rattle.std.specs.Prelude.{ℕ, ◌+◌, ltb}
-use Rattle.arbiter.specs.Words.{if◌then◌else◌}
+use Rattle.std.specs.Prelude.{ℕ, ◌+◌, ltb, if◌then◌else◌}
 
 -- "Totals are 64-bit": the largest such number
 unfoldable pub top : ℕ

@@ -1,7 +1,7 @@
 -- Request #112, "Bus share report": the totals, what a trace adds to them, and the refusals.
 -- Assumes nothing.
-use Rattle.std.specs.Prelude.{ℕ, ◌+◌, List, [], ◌∷◌, eqb, ltb, length}
-use Rattle.arbiter.specs.Words.{if◌then◌else◌, worth}
+use Rattle.std.specs.Prelude.{ℕ, ◌+◌, List, [], ◌∷◌, eqb, ltb, length, if◌then◌else◌}
+use Rattle.arbiter.specs.Words.{worth}
 use Rattle.arbiter.specs.State.{owns, connected}
 use Rattle.arbiter.specs.Traces.{answer_room, events_in, read_trace, refusal_number, read_number}
 use Rattle.arbiter.specs.declared.Master.TheVariants.{Zero, One}

@@ -1,7 +1,7 @@
 -- Request #112, "Bus share report": "Each total is defined from the list of states after each TICK". That list, and what is counted in it.
 -- Assumes nothing.
-use Rattle.std.specs.Prelude.{ℕ, ◌+◌, Bool, true, false, not, ◌&&◌, List, [], ◌∷◌}
-use Rattle.arbiter.specs.Words.{if◌then◌else◌, worth}
+use Rattle.std.specs.Prelude.{ℕ, ◌+◌, Bool, true, false, not, ◌&&◌, List, [], ◌∷◌, if◌then◌else◌}
+use Rattle.arbiter.specs.Words.{worth}
 use Rattle.arbiter.specs.State.{owns}
 use Rattle.arbiter.specs.Effects.{power_up}
 use Rattle.arbiter.specs.AuditWords.{next, requests, tick}

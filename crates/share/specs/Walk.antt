@@ -1,7 +1,7 @@
 -- Walk of `share`: how the code counts one trace: what it sees of a state, and the counts that it hands from state to state.
 -- Assumes nothing.
-use Rattle.std.specs.Prelude.{ℕ, ◌+◌, ◌-◌, ◌*◌, ◌<◌, ◌≤◌, ◌≡◌, Bool, false, ◌||◌, List, [], ◌∷◌, ltb, drop}
-use Rattle.arbiter.specs.Words.{if◌then◌else◌, worth}
+use Rattle.std.specs.Prelude.{ℕ, ◌+◌, ◌-◌, ◌*◌, ◌<◌, ◌≤◌, ◌≡◌, Bool, false, ◌||◌, List, [], ◌∷◌, ltb, drop, if◌then◌else◌}
+use Rattle.arbiter.specs.Words.{worth}
 use Rattle.arbiter.specs.State.{owns, connected}
 use Rattle.arbiter.specs.Steps.{step, run_from}
 use Rattle.arbiter.specs.Traces.{event_bytes, most_events, raws_in, event_count}

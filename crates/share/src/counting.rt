@@ -1,7 +1,7 @@
 // One trace counted: the states after its TICKs are looked at, and the counts handed from one to the next. Quiet TICKs in a row, which change
 // nothing but counts, are taken together, and events in a row of which none is a TICK go through the loop over events.
-ghost use Rattle.std.specs.Prelude.{◌+◌, ◌-◌, ◌*◌, ◌<◌, ◌≤◌, ◌≡◌, length};
-ghost use Rattle.arbiter.specs.Words.{if◌then◌else◌, worth};
+ghost use Rattle.std.specs.Prelude.{◌+◌, ◌-◌, ◌*◌, ◌<◌, ◌≤◌, ◌≡◌, length, if◌then◌else◌};
+ghost use Rattle.arbiter.specs.Words.{worth};
 ghost use Rattle.arbiter.specs.Traces.{event_bytes, most_events, raws_in};
 ghost use Rattle.format.specs.Places.{event_at};
 ghost use Rattle.light.specs.Light.{Settled};

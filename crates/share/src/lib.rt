@@ -1,5 +1,7 @@
 // The bus share over many traces (request #112): for how many ticks each controller owned the bus, was connected, and waited. Each trace
 // runs from power-up, and the state after each of its TICKs is looked at.
+#![tactic(auto)]
+
 mod counting;
 pub mod lent;
 
@@ -21,7 +23,7 @@ pub const MOST_TRACES: u64 = 65535;
 
 // The ticks of all traces, how many of them each controller owned, was connected and waited, its longest wait, and the traces: all of them,
 // and the refused ones by their number.
-#[derive(Drop)]
+#[derive(Clone, Copy)]
 pub struct Totals {
     pub traces: u64,
     pub ticks: u64,
@@ -43,14 +45,14 @@ pub struct Totals {
 }
 
 // The totals after a trace, and its number.
-#[derive(Drop)]
+#[derive(Clone, Copy)]
 pub struct Added {
     pub totals: Totals,
     pub number: u8,
 }
 
 // What is seen of a state: who owns or nobody, whose switch is closed, who waits.
-#[derive(Drop)]
+#[derive(Clone, Copy)]
 pub struct Seen {
     pub owns0: bool,
     pub owns1: bool,
@@ -62,7 +64,7 @@ pub struct Seen {
 }
 
 // The counts of one trace so far. A run is a wait that has not ended.
-#[derive(Drop)]
+#[derive(Clone, Copy)]
 pub struct Tally {
     pub ticks: u16,
     pub owned0: u16,
@@ -79,7 +81,7 @@ pub struct Tally {
 }
 
 // A point on the way through a trace: the device after so many events, and the counts.
-#[derive(Drop)]
+#[derive(Clone, Copy)]
 pub struct Point {
     pub device: Device,
     pub tally: Tally,

@@ -10,7 +10,7 @@ use native.Mathlib.Omega.{arith}
 use lib.ListN.{length, drop, get_or, set}
 use lib.Seq.{sets, drop-drop, get_or-drop}
 use borrow.Author.Tests.{le-ltb, lt-ltb}
-use Rattle.arbiter.specs.Words.{if◌then◌else◌}
+use Rattle.std.specs.Prelude.{if◌then◌else◌}
 use Rattle.arbiter.specs.Traces.{event_bytes}
 use Rattle.arbiter.specs.Listing.{newline, hex2, head_line, head_chars, line_chars}
 use Rattle.text.specs.Written.{line_in, lines_in, refusal_line}

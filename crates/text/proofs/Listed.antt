@@ -7,7 +7,8 @@ use native.Mathlib.Omega.{arith}
 use lib.ListN.{length, drop}
 use Rattle.arbiter.specs.Effects.{power_up}
 use Rattle.arbiter.specs.Steps.{step, answers_from}
-use Rattle.arbiter.specs.Traces.{head_bytes, event_bytes, most_events, answer_room, raw_in, raws_in, answers_in, bytes_of, read_trace, refusal_number, report_of, buffer_of}
+use Rattle.arbiter.specs.Traces.{head_bytes, event_bytes, most_events, answer_room, raw_in, raws_in, answers_in, bytes_of, read_trace, refusal_number}
+use Rattle.arbiter.specs.Traces.{report_of, buffer_of}
 use Rattle.arbiter.specs.Traces.{report, buffer_after}
 use Rattle.arbiter.specs.Listing.{head_line, answer_line, answer_lines, most_chars, listing_of, listing}
 use Rattle.traces.specs.declared.Head.{Head}

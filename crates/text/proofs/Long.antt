@@ -10,9 +10,10 @@ use lib.Dec.{eqb, ltb, lit<}
 use lib.ListN.{length, take}
 use lib.Seq.{get_or-take, length-take-le}
 use borrow.Author.Tests.{ltb-false, le-ltb, lt-ltb}
-use Rattle.arbiter.specs.Words.{if◌then◌else◌}
+use Rattle.std.specs.Prelude.{if◌then◌else◌}
 use Rattle.arbiter.specs.Straps.{address_of}
-use Rattle.arbiter.specs.Traces.{pin_count, pin_bytes, head_bytes, most_events, events_end, kind_count, whole_bytes, answer_room, byte_at, pins_in, count_in, is_kind}
+use Rattle.arbiter.specs.Traces.{pin_count, pin_bytes, head_bytes, most_events, events_end, kind_count, whole_bytes, answer_room, byte_at, pins_in, count_in}
+use Rattle.arbiter.specs.Traces.{is_kind}
 use Rattle.arbiter.specs.Traces.{kind_at, read_kind, read_counted, read_strapped, read_trace}
 use Rattle.arbiter.specs.Listing.{listing_of, listing}
 use Rattle.arbiter.specs.declared.Pins.{Pins}
@@ -102,13 +103,16 @@ long_listing t long =
     ap (λ (x : TraceRead). listing_of x k) (read k answer_room whole)
     ∙ ap (λ (b : ℕ). listing_of (Refused (why_long (not (eqb b pin_count)) (address_of (pins_in k)) (ltb most_events (count_in k)) (after_events k))) t)
     (byte_kept t 0 (lit< tt))
-    ∙ ap (λ (p : Pins). listing_of (Refused (why_long (not (eqb (byte_at 0 t) pin_count)) (address_of p) (ltb most_events (count_in k)) (after_events k))) t) pins
+    ∙ ap (λ (p : Pins). listing_of
+    (Refused (why_long (not (eqb (byte_at 0 t) pin_count)) (address_of p) (ltb most_events (count_in k)) (after_events k))) t) pins
     ∙ ap (λ (n : ℕ). listing_of (Refused (why_long (not (eqb (byte_at 0 t) pin_count)) (address_of (pins_in t)) (ltb most_events n)
     (why_after (byte_at (events_end n) k) (kind_at n k)))) t) count
-    ∙ ap (λ (r : Refusal). listing_of (Refused r) t) (same_why (not (eqb (byte_at 0 t) pin_count)) (address_of (pins_in t)) (ltb most_events (count_in t)) _ _ kept)
+    ∙ ap (λ (r : Refusal). listing_of (Refused r) t)
+    (same_why (not (eqb (byte_at 0 t) pin_count)) (address_of (pins_in t)) (ltb most_events (count_in t)) _ _ kept)
     ∙ sym (ap (λ (x : TraceRead). listing_of x t) (read t answer_room long))
   where
-    kept : ltb most_events (count_in t) ≡ false → why_after (byte_at (events_end (count_in t)) (take enough t)) (kind_at (count_in t) (take enough t)) ≡ after_events t
+    kept : ltb most_events (count_in t) ≡ false → why_after (byte_at (events_end (count_in t)) (take enough t)) (kind_at (count_in t) (take enough t))
+        ≡ after_events t
     kept h =
         let few = ltb-false most_events (count_in t) h in
         ap (λ (c : ℕ). why_after c (kind_at (count_in t) (take enough t))) (byte_kept t (events_end (count_in t)) (omega (arith, few)))

@@ -1,7 +1,6 @@
 -- The listing in a lent buffer: it is written where it fits, and else the buffer stays as it was.
 -- Assumes nothing.
-use Rattle.std.specs.Prelude.{ℕ, zero, suc, List, [], ◌∷◌, ◌++◌, ltb, length, drop}
-use Rattle.arbiter.specs.Words.{if◌then◌else◌}
+use Rattle.std.specs.Prelude.{ℕ, zero, suc, List, [], ◌∷◌, ◌++◌, ltb, length, drop, if◌then◌else◌}
 use Rattle.arbiter.specs.Traces.{event_bytes, byte_at}
 use Rattle.arbiter.specs.Listing.{newline, hex2, decimal, listing}
 

@@ -1,4 +1,6 @@
 // The listing of a trace, as text in a lent buffer: a line with the address and the count, then a line an answer; or R and the number.
+#![tactic(auto)]
+
 ghost use Rattle.std.specs.Prelude.{◌+◌, ◌*◌, ◌/◌, ◌%◌, ◌≤◌, ◌<◌, ◌≡◌, ◌++◌, length, drop};
 ghost use Rattle.std.proofs.lemmas.List.Edits.{sets};
 ghost use Rattle.arbiter.specs.Traces.{event_bytes, most_events, answer_room};

@@ -9,11 +9,12 @@ use lib.Dec.{eqb, ltb}
 use lib.ListN.{length, take, drop, length-drop}
 use lib.Seq.{length-take-le, get_or-take, take-add, drop_at}
 use borrow.Author.Tests.{eqb-true, not-false, ltb-true, ltb-false, le-ltb}
-use Rattle.arbiter.specs.Words.{if◌then◌else◌}
+use Rattle.std.specs.Prelude.{if◌then◌else◌}
 use Rattle.arbiter.specs.Straps.{address_of}
 use Rattle.arbiter.specs.Effects.{power_up}
 use Rattle.arbiter.specs.Steps.{run_from, answers_from, run}
-use Rattle.arbiter.specs.Traces.{pin_count, pin_bytes, head_bytes, event_bytes, most_events, events_end, kind_count, whole_bytes, byte_at, pins_in, count_in, raw_in}
+use Rattle.arbiter.specs.Traces.{pin_count, pin_bytes, head_bytes, event_bytes, most_events, events_end, kind_count, whole_bytes, byte_at, pins_in, count_in}
+use Rattle.arbiter.specs.Traces.{raw_in}
 use Rattle.arbiter.specs.Traces.{raws_in, events_in, kind_number, is_kind, kind_of, kind_at, read_kind, read_counted, read_strapped, read_trace, refusal_number}
 use Rattle.arbiter.specs.Traces.{read_number, report_of, bytes_of, answers_in, buffer_of, report, buffer_after, ran, buffer_ran}
 use Rattle.arbiter.specs.declared.Refusal.{Refusal}
@@ -155,7 +156,7 @@ module _ (t : List ℕ) (room a n : ℕ) (k : Kind) (accepted : read_trace t roo
   pub part_length : length (events_part t) ≡ event_bytes * n
   part_length = ap length part_is ∙ length-take-le (event_bytes * n) (drop head_bytes t) enough
 
-  same_events : raws_in n (events_part t) ≡ events_in n t
+  pub same_events : raws_in n (events_part t) ≡ events_in n t
   same_events = ap (raws_in n) part_is ∙ raws_taken n (drop head_bytes t) enough
 
 -- ---- so a run of them from power-up gives the report and the buffer
@@ -191,7 +192,8 @@ module _ (t out : List ℕ) (a n : ℕ) (k : Kind) (accepted : read_trace t (len
 
 -- ---- the report and the buffer of a refused trace
 
-pub refused_report : (t out : List ℕ) (r : Refusal) → read_trace t (length out) ≡ Refused r → report_with (refusal_number r) 0 0 (power_up Pca9641) ≡ report t out
+pub refused_report : (t out : List ℕ) (r : Refusal) → read_trace t (length out) ≡ Refused r → report_with (refusal_number r) 0 0 (power_up Pca9641)
+    ≡ report t out
 unfolding report report_of
 refused_report t out r h = ap (λ (x : TraceRead). report_of x t) (sym h)
 

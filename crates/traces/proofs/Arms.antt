@@ -8,14 +8,16 @@ use native.Mathlib.Omega.{arith}
 use lib.Bits.{or_zero_r}
 use lib.Dec.{eqb}
 use lib.ListN.{length, set}
-use Rattle.arbiter.specs.Words.{if◌then◌else◌, bit, partner, side, device}
+use Rattle.std.specs.Prelude.{if◌then◌else◌}
+use Rattle.arbiter.specs.Words.{bit, partner, side, device}
 use Rattle.arbiter.specs.Parts.{with_port, with_pointer, with_side, with_ints, with_idle, with_turn}
 use Rattle.arbiter.specs.State.{claims_turn, owns_turn, is_initialising, at_rest, for_writing, scl_high, sda_high}
 use Rattle.arbiter.specs.Registers.{register_byte, own_written, mail_written}
 use Rattle.arbiter.specs.Rules.{rolls}
 use Rattle.arbiter.specs.Events.{zero_or_one, level, master, good_command, writable, soft_reset, decode, decoded_number, raw_number, in_sequence}
 use Rattle.arbiter.specs.Events.{acknowledged, outcome, outcome_number}
-use Rattle.arbiter.specs.Effects.{after_write, commanded, write_risen, written, paired, empties, reader_side, sender_side, was_read, int_in_fallen, lined, fresh_side}
+use Rattle.arbiter.specs.Effects.{after_write, commanded, write_risen, written, paired, empties, reader_side, sender_side, was_read, int_in_fallen, lined}
+use Rattle.arbiter.specs.Effects.{fresh_side}
 use Rattle.arbiter.specs.Effects.{fresh_bus, fresh_arb, was_reset, hold_asked, effect}
 use Rattle.arbiter.specs.Order.{clock_of, busy_after, scl_changed, levels, losses, losses_from, cut, cut_from, claim, grant, grant_from, connect, connect_from}
 use Rattle.arbiter.specs.Steps.{parts, byte_read, ground_number, owner_byte, lines_byte, answer, refused, taken, step_event, step_decoded, step}
@@ -249,7 +251,8 @@ module _ (k : Kind) (l : List Side) (b : Bus) (a : Arbitration) (two : length l 
     abbrev claimer : Side
     claimer = own_written false (side_at l at).pointer r.y (side_at l at)
 
-    claimer-ints : (p : Register) → is_contr p ≡ true → (y : ℕ) (x : Side) → ((own_written false p y x).ints ≡ x.ints) × ((own_written false p y x).mask ≡ x.mask)
+    claimer-ints : (p : Register) → is_contr p ≡ true → (y : ℕ) (x : Side) → ((own_written false p y x).ints ≡ x.ints)
+        × ((own_written false p y x).mask ≡ x.mask)
     unfolding own_written
     claimer-ints Id c y x = absurd (false≢true c)
     claimer-ints Contr c y x = (refl, refl)
@@ -301,7 +304,8 @@ module _ (k : Kind) (l : List Side) (b : Bus) (a : Arbitration) (two : length l 
     emptied-is : (t : Bool) → empties (side_at l at) ≡ t → empties (side m now) ≡ t
     emptied-is t q = ap empties own ∙ q
 
-    pub read-emptying : decode r ≡ Reads (Read m) → Settled now → empties (side_at l at) ≡ true → (v w : Side) (byte li : ℕ) → v ≡ reader_side (side_at l at) → w
+    pub read-emptying : decode r ≡ Reads (Read m) → Settled now → empties (side_at l at) ≡ true → (v w : Side) (byte li : ℕ) → v ≡ reader_side (side_at l at)
+        → w
         ≡ sender_side true (side_at l (1 - at)) → byte ≡ handed
         → li ≡ lines_shown (side_at (set (set l at v) (1 - at) w) 0) (side_at (set (set l at v) (1 - at) w) 1) b
         → stepped_with (held k (set (set l at v) (1 - at) w) b a) (kept 0 byte owner li) ≡ step now r
@@ -313,7 +317,8 @@ module _ (k : Kind) (l : List Side) (b : Bus) (a : Arbitration) (two : length l 
         (f ∙ ap₂ (λ (x : Bool) (y : Side). sender_side x y) (sym (emptied-is true t)) (sym other))
         in
         ended_arm (Read m) h s refl refl _ 0 byte li gone refl (same_byte byte g)
-        (n ∙ lines_of k _ _ b a ∙ ap lines_byte gone ∙ ap (λ (x : Bool). if not x then lines_byte now else lines_byte (was_read m now)) (sym (emptied-is true t)))
+        (n ∙ lines_of k _ _ b a ∙ ap lines_byte gone
+        ∙ ap (λ (x : Bool). if not x then lines_byte now else lines_byte (was_read m now)) (sym (emptied-is true t)))
 
     unsent : (x : Side) → x ≡ sender_side false x
     unsent x = ap (λ (n : ℕ). with_ints n x) (sym (or_zero_r x.ints))

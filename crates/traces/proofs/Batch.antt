@@ -10,7 +10,7 @@ use native.Mathlib.Omega.{arith}
 use lib.Dec.{eqb, ltb}
 use lib.ListN.{length, drop, length-set}
 use borrow.Author.Tests.{eq-eqb, ne_eqb, eqb-true, eqb-false, ltb-true, ltb-false}
-use Rattle.arbiter.specs.Words.{if◌then◌else◌}
+use Rattle.std.specs.Prelude.{if◌then◌else◌}
 use Rattle.arbiter.specs.State.{scl_high, sda_high, is_idle}
 use Rattle.arbiter.specs.Steps.{owner_byte, lines_byte, answer, step, run_from, answers_from}
 use Rattle.arbiter.specs.Traces.{event_bytes, raws_in, bytes_of, event_count}
@@ -252,10 +252,12 @@ some_one (suc k) h = omega arith
 -- ---- the whole run of TICKs, from event i to before event j, with what the code made of it: the device x and the buffer last
 
 module _ (from : Device) (b l : List ℕ) (i j : ℕ) (d x : Device) (out last : List ℕ) (a : Answer) where
-  pub together : Settled d → d ≡ run_from from (raws_in i b) → out ≡ bytes_of (answers_from from (raws_in i b)) ++ drop (event_bytes * i) l → length out ≡ length l
+  pub together : Settled d → d ≡ run_from from (raws_in i b) → out ≡ bytes_of (answers_from from (raws_in i b)) ++ drop (event_bytes * i) l → length out
+      ≡ length l
       → i < j → j - i ≤ counts_left d → j ≤ event_count b → event_bytes * j ≤ length l → AllTicks i j b
       → a ≡ answer 0 0 d → last ≡ with_same out i (j - i) a → x ≡ after_ticks (j - i) d
-      → (x ≡ run_from from (raws_in j b)) × (last ≡ bytes_of (answers_from from (raws_in j b)) ++ drop (event_bytes * j) l) × Settled x × (owner_byte d ≡ owner_byte x)
+      → (x ≡ run_from from (raws_in j b)) × (last ≡ bytes_of (answers_from from (raws_in j b)) ++ drop (event_bytes * j) l) × Settled x
+      × (owner_byte d ≡ owner_byte x)
       × (lines_byte d ≡ lines_byte x)
   together settled device buffer same some left more room all alike put moved =
       let e : i + (j - i) ≡ j = omega (arith, some) in

@@ -4,7 +4,8 @@ use Prim.Native.Nat.{ℕ, ◌+◌, ◌*◌, ◌≤◌}
 use mathlib.Core.Path.{◌≡◌, refl, sym, ap, ap₂, ◌∙◌}
 use mathlib.Core.Bool.{Bool, true, false, false≢true}
 use native.Mathlib.Omega.{arith}
-use Rattle.arbiter.specs.Words.{if◌then◌else◌, worth}
+use Rattle.std.specs.Prelude.{if◌then◌else◌}
+use Rattle.arbiter.specs.Words.{worth}
 use Rattle.arbiter.specs.State.{claims_turn, owns_turn, is_initialising}
 use Rattle.arbiter.specs.Events.{master}
 use Rattle.arbiter.specs.Steps.{master_number, owner_number, ground_number, turn_ground, switch_number, owner_byte}

@@ -28,7 +28,7 @@ unfolding run_from
 run_more d [] r = refl
 run_more d (x ∷ rs) r = run_more (step d x).device rs r
 
-answers_more : (d : Device) (rs : List Raw) (r : Raw) → answers_from d (rs ++ r ∷ []) ≡ answers_from d rs ++ ((step (run_from d rs) r).answer ∷ [])
+pub answers_more : (d : Device) (rs : List Raw) (r : Raw) → answers_from d (rs ++ r ∷ []) ≡ answers_from d rs ++ ((step (run_from d rs) r).answer ∷ [])
 unfolding run_from answers_from
 answers_more d [] r = refl
 answers_more d (x ∷ rs) r = ap (λ (l : List Answer). (step d x).answer ∷ l) (answers_more (step d x).device rs r)
@@ -51,7 +51,7 @@ raws_more (suc k) l =
     e : event_bytes + event_bytes * k ≡ event_bytes * suc k
     e = omega arith
 
-events_more : (b : List ℕ) (k : ℕ) → k < event_count b → raws_in (k + 1) b ≡ raws_in k b ++ (event_at k b ∷ [])
+pub events_more : (b : List ℕ) (k : ℕ) → k < event_count b → raws_in (k + 1) b ≡ raws_in k b ++ (event_at k b ∷ [])
 unfolding event_at
 events_more b k h = ap (λ (n : ℕ). raws_in n b) (add-one k) ∙ raws_more k b ∙ simp (lt-ltb k (event_count b) h)
 
@@ -171,4 +171,5 @@ module _ (d : Device) (events buffer : List ℕ) where
         let none : drop (event_bytes * n) (take (event_bytes * n) buffer) ≡ [] =
         drop_of_length-le (take (event_bytes * n) buffer) (le_of_eq (length-take-le (event_bytes * n) buffer fits)) in
         ap (λ (l : List ℕ). l ++ drop (event_bytes * n) buffer)
-        (e ∙ ap (λ (l : List ℕ). bytes_of (answers_from d (raws_in n events)) ++ l) none ∙ append-nil (bytes_of (answers_from d (raws_in n events)))) ∙ all-answered
+        (e ∙ ap (λ (l : List ℕ). bytes_of (answers_from d (raws_in n events)) ++ l) none ∙ append-nil (bytes_of (answers_from d (raws_in n events))))
+        ∙ all-answered

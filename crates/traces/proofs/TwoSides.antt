@@ -58,7 +58,8 @@ module _ (k : Kind) (b : Bus) (a : Arbitration) where
   pub partner_at : (l : List Side) (x : ℕ) → zero_or_one x ≡ true → side (partner (master x)) (held k l b a) ≡ side_at l (1 - x % 2)
   partner_at l = by_master (λ x. side (partner (master x)) (held k l b a) ≡ side_at l (1 - x % 2)) refl refl
 
-  pub set_one : (l : List Side) → length l ≡ 2 → (x : ℕ) → zero_or_one x ≡ true → (v : Side) → held k (set l (x % 2) v) b a ≡ with_side (master x) v (held k l b a)
+  pub set_one : (l : List Side) → length l ≡ 2 → (x : ℕ) → zero_or_one x ≡ true → (v : Side) → held k (set l (x % 2) v) b a
+      ≡ with_side (master x) v (held k l b a)
   set_one l two x h v =
       of_two (λ m. held k (set m (x % 2) v) b a ≡ with_side (master x) v (held k m b a))
       (λ s0 s1. by_master (λ n. held k (set (s0 ∷ s1 ∷ []) (n % 2) v) b a ≡ with_side (master n) v (held k (s0 ∷ s1 ∷ []) b a)) refl refl x h) l two

@@ -1,8 +1,7 @@
 -- The end of a trace's reading, from its count of events, its length, the kind's byte and the room alone; and reports put together, and
 -- without their device.
 -- Assumes nothing.
-use Rattle.std.specs.Prelude.{ℕ, ◌*◌, not, ltb}
-use Rattle.arbiter.specs.Words.{if◌then◌else◌}
+use Rattle.std.specs.Prelude.{ℕ, ◌*◌, not, ltb, if◌then◌else◌}
 use Rattle.arbiter.specs.Traces.{event_bytes, whole_bytes, kind_number, is_kind, kind_of}
 use Rattle.arbiter.specs.declared.Refusal.TheVariants.{TraceCut, BytesAfterEnd, NoRoom, UnknownPart}
 use Rattle.arbiter.specs.declared.TraceRead.{TraceRead}

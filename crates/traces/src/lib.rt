@@ -1,4 +1,6 @@
 // A trace run event by event into a lent answer buffer. It is read from its bytes, or refused by number, in `reading`.
+#![tactic(auto)]
+
 mod playing;
 mod raws;
 pub mod reading;
@@ -19,7 +21,7 @@ use sides::is_settled;
 use step::fresh;
 
 // A report with the kind of its device alone, by its number.
-#[derive(Drop)]
+#[derive(Clone, Copy)]
 pub struct Head {
     pub number: u8,
     pub address: u8,

@@ -1,6 +1,6 @@
 // What the loop over events asks of the two sides that it holds beside each other, of the bus and of the turn, and what it makes of them (request #114).
-ghost use Rattle.std.specs.Prelude.{◌≡◌, ◌&&◌, not, eqb};
-ghost use Rattle.arbiter.specs.Words.{if◌then◌else◌, partner};
+ghost use Rattle.std.specs.Prelude.{◌≡◌, ◌&&◌, not, eqb, if◌then◌else◌};
+ghost use Rattle.arbiter.specs.Words.{partner};
 ghost use Rattle.arbiter.specs.State.{claims_turn, owns_turn, is_initialising, at_rest, for_writing};
 ghost use Rattle.arbiter.specs.Registers.{register_byte, own_written, mail_written};
 ghost use Rattle.arbiter.specs.Events.{level, master, good_command, writable, outcome_number};

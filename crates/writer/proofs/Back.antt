@@ -8,7 +8,8 @@ use native.Mathlib.Omega.{arith}
 use lib.ListN.{length, take, drop, length-append, length-drop, take-append-drop, drop_of_length-le}
 use lib.Seq.{drop-cons, drop-drop, length-take-le, get_or_at, get_or-append-add}
 use Rattle.arbiter.specs.Straps.{address_of}
-use Rattle.arbiter.specs.Traces.{pin_count, head_bytes, event_bytes, events_end, kind_count, kind_bytes, whole_bytes, byte_at, pins_in, count_in, raws_in, events_in}
+use Rattle.arbiter.specs.Traces.{pin_count, head_bytes, event_bytes, events_end, kind_count, kind_bytes, whole_bytes, byte_at, pins_in, count_in, raws_in}
+use Rattle.arbiter.specs.Traces.{events_in}
 use Rattle.arbiter.specs.Traces.{kind_number, kind_section, kind_at, read_trace}
 use Rattle.arbiter.specs.Writing.{trace_head, raws_bytes, trace_of, ReadsBack, WritesAsGiven, Bytes, WritesBack, UndoEachOther}
 use Rattle.arbiter.specs.declared.Kind.{Kind}
@@ -94,7 +95,8 @@ reads_back p rs k address room listed few fits =
 -- ---- writing what was read
 
 -- a list of at least seven is its first seven elements and the rest
-seven : (t : List ℕ) → head_bytes ≤ length t → t ≡ byte_at 0 t ∷ byte_at 1 t ∷ byte_at 2 t ∷ byte_at 3 t ∷ byte_at 4 t ∷ byte_at 5 t ∷ byte_at 6 t ∷ drop head_bytes t
+seven : (t : List ℕ) → head_bytes ≤ length t → t ≡ byte_at 0 t ∷ byte_at 1 t ∷ byte_at 2 t ∷ byte_at 3 t ∷ byte_at 4 t ∷ byte_at 5 t ∷ byte_at 6 t
+    ∷ drop head_bytes t
 seven t h =
     at 0 (omega arith)
     ∙ ap (λ (r : List ℕ). byte_at 0 t ∷ r)

@@ -10,7 +10,8 @@ use lib.ListN.{length, take, drop}
 use lib.Seq.{take-append_seam}
 use borrow.Author.Tests.{eq-eqb, eqb-true, not-false, le-ltb}
 use Rattle.arbiter.specs.Straps.{address_of, strapped_number, strapped_address}
-use Rattle.arbiter.specs.Traces.{pin_count, pin_bytes, event_bytes, most_events, whole_bytes, byte_at, pins_in, raws_in, events_in, kind_number, is_kind, kind_of}
+use Rattle.arbiter.specs.Traces.{pin_count, pin_bytes, event_bytes, most_events, whole_bytes, byte_at, pins_in, raws_in, events_in, kind_number, is_kind}
+use Rattle.arbiter.specs.Traces.{kind_of}
 use Rattle.arbiter.specs.Traces.{read_strapped, read_trace, event_count}
 use Rattle.arbiter.specs.Writing.{raws_bytes, trace_of, written_number, written_bytes, written, buffer_written, Bytes}
 use Rattle.arbiter.specs.declared.Kind.{Kind}

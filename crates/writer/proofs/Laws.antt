@@ -113,7 +113,8 @@ module _ (p : Pins) (kind : ℕ) (events out : List ℕ) (accepted : written_num
       ∙ drop-append-add (head ++ events) (drop (events_end n) out) kind_bytes
       ∙ drop-drop kind_bytes (events_end n) out))
 
-  pub all_stored : (first second last : List ℕ) → first ≡ with_head out p n → second ≡ with_bytes first head_bytes events → last ≡ with_kind second n (kind_of kind)
+  pub all_stored : (first second last : List ℕ) → first ≡ with_head out p n → second ≡ with_bytes first head_bytes events → last
+      ≡ with_kind second n (kind_of kind)
       → last ≡ buffer_written p kind events out
   unfolding buffer_written
   all_stored first second last h e l =

@@ -1,7 +1,6 @@
 -- The number of a writing whose pins have an address, from the kind, the length of the events' bytes and the room alone.
 -- Assumes nothing.
-use Rattle.std.specs.Prelude.{ℕ, ◌/◌, ◌%◌, not, eqb, ltb}
-use Rattle.arbiter.specs.Words.{if◌then◌else◌}
+use Rattle.std.specs.Prelude.{ℕ, ◌/◌, ◌%◌, not, eqb, ltb, if◌then◌else◌}
 use Rattle.arbiter.specs.Traces.{event_bytes, most_events, whole_bytes, is_kind, refusal_number}
 use Rattle.arbiter.specs.declared.Refusal.TheVariants.{TraceCut, TooManyEvents, NoRoom, UnknownPart}
 

@@ -1,4 +1,6 @@
 // A trace written from its pins, its kind of part and its events into a lent buffer, as the reader takes it.
+#![tactic(auto)]
+
 ghost use Rattle.std.specs.Prelude.{◌≡◌};
 ghost use Rattle.arbiter.specs.Writing.{written_number, written, buffer_written};
 ghost use Rattle.writer.specs.Numbers.{body_number};

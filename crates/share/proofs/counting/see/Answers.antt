@@ -1,0 +1,18 @@
+-- `share::counting::see` meets its contract.
+-- Assumes nothing.
+use Rattle.share.specs.Walk.{seen_of}
+use Rattle.share.proofs.counting.see.Goals as goal
+
+pub returns : goal.returns
+unfolding seen_of
+returns c =
+    simp (
+      c.closed_for-2.ensures,
+      c.switch_of-2.ensures,
+      c.closed_for.ensures,
+      c.switch_of.ensures,
+      c.owns_turn-owns1.ensures,
+      c.turn_of-2.ensures,
+      c.owns_turn-owns0.ensures,
+      c.turn_of.ensures,
+    )

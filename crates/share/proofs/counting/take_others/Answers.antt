@@ -1,0 +1,17 @@
+-- `share::counting::take_others` meets its contract.
+-- Assumes nothing.
+use Prim.Native.Nat.{◌+◌}
+use mathlib.Core.Path.{ap, ◌∙◌}
+use native.Mathlib.Omega.{arith}
+use Rattle.arbiter.specs.declared.Device.{Device}
+use Rattle.arbiter.specs.declared.Ran.{Ran}
+use Rattle.share.specs.Walk.{point_with}
+use Rattle.share.proofs.Others.{others_ran}
+use Rattle.share.proofs.counting.take_others.Goals as goal
+
+pub returns : goal.returns
+returns c =
+    let p = c.args.p in
+    let done = ap (λ (x : Ran). x.device) c.run_settled-ran.ensures.0
+    ∙ others_ran p.device p.at c.args.k c.args.events.now _ c.requires.2 (omega (arith, c.requires.0)) in
+    c.point_with.ensures ∙ ap (λ (d : Device). point_with d p.tally (p.at + c.args.k)) done
