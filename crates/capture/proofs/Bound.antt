@@ -9,7 +9,8 @@ use native.Mathlib.Omega.{arith}
 use lib.ListN.{length-append, length-map}
 use borrow.Author.Tests.{ltb-false}
 use Rattle.arbiter.proofs.Choice.{either, split}
-use Rattle.capture.specs.Names.{ℕ, ◌+◌, ◌*◌, Bool, true, false, not, ◌&&◌, ◌||◌, List, [], ◌∷◌, map, ltb, length, if◌then◌else◌, Master, Zero, One, Stop}
+use Rattle.std.specs.Prelude.{◌+◌, ◌*◌, ◌&&◌, ◌||◌, ◌∷◌, if◌then◌else◌}
+use Rattle.capture.specs.Names.{ℕ, Bool, true, false, not, List, [], map, ltb, length, Master, Zero, One, Stop}
 use Rattle.capture.specs.Names.{Levels, Sign, Steady, Starts, Stops, Clocks, Awaited, NoByte, AddressByte, CommandByte, WriteByte, ReadByte, CallByte}
 use Rattle.capture.specs.Names.{SkippedByte, Listener, Given, Nothing, Written, Gives}
 use Rattle.capture.specs.OneBus.{levels, is_start, is_stop, rises, sign, signs_after, signs, addressed, awaited_after, byte_gives, owes, is_outside, silent}

@@ -70,7 +70,8 @@ bytes_long (suc n) rest = omega (arith, bytes_long n rest)
 -- up to its first READ, and from the last to its end
 opening : (rest : List ℕ) → (events_after 0x70 (0x0F ∷ 0x05 ∷ address (byte rest)) ≡ Read Zero ∷ Read One ∷ events_from 0x70 0x05 both rest)
     × (both_after 0x70 (0x0F ∷ 0x05 ∷ address (byte rest)) ≡ both_from 0x70 0x05 both rest)
-unfolding events_after both_after events_from both_from sampled sign heard gives started at_clock shifted ended addressed awaited_after byte_gives owes is_outside
+unfolding events_after both_after events_from both_from sampled sign heard gives started at_clock shifted ended addressed awaited_after byte_gives owes
+    is_outside
     together
 opening rest = (refl, refl)
 

@@ -1,7 +1,8 @@
 -- Both buses at once give what each gives by itself.
 -- Assumes nothing.
 use mathlib.Core.Path.{◌≡◌, refl, ap}
-use Rattle.capture.specs.Names.{ℕ, List, [], ◌∷◌, ◌++◌, map, Zero, One, Event, Both}
+use Rattle.std.specs.Prelude.{◌∷◌, ◌++◌}
+use Rattle.capture.specs.Names.{ℕ, List, [], map, Zero, One, Event, Both}
 use Rattle.capture.specs.OneBus.{levels, signs_after, signs, heard_from, given_from, given, cut_on}
 use Rattle.capture.specs.Events.{merged, captured}
 use Rattle.capture.specs.Samples.{sampled, events_in, both_silent, both_from, events_from, both_after, events_after}

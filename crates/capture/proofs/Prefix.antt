@@ -61,7 +61,8 @@ module _ (address : ℕ) (samples : List ℕ) where
 
   pub events_more : (i : ℕ) → 1 ≤ i → i < length samples
       → events_after address (take (i + 1) samples)
-      ≡ events_after address (take i samples) ++ events_in (sampled address (get_or samples (i - 1) 0) (get_or samples i 0) (both_after address (take i samples)))
+      ≡ events_after address (take i samples)
+      ++ events_in (sampled address (get_or samples (i - 1) 0) (get_or samples i 0) (both_after address (take i samples)))
   unfolding both_after events_after
   events_more i p h = ap (λ (n : ℕ). events_after address (take n samples)) (add-one i) ∙ go samples i p h
     where

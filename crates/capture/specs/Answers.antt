@@ -1,11 +1,11 @@
 -- Request 104: what is proved of every capture, each statement by its name, and all of them in one record. proofs/Answers.antt fills it with
 -- one term, so that a lost proof fails the check.
 -- Assumes nothing.
-use Rattle.std.specs.Prelude.{◌-◌, ◌≤◌, ◌≡◌}
+use Rattle.std.specs.Prelude.{◌-◌, ◌≤◌, ◌≡◌, ◌*◌, ◌%◌, ◌||◌, ◌∷◌, ◌++◌}
 use Rattle.arbiter.specs.Events.{decode}
 use Rattle.arbiter.specs.Traces.{most_events}
 use Rattle.arbiter.specs.declared.Decoded.TheVariants.{Reads}
-use Rattle.capture.specs.Names.{ℕ, ◌*◌, ◌%◌, ◌||◌, List, ◌∷◌, ◌++◌, map, length, Master, Event}
+use Rattle.capture.specs.Names.{ℕ, List, map, length, Master, Event}
 use Rattle.capture.specs.OneBus.{levels, given, is_cut, cut_on}
 use Rattle.capture.specs.Events.{captured, raw_of}
 use Rattle.capture.specs.Import.{most_samples, cut_on_either, import_number}

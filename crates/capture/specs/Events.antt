@@ -1,6 +1,7 @@
 -- Request 104, both buses: how what they give is put in order and paired, and the four bytes of an event.
 -- Assumes nothing.
-use Rattle.capture.specs.Names.{ℕ, List, [], ◌∷◌, ◌++◌, worth, of, Master, Zero, One, Raw, Event, Command, Write, Read, Stop, Pair, Lines, Tick, Pulse, Reset, GeneralCall, Given, Nothing, Written, Gives}
+use Rattle.std.specs.Prelude.{◌∷◌, ◌++◌}
+use Rattle.capture.specs.Names.{ℕ, List, [], worth, of, Master, Zero, One, Raw, Event, Command, Write, Read, Stop, Pair, Lines, Tick, Pulse, Reset, GeneralCall, Given, Nothing, Written, Gives}
 use Rattle.arbiter.specs.Marks.{raw, command, write, read, stop, pair, lines, tick, pulse}
 use Rattle.capture.specs.OneBus.{given}
 

@@ -1,8 +1,8 @@
 -- Captures where 02's words could be read in two ways, and what is given. They are of bus 0, with bus 1 idle, unless a row says otherwise.
 -- The device's address is 70h: E0h writes to it and E1h reads. proofs/Examples.antt proves the table whole.
 -- Assumes nothing.
-use Rattle.std.specs.Prelude.{◌≡◌}
-use Rattle.capture.specs.Names.{ℕ, ◌*◌, ◌%◌, Bool, true, false, List, [], ◌∷◌, ◌++◌, map, if◌then◌else◌, bit}
+use Rattle.std.specs.Prelude.{◌≡◌, ◌*◌, ◌%◌, ◌∷◌, ◌++◌, if◌then◌else◌}
+use Rattle.capture.specs.Names.{ℕ, Bool, true, false, List, [], map, bit}
 use Rattle.capture.specs.Import.{import_number, buffer_by}
 
 -- ---- a capture in pieces

@@ -1,6 +1,7 @@
 -- Request 104, the call: its refusals in their order, its answer, and what the lent buffer holds after it.
 -- Assumes nothing.
-use Rattle.capture.specs.Names.{ℕ, ◌*◌, Bool, not, ◌||◌, List, ◌++◌, eqb, ltb, length, drop, if◌then◌else◌, Zero, One, Imported}
+use Rattle.std.specs.Prelude.{◌*◌, ◌||◌, ◌++◌, if◌then◌else◌}
+use Rattle.capture.specs.Names.{ℕ, Bool, not, List, eqb, ltb, length, drop, Zero, One, Imported}
 use Rattle.arbiter.specs.Straps.{in_range}
 use Rattle.capture.specs.OneBus.{cut_on}
 use Rattle.capture.specs.Events.{captured, event_bytes}

@@ -1,8 +1,8 @@
 -- Names of `capture`: the types of src/lib.rt and those of the arbiter, and the library's own booleans, numbers and lists, passed on under their
 -- own names.
 -- Assumes nothing.
-pub use Rattle.std.specs.Prelude.{ℕ, ◌+◌, ◌*◌, ◌/◌, ◌%◌, Bool, true, false, not, ◌&&◌, ◌||◌, List, [], ◌∷◌, ◌++◌, map, eqb, ltb, length, drop}
-pub use Rattle.arbiter.specs.Words.{if◌then◌else◌, bit, worth, of}
+pub use Rattle.std.specs.Prelude.{ℕ, ◌+◌, ◌*◌, ◌/◌, ◌%◌, Bool, true, false, not, ◌&&◌, ◌||◌, List, [], ◌∷◌, ◌++◌, map, eqb, ltb, length, drop, if◌then◌else◌}
+pub use Rattle.arbiter.specs.Words.{bit, worth, of}
 pub use Rattle.arbiter.specs.declared.Master.{Master}
 pub use Rattle.arbiter.specs.declared.Master.TheVariants.{Zero, One}
 pub use Rattle.arbiter.specs.declared.Raw.{Raw}

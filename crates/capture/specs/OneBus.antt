@@ -1,7 +1,8 @@
 -- Request 104, one bus by itself: a sample's levels, what two samples after each other show, the nine-clock byte, whom a transfer is for, and
 -- what each sample gives.
 -- Assumes nothing.
-use Rattle.capture.specs.Names.{ℕ, ◌+◌, ◌*◌, ◌/◌, ◌%◌, Bool, true, false, not, ◌&&◌, ◌||◌, List, [], ◌∷◌, map, eqb, ltb, if◌then◌else◌, bit, worth, of, Master, Command, Read, Stop, GeneralCall, Levels, Sign, Steady, Starts, Stops, Clocks, Awaited, NoByte, AddressByte, CommandByte, WriteByte, ReadByte, CallByte, SkippedByte, Listener, Given, Nothing, Written, Gives}
+use Rattle.std.specs.Prelude.{◌+◌, ◌*◌, ◌/◌, ◌%◌, ◌&&◌, ◌||◌, ◌∷◌, if◌then◌else◌}
+use Rattle.capture.specs.Names.{ℕ, Bool, true, false, not, List, [], map, eqb, ltb, bit, worth, of, Master, Command, Read, Stop, GeneralCall, Levels, Sign, Steady, Starts, Stops, Clocks, Awaited, NoByte, AddressByte, CommandByte, WriteByte, ReadByte, CallByte, SkippedByte, Listener, Given, Nothing, Written, Gives}
 
 -- ---- samples: "one byte a sample, bits 0 to 3 being SCL0, SDA0, SCL1, SDA1 .. bits 4 to 7 are ignored"
 

@@ -1,7 +1,8 @@
 -- Both buses at once, sample by sample, as the code goes through a capture. proofs/Joined.antt proves that this gives what each bus gives by
 -- itself.
 -- Assumes nothing.
-use Rattle.capture.specs.Names.{ℕ, List, [], ◌∷◌, ◌++◌, Master, Zero, One, Event, Both, Heard, Sign}
+use Rattle.std.specs.Prelude.{◌∷◌, ◌++◌}
+use Rattle.capture.specs.Names.{ℕ, List, [], Master, Zero, One, Event, Both, Heard, Sign}
 use Rattle.capture.specs.OneBus.{levels, sign, heard, gives, silent}
 use Rattle.capture.specs.Events.{together}
 

@@ -1,8 +1,8 @@
 -- Light of `hearing`: samples that the code takes the short way, still ones, which show nothing on either bus, and light ones, which bring at
 -- most a bit to a byte in hand. proofs/Light.antt proves that both short ways end where the long one does.
 -- Assumes nothing.
-use Rattle.std.specs.Prelude.{ℕ, Bool, not, ◌&&◌, ◌||◌, eqb, ltb}
-use Rattle.arbiter.specs.Words.{if◌then◌else◌, bit}
+use Rattle.std.specs.Prelude.{ℕ, Bool, not, ◌&&◌, ◌||◌, eqb, ltb, if◌then◌else◌}
+use Rattle.arbiter.specs.Words.{bit}
 use Rattle.arbiter.specs.declared.Master.TheVariants.{Zero, One}
 use Rattle.capture.specs.declared.Levels.{Levels}
 use Rattle.capture.specs.declared.Listener.{Listener}

@@ -5,6 +5,7 @@ ghost use Rattle.capture.specs.OneBus.{addressed, awaited_after, byte_gives, owe
 use arbiter::{Event, Master};
 use capture::{Awaited, Given};
 
+#[tactic(auto, unfolding(capture::specs::OneBus::addressed))]
 fn addressed_by(address: u8, v: u8) -> Awaited
     ensures { result ≡ addressed address v }
 {
@@ -21,6 +22,7 @@ fn addressed_by(address: u8, v: u8) -> Awaited
     }
 }
 
+#[tactic(auto, unfolding(capture::specs::OneBus::awaited_after))]
 pub(crate) fn awaited_after(address: u8, awaited: Awaited, v: u8) -> Awaited
     ensures { result ≡ awaited_after address awaited v }
 {
@@ -35,6 +37,7 @@ pub(crate) fn awaited_after(address: u8, awaited: Awaited, v: u8) -> Awaited
     }
 }
 
+#[tactic(auto, unfolding(capture::specs::OneBus::byte_gives))]
 pub(crate) fn byte_gives(m: Master, awaited: Awaited, v: u8) -> Given
     ensures { result ≡ byte_gives m awaited v }
 {
@@ -49,6 +52,7 @@ pub(crate) fn byte_gives(m: Master, awaited: Awaited, v: u8) -> Given
     }
 }
 
+#[tactic(auto, unfolding(capture::specs::OneBus::owes))]
 pub(crate) fn is_owing(awaited: Awaited) -> bool
     ensures { result ≡ owes awaited }
 {
@@ -63,6 +67,7 @@ pub(crate) fn is_owing(awaited: Awaited) -> bool
     }
 }
 
+#[tactic(auto, unfolding(capture::specs::OneBus::is_outside))]
 pub(crate) fn is_outside(awaited: Awaited) -> bool
     ensures { result ≡ is_outside awaited }
 {

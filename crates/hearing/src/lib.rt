@@ -1,5 +1,7 @@
 // Two samples after each other on both buses: what becomes of the bytes in hand. The end of a byte is in `ends`, and the ways for samples that
 // change nothing or add a bit, which most are, in `short`.
+#![tactic(auto)]
+
 mod ends;
 mod short;
 
@@ -16,7 +18,7 @@ use arbiter::{Event, Master};
 use capture::{Awaited, Both, Given, Heard, Levels, Listener};
 
 // What becomes of one bus with a sample.
-#[derive(Drop)]
+#[derive(Clone, Copy)]
 pub struct Told {
     pub bus: Listener,
     pub given: Given,
@@ -35,6 +37,7 @@ pub fn nothing_given(both: Both) -> Heard
 
 // ---- the long way, of a bus where a sample is not light: a START or STOP, the ninth clock of a byte, or a clock outside START to STOP
 
+#[tactic(auto, unfolding(capture::specs::OneBus::started))]
 fn on_start(l: Listener) -> Listener
     ensures { result ≡ started l }
 {
@@ -47,6 +50,7 @@ fn on_start(l: Listener) -> Listener
     }
 }
 
+#[tactic(auto, unfolding(capture::specs::OneBus::stopped))]
 fn on_stop(l: Listener) -> Listener
     ensures { result ≡ stopped l }
 {
@@ -59,6 +63,7 @@ fn on_stop(l: Listener) -> Listener
     }
 }
 
+#[tactic(auto, unfolding(capture::specs::OneBus::gives))]
 fn stop_gives(m: Master, l: Listener) -> Given
     ensures { result ≡ gives m Stops l }
 {
@@ -108,6 +113,7 @@ fn heavily(m: Master, address: u8, was: Levels, now: Levels, l: Listener) -> Tol
 
 // ---- both buses, where one is heavy or both are. They are seldom heavy at once.
 
+#[tactic(auto, using(crate::proofs::Light::light_heard, crate::proofs::Light::light_gives, crate::proofs::Heavy::light_at, crate::proofs::Heavy::both_heard))]
 fn heavy_0(address: u8, before: u8, now: u8, s: Both) -> Heard
     requires { (is_light (levels Zero before) (levels Zero now) s.bus0 ≡ false) × (is_light (levels One before) (levels One now) s.bus1 ≡ true) }
     ensures { result ≡ sampled address before now s }
@@ -126,6 +132,7 @@ fn heavy_0(address: u8, before: u8, now: u8, s: Both) -> Heard
     }
 }
 
+#[tactic(auto, using(crate::proofs::Light::light_heard, crate::proofs::Light::light_gives, crate::proofs::Heavy::light_at, crate::proofs::Heavy::both_heard))]
 fn heavy_1(address: u8, before: u8, now: u8, s: Both) -> Heard
     requires { (is_light (levels Zero before) (levels Zero now) s.bus0 ≡ true) × (is_light (levels One before) (levels One now) s.bus1 ≡ false) }
     ensures { result ≡ sampled address before now s }
@@ -144,6 +151,7 @@ fn heavy_1(address: u8, before: u8, now: u8, s: Both) -> Heard
     }
 }
 
+#[tactic(auto, using(crate::proofs::Heavy::light_at, crate::proofs::Heavy::both_heard))]
 fn heavy_both(address: u8, before: u8, now: u8, s: Both) -> Heard
     requires { (is_light (levels Zero before) (levels Zero now) s.bus0 ≡ false) × (is_light (levels One before) (levels One now) s.bus1 ≡ false) }
     ensures { result ≡ sampled address before now s }
@@ -164,6 +172,7 @@ fn heavy_both(address: u8, before: u8, now: u8, s: Both) -> Heard
     }
 }
 
+#[tactic(auto, using(crate::proofs::Heavy::light_at, crate::proofs::Heavy::other_heavy))]
 fn not_light(address: u8, before: u8, now: u8, s: Both) -> Heard
     requires { are_light before now s ≡ false }
     ensures { result ≡ sampled address before now s }
@@ -180,6 +189,7 @@ fn not_light(address: u8, before: u8, now: u8, s: Both) -> Heard
 }
 
 // One sample after the one before it, on both buses.
+#[tactic(auto, using(crate::proofs::Light::still_sampled, crate::proofs::Light::light_sampled))]
 pub fn hear_sample(address: u8, before: u8, now: u8, s: Both) -> Heard
     ensures { result ≡ sampled address before now s }
 {
@@ -196,6 +206,7 @@ pub fn hear_sample(address: u8, before: u8, now: u8, s: Both) -> Heard
 
 // One bus. The ways for a capture are inlined as they stand there only if nobody else calls them, and then its walk is twice as fast; so a listener has a
 // shorter one.
+#[tactic(auto, using(crate::proofs::Light::light_heard, crate::proofs::Light::light_gives))]
 fn hear_one(m: Master, address: u8, was: Levels, now: Levels, l: Listener) -> Told
     ensures { (result.bus ≡ heard address (sign was now) l) × (result.given ≡ gives m (sign was now) l) }
 {
@@ -210,6 +221,7 @@ fn hear_one(m: Master, address: u8, was: Levels, now: Levels, l: Listener) -> To
 }
 
 // One sample after the one before it, on both buses, for a listener.
+#[tactic(auto, using(crate::proofs::Heavy::both_heard))]
 pub fn hear_watched(address: u8, before: u8, now: u8, s: Both) -> Heard
     ensures { result ≡ sampled address before now s }
 {

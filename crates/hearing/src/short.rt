@@ -28,6 +28,7 @@ pub(crate) fn levels_1(x: u8) -> Levels
     }
 }
 
+#[tactic(auto, unfolding(crate::specs::Light::is_marked))]
 fn is_marked(was: Levels, now: Levels) -> bool
     ensures { result ≡ is_marked was now }
 {
@@ -42,12 +43,14 @@ fn is_rise(was: Levels, now: Levels) -> bool
 
 // ---- the short ways, for most samples of a capture
 
+#[tactic(auto, unfolding(crate::specs::Light::is_still))]
 pub(crate) fn is_still(before: u8, now: u8) -> bool
     ensures { result ≡ is_still before now }
 {
     (before == now) | (!(now / 1 % 2 == 1) & !(now / 4 % 2 == 1))
 }
 
+#[tactic(auto, unfolding(crate::specs::Light::has_room))]
 fn has_room(l: Listener) -> bool
     ensures { result ≡ has_room l }
 {
@@ -56,6 +59,7 @@ fn has_room(l: Listener) -> bool
 }
 
 // By branches and not by one formula, so that a bus where SCL does not rise is not asked for its byte.
+#[tactic(auto, unfolding(crate::specs::Light::is_light))]
 pub(crate) fn is_light(was: Levels, now: Levels, l: Listener) -> bool
     ensures { result ≡ is_light was now l }
 {
@@ -66,6 +70,7 @@ pub(crate) fn is_light(was: Levels, now: Levels, l: Listener) -> bool
     }
 }
 
+#[tactic(auto, unfolding(crate::specs::Light::are_light))]
 pub(crate) fn are_light(before: u8, now: u8, s: Both) -> bool
     ensures { result ≡ are_light before now s }
 {
@@ -78,6 +83,7 @@ pub(crate) fn are_light(before: u8, now: u8, s: Both) -> bool
     }
 }
 
+#[tactic(auto, unfolding(capture::specs::OneBus::shifted))]
 fn on_bit(b: bool, l: Listener) -> Listener
     requires { l.clocks < 8 }
     ensures { result ≡ shifted b l }
@@ -92,6 +98,7 @@ fn on_bit(b: bool, l: Listener) -> Listener
     }
 }
 
+#[tactic(auto, using(crate::proofs::Light::light_clocks), unfolding(crate::specs::Light::lightly))]
 pub(crate) fn with_bit(was: Levels, now: Levels, l: Listener) -> Listener
     requires { is_light was now l ≡ true }
     ensures { result ≡ lightly was now l }
@@ -103,6 +110,7 @@ pub(crate) fn with_bit(was: Levels, now: Levels, l: Listener) -> Listener
     }
 }
 
+#[tactic(auto, using(crate::proofs::Light::light_0, crate::proofs::Light::light_1), unfolding(crate::specs::Light::both_lightly))]
 pub(crate) fn with_bits(before: u8, now: u8, s: Both) -> Both
     requires { are_light before now s ≡ true }
     ensures { result ≡ both_lightly before now s }

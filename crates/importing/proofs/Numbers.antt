@@ -16,7 +16,6 @@ use Rattle.capture.specs.OneBus.{is_cut}
 use Rattle.capture.specs.Events.{captured, event_bytes}
 use Rattle.capture.specs.Import.{cut_on_either, import_number, imported_by, buffer_by, imported, imported_buffer}
 use Rattle.capture.specs.Samples.{both_after}
-use Rattle.capture.proofs.Bytes.{bytes_length}
 use Rattle.capture.proofs.Joined.{cut_joined}
 
 pub cut_found : (address : ℕ) (samples : List ℕ) (s : Both) (b : Bool) → s ≡ both_after address samples → b ≡ (is_cut s.bus0 || is_cut s.bus1)
@@ -46,19 +45,19 @@ module _ (address : ℕ) (samples buffer : List ℕ) where
   refused_13 r long h = refusal 13 r refl (simp (lt-ltb _ _ long)) h
 
   module _ (short : length samples ≤ 32768) where
-    pub refused-11 : (r : Imported) → in_range address ≡ false → (r.number ≡ 11) × (r.count ≡ 0) → Promised r buffer
+    pub refused_11 : (r : Imported) → in_range address ≡ false → (r.number ≡ 11) × (r.count ≡ 0) → Promised r buffer
     unfolding import_number
-    refused-11 r a h = refusal 11 r refl (simp (le-ltb _ _ short, a)) h
+    refused_11 r a h = refusal 11 r refl (simp (le-ltb _ _ short, a)) h
 
     module _ (a : in_range address ≡ true) where
-      pub refused-12 : (r : Imported) → cut_on_either address samples ≡ true → (r.number ≡ 12) × (r.count ≡ 0) → Promised r buffer
+      pub refused_12 : (r : Imported) → cut_on_either address samples ≡ true → (r.number ≡ 12) × (r.count ≡ 0) → Promised r buffer
       unfolding import_number
-      refused-12 r x h = refusal 12 r refl (simp (le-ltb _ _ short, a, x)) h
+      refused_12 r x h = refusal 12 r refl (simp (le-ltb _ _ short, a, x)) h
 
-      pub refused-9 : (r : Imported) → cut_on_either address samples ≡ false → length buffer < 4 * length (captured address samples)
+      pub refused_9 : (r : Imported) → cut_on_either address samples ≡ false → length buffer < 4 * length (captured address samples)
           → (r.number ≡ 9) × (r.count ≡ 0) → Promised r buffer
       unfolding import_number
-      refused-9 r x room h = refusal 9 r refl (simp (le-ltb _ _ short, a, x, lt-ltb _ _ room)) h
+      refused_9 r x room h = refusal 9 r refl (simp (le-ltb _ _ short, a, x, lt-ltb _ _ room)) h
 
       -- accepted: n bytes are those of n / 4 events, and they stand at the front
       pub accepted : (n : ℕ) (left : List ℕ) → cut_on_either address samples ≡ false → 4 * length (captured address samples) ≤ length buffer

@@ -1,12 +1,12 @@
 -- Bytes stored one after the other.
 -- Assumes nothing.
 use Prim.Native.Nat.{ℕ, suc, ◌+◌, ◌≤◌}
-use mathlib.Core.Path.{◌≡◌, refl, sym, ap, ◌∙◌}
+use mathlib.Core.Path.{◌≡◌, ap, ◌∙◌}
 use mathlib.Core.List.{List, [], ◌∷◌, ◌++◌}
 use native.Mathlib.Omega.{arith}
 use native.Mathlib.Nat.{add-zero, zero-add}
 use lib.ListN.{length, set, take, drop}
-use lib.Seq.{sets, sets-eq, take-append_seam, take-length}
+use lib.Seq.{sets, sets-eq, take-append_seam}
 use Rattle.arbiter.specs.declared.Event.{Event}
 use Rattle.arbiter.specs.declared.Raw.{Raw}
 use Rattle.capture.specs.Events.{raw_of, four_bytes, event_bytes}
@@ -41,9 +41,6 @@ front l p n e h =
     ∙ ap (λ (k : ℕ). take k (p ++ drop (0 + length p) l)) e
     ∙ take-append_seam p (drop (0 + length p) l)
 
-pub front_copied : (l p out buffer : List ℕ) (n : ℕ) → out ≡ sets l 0 p → n ≡ length p → n ≤ length l
-    → take (length (take n out)) (take n out) ++ drop (length (take n out)) buffer ≡ p ++ drop n buffer
-front_copied l p out buffer n o e h =
-    ap (λ (s : List ℕ). take (length s) s ++ drop (length s) buffer) (ap (take n) o ∙ front l p n e h)
-    ∙ ap (λ (s : List ℕ). s ++ drop (length p) buffer) (take-length p)
-    ∙ ap (λ (k : ℕ). p ++ drop k buffer) (sym e)
+pub front_copied : (l p out copied buffer : List ℕ) (n : ℕ) → out ≡ sets l 0 p → n ≡ length p → n ≤ length l → copied ≡ take n out
+    → copied ++ drop n buffer ≡ p ++ drop n buffer
+front_copied l p out copied buffer n o e h k = ap (λ (s : List ℕ). s ++ drop n buffer) (k ∙ ap (take n) o ∙ front l p n e h)

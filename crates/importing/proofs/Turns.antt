@@ -46,23 +46,23 @@ module _ (address : ℕ) (samples : List ℕ) (i : ℕ) (p : 1 ≤ i) (h : i < l
       ∙ sym (both_more address samples i p h)
 
   module _ (es : List Event) (given : es ≡ events_in r) where
-    turn-events : events_after address (take (i + 1) samples) ≡ events_after address (take i samples) ++ es
-    turn-events =
+    turn_events : events_after address (take (i + 1) samples) ≡ events_after address (take i samples) ++ es
+    turn_events =
         events_more address samples i p h
         ∙ ap (λ (x : Both). events_after address (take i samples) ++ events_in (sampled address (get_or samples (i - 1) 0) (get_or samples i 0) x)) (sym at)
         ∙ ap (λ (x : List Event). events_after address (take i samples) ++ x) (sym (given ∙ ap events_in hears))
 
     module _ (n : ℕ) (so_far : n ≡ 4 * length (events_after address (take i samples))) where
-      pub turn-bytes : n + 4 * length es ≡ 4 * length (events_after address (take (i + 1) samples))
-      turn-bytes = omega (arith, so_far, ap length turn-events, length-append (events_after address (take i samples)) es)
+      pub turn_bytes : n + 4 * length es ≡ 4 * length (events_after address (take (i + 1) samples))
+      turn_bytes = omega (arith, so_far, ap length turn_events, length-append (events_after address (take i samples)) es)
 
-      pub turn-room : n + 4 * length es ≤ 4 * length (captured address samples)
-      turn-room = omega (arith, turn-bytes, events_few address samples (i + 1), ap length (events_joined address samples))
+      pub turn_room : n + 4 * length es ≤ 4 * length (captured address samples)
+      turn_room = omega (arith, turn_bytes, events_few address samples (i + 1), ap length (events_joined address samples))
 
-      pub turn-stored : (l out : List ℕ) → out ≡ sets l 0 (event_bytes (events_after address (take i samples)))
+      pub turn_stored : (l out : List ℕ) → out ≡ sets l 0 (event_bytes (events_after address (take i samples)))
           → sets out n (event_bytes es) ≡ sets l 0 (event_bytes (events_after address (take (i + 1) samples)))
-      turn-stored l out o =
+      turn_stored l out o =
           let old : List Event = events_after address (take i samples) in
           ap (λ (x : List ℕ). sets x n (event_bytes es)) o
           ∙ sets_more l 0 n (event_bytes old) (event_bytes es) (omega (arith, so_far, bytes_length old))
-          ∙ ap (sets l 0) (sym (bytes_append old es) ∙ ap event_bytes (sym turn-events))
+          ∙ ap (sets l 0) (sym (bytes_append old es) ∙ ap event_bytes (sym turn_events))

@@ -1,5 +1,7 @@
 // A capture turned into events. Nothing may be written where a capture is refused, and its last sample can still refuse it; so the events are
 // kept in a list of the call's own until the end, and copied into the lent buffer then. The list has room for the most that a capture gives.
+#![tactic(auto)]
+
 ghost use Rattle.std.specs.Prelude.{◌+◌, ◌*◌, ◌≤◌, ◌<◌, ◌≡◌, ◌||◌, [], ◌∷◌, length};
 ghost use Rattle.std.proofs.lemmas.List.Edits.{sets};
 ghost use Rattle.arbiter.specs.Marks.{raw};
@@ -12,20 +14,19 @@ ghost use Rattle.importing.specs.Listed.{listed};
 
 use arbiter::{Event, Master, Raw};
 use bits::worth_of;
-use bytes::copy;
 use capture::{Awaited, Both, Given, Imported, Listener};
 use hearing::hear_sample;
 use straps::in_range;
 
 // What a walk through the samples finds: both buses at the end, and how many bytes the events take.
-#[derive(Drop)]
+#[derive(Clone, Copy)]
 pub struct Walked {
     pub both: Both,
     pub bytes: usize,
 }
 
 // The events of one sample: there are at most two.
-#[derive(Drop)]
+#[derive(Clone, Copy)]
 pub enum Few {
     NoEvent,
     OneEvent(Event),
@@ -64,6 +65,7 @@ fn few_beside_event(e: Event, h: Given) -> Few
     }
 }
 
+#[tactic(auto, unfolding(capture::specs::Events::together))]
 pub fn few_of(g: Given, h: Given) -> Few
     ensures { listed result ≡ together g h }
 {
@@ -91,6 +93,7 @@ fn raw_with(kind: u8, x: u8, y: u8, z: u8) -> Raw
     Raw { kind, x, y, z }
 }
 
+#[tactic(auto, unfolding(capture::specs::Events::raw_of))]
 pub fn raw_of(e: Event) -> Raw
     ensures { result ≡ raw_of e }
 {
@@ -125,6 +128,7 @@ fn put_raw(out: &mut [u8], at: usize, r: Raw)
     out[at + 3] = r.z;
 }
 
+#[tactic(auto, using(crate::proofs::Stored::event_stored))]
 fn put_event(out: &mut [u8], at: usize, e: Event) -> usize
     requires { (at < 2097152) × (at + 4 ≤ length out.old) }
     ensures { (result ≡ at + 4) × (out.new ≡ sets out.old at (event_bytes (e ∷ []))) }
@@ -133,6 +137,7 @@ fn put_event(out: &mut [u8], at: usize, e: Event) -> usize
     at + 4
 }
 
+#[tactic(auto, using(crate::proofs::Stored::two_stored), unfolding(capture::specs::Events::event_bytes))]
 fn put_few(out: &mut [u8], at: usize, f: Few) -> usize
     requires { (at < 1048576) × (at + 4 * length (listed f) ≤ length out.old) }
     ensures { (result ≡ at + 4 * length (listed f)) × (out.new ≡ sets out.old at (event_bytes (listed f))) }
@@ -178,6 +183,7 @@ fn is_any_cut(s: Both) -> bool
 }
 
 // Through all samples: the events are stored one after the other.
+#[tactic(auto, using(capture::proofs::Prefix::first_both, crate::proofs::Turns::no_bytes, crate::proofs::Turns::none_stored, crate::proofs::Turns::turn_room))]
 fn walk(samples: &[u8], address: u8, out: &mut [u8]) -> Walked
     requires { (length samples.now ≤ 32768) × (4 * length (captured address samples.now) ≤ length out.old) }
     ensures found { (result.both ≡ both_after address samples.now) × (result.bytes ≡ 4 * length (captured address samples.now)) }
@@ -213,6 +219,7 @@ fn refused(number: u8) -> Imported
 }
 
 // The events of a capture, for a device of this address, four bytes each in the lent buffer; their count, or the number of a refusal.
+#[tactic(auto, using(capture::proofs::Bound::most_captured))]
 pub fn import_capture(samples: &[u8], address: u8, events: &mut [u8]) -> Imported
     ensures { (result ≡ imported address samples.now events.old) × (events.new ≡ imported_buffer address samples.now events.old) }
 {
@@ -230,7 +237,7 @@ pub fn import_capture(samples: &[u8], address: u8, events: &mut [u8]) -> Importe
         if events.len() < n {
             return refused(9);
         }
-        copy(&list[..n], events);
+        events[..n].copy_from_slice(&list[..n]);
         Imported {
             number: 0,
             count: n / 4,

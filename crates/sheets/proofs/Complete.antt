@@ -9,7 +9,8 @@ use lib.Dec.{eqb, ltb}
 use lib.ListN.{length, drop}
 use lib.Seq.{sets-eq}
 use borrow.Author.Tests.{ltb-true, ltb-false, not-false}
-use Rattle.arbiter.specs.Words.{if◌then◌else◌, worth}
+use Rattle.std.specs.Prelude.{if◌then◌else◌}
+use Rattle.arbiter.specs.Words.{worth}
 use Rattle.arbiter.specs.Writing.{raws_bytes}
 use Rattle.arbiter.specs.Marks.{command, write, stop}
 use Rattle.arbiter.specs.Traces.{raws_in}
@@ -24,7 +25,8 @@ use Rattle.sheets.specs.declared.Order.{Order}
 use Rattle.sheets.specs.declared.OrderRead.{OrderRead}
 use Rattle.sheets.specs.declared.OrderRead.TheVariants.{Given, Withheld}
 use Rattle.sheets.specs.Sheets.{box_place, ticked, value_on, box_right, flag_right, boxes_right, check_sheet, check_pair, is_box, fault_number, part_of}
-use Rattle.sheets.specs.Settings.{ticked_on_either, is_complete, value_at, setting_of, order_of, control_byte, order_events, order_count, order_bytes, read_complete}
+use Rattle.sheets.specs.Settings.{ticked_on_either, is_complete, value_at, setting_of, order_of, control_byte, order_events, order_count, order_bytes}
+use Rattle.sheets.specs.Settings.{read_complete}
 use Rattle.sheets.specs.Settings.{once_sound, read_order, ordered_of, buffer_of, ordered, ordered_buffer}
 use Rattle.sheets.specs.Stored.{stored, stored_register, stored_setting}
 use Rattle.sheets.specs.Laws.{HandedBack, Handed, SettingFound, OrderFound, EventsRead, EmptyNoEvents}

@@ -11,7 +11,7 @@ use lib.Dec.{eqb}
 use lib.ListN.{length, take, drop}
 use lib.Seq.{drop-cons}
 use borrow.Author.Tests.{eqb-true}
-use Rattle.arbiter.specs.Words.{if◌then◌else◌}
+use Rattle.std.specs.Prelude.{if◌then◌else◌}
 use Rattle.arbiter.specs.Traces.{byte_at}
 use Rattle.sheets.specs.declared.Fault.TheVariants.{TooShort, WrongCount, BadBox, BytesAfterEnd, NoSuchBox, Unticked, NoRoom}
 use Rattle.sheets.specs.declared.Fault.{Fault}
@@ -19,7 +19,8 @@ use Rattle.sheets.specs.declared.Checked.{Checked}
 use Rattle.sheets.specs.declared.Checked.TheVariants.{Sound}
 use Rattle.sheets.specs.declared.Place.{Place}
 use Rattle.sheets.specs.declared.Place.TheVariants.{Board, House, Refused}
-use Rattle.sheets.specs.Sheets.{box_place, ticked, value_on, check_pair, place_at, is_box, box_on, once_checked, place_of, fault_number, place_number, box_bytes}
+use Rattle.sheets.specs.Sheets.{box_place, ticked, value_on, check_pair, place_at, is_box, box_on, once_checked, place_of, fault_number, place_number}
+use Rattle.sheets.specs.Sheets.{box_bytes}
 use Rattle.sheets.specs.Sheets.{part_of, start_of}
 use Rattle.sheets.specs.Settings.{ticked_on_either}
 use Rattle.sheets.specs.Laws.{BoardFirst, HouseElse, EmptyRefused, HandedBack, AlwaysTicked, NumberTells}

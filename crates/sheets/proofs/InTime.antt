@@ -10,7 +10,8 @@ use Rattle.arbiter.specs.Words.{worth}
 use Rattle.arbiter.specs.Registers.{own_written, mail_written, drives_written, turn_written}
 use Rattle.arbiter.specs.Events.{decode, in_sequence}
 use Rattle.arbiter.specs.Effects.{commanded, written, ticked, fresh_side, power_up, effect}
-use Rattle.arbiter.specs.Order.{is_reset, is_tick, levels, lost, losses_from, losses, cut_from, cut, winner, claim, granted, grant_from, grant, joined, connect_from}
+use Rattle.arbiter.specs.Order.{is_reset, is_tick, levels, lost, losses_from, losses, cut_from, cut, winner, claim, granted, grant_from, grant, joined}
+use Rattle.arbiter.specs.Order.{connect_from}
 use Rattle.arbiter.specs.Order.{connect}
 use Rattle.arbiter.specs.Steps.{parts, refused, taken, step_event, step_decoded, step, run_from, run}
 use Rattle.arbiter.specs.AuditWords.{next, reserve_of, lets_go, accepted, reset, tick, withdrawal_of, grant_taken, ticks_in, never}

@@ -6,14 +6,15 @@ use mathlib.Core.Bool.{Bool, true, false, not, ◌||◌}
 use mathlib.Core.List.{List}
 use lib.Dec.{ltb}
 use lib.ListN.{length}
-use Rattle.arbiter.specs.Words.{if◌then◌else◌}
+use Rattle.std.specs.Prelude.{if◌then◌else◌}
 use Rattle.sheets.specs.declared.Fault.{Fault}
 use Rattle.sheets.specs.declared.Fault.TheVariants.{TooShort, WrongCount, BadBox, BytesAfterEnd, NoSuchBox, Unticked, NoRoom}
 use Rattle.sheets.specs.declared.Checked.{Checked}
 use Rattle.sheets.specs.declared.Checked.TheVariants.{Sound, Faulty}
 use Rattle.sheets.specs.declared.Place.{Place}
 use Rattle.sheets.specs.declared.Place.TheVariants.{Board, House, Refused}
-use Rattle.sheets.specs.Sheets.{sheet_bytes, box_place, ticked, is_box, counts_right, boxes_right, check_sheet, and_then, check_pair, place_at, box_on, once_checked}
+use Rattle.sheets.specs.Sheets.{sheet_bytes, box_place, ticked, is_box, counts_right, boxes_right, check_sheet, and_then, check_pair, place_at, box_on}
+use Rattle.sheets.specs.Sheets.{once_checked}
 use Rattle.sheets.specs.Sheets.{place_of}
 use Rattle.sheets.specs.Sheets.{fault_number, checked_number, place_number, first_refusal, sheet_number, pair_number, box_number, look_up_number}
 
@@ -68,7 +69,8 @@ found_number true true onHouse at = refl
 found_number true false true at = refl
 found_number true false false at = refl
 
-box_number_lem : (section controller : ℕ) (board house : List ℕ) → place_number (box_on section controller board house) ≡ box_number section controller board house
+box_number_lem : (section controller : ℕ) (board house : List ℕ) → place_number (box_on section controller board house)
+    ≡ box_number section controller board house
 unfolding box_on place_at box_number
 box_number_lem section controller board house =
     let place : ℕ = box_place section controller in
@@ -77,7 +79,8 @@ box_number_lem section controller board house =
 place_number_lem : (section controller : ℕ) (board house : List ℕ) → place_number (place_of section controller board house)
     ≡ look_up_number section controller board house
 unfolding place_of look_up_number
-place_number_lem section controller board house = once_number (check_pair board house) (box_on section controller board house) ∙ simp (pair_number_lem, box_number_lem)
+place_number_lem section controller board house = once_number (check_pair board house) (box_on section controller board house)
+    ∙ simp (pair_number_lem, box_number_lem)
 
 pub place_told : (section controller : ℕ) (board house : List ℕ) (r : Place) → r ≡ place_of section controller board house →
     (r ≡ place_of section controller board house) × (place_number r ≡ look_up_number section controller board house)

@@ -8,7 +8,7 @@ use native.Mathlib.Omega.{arith}
 use lib.Dec.{ltb}
 use lib.ListN.{length}
 use borrow.Author.Tests.{ltb-true, ltb-false, not-false}
-use Rattle.arbiter.specs.Words.{if◌then◌else◌}
+use Rattle.std.specs.Prelude.{if◌then◌else◌}
 use Rattle.arbiter.proofs.Choice.{either}
 use Rattle.sheets.specs.declared.Fault.{Fault}
 use Rattle.sheets.specs.declared.Fault.TheVariants.{TooShort, WrongCount, BadBox, BytesAfterEnd}
@@ -16,7 +16,8 @@ use Rattle.sheets.specs.declared.Checked.{Checked}
 use Rattle.sheets.specs.declared.Checked.TheVariants.{Sound, Faulty}
 use Rattle.sheets.specs.declared.Place.{Place}
 use Rattle.sheets.specs.declared.Place.TheVariants.{Board, House, Refused}
-use Rattle.sheets.specs.Sheets.{sheet_bytes, box_place, ticked, counts_right, boxes_right, check_sheet, and_then, check_pair, place_at, is_box, box_on, once_checked}
+use Rattle.sheets.specs.Sheets.{sheet_bytes, box_place, ticked, counts_right, boxes_right, check_sheet, and_then, check_pair, place_at, is_box, box_on}
+use Rattle.sheets.specs.Sheets.{once_checked}
 use Rattle.sheets.specs.Sheets.{place_of}
 
 -- ---- a sound sheet has passed every test

@@ -13,7 +13,8 @@ use Rattle.arbiter.specs.State.{scl_high, sda_high, is_idle}
 use Rattle.arbiter.specs.Registers.{own_written, mail_written, drives_written, turn_written}
 use Rattle.arbiter.specs.Events.{decode, in_sequence, acknowledged, outcome}
 use Rattle.arbiter.specs.Effects.{commanded, written, fresh_side, was_reset, power_up, effect}
-use Rattle.arbiter.specs.Order.{busy_after, levels, runs_out, lost, losses_from, losses, cut_from, cut, claim, granted, grant_from, grant, switched, kept_joined}
+use Rattle.arbiter.specs.Order.{busy_after, levels, runs_out, lost, losses_from, losses, cut_from, cut, claim, granted, grant_from, grant, switched}
+use Rattle.arbiter.specs.Order.{kept_joined}
 use Rattle.arbiter.specs.Order.{connect_from, connect}
 use Rattle.arbiter.specs.Steps.{parts, taken, step_event, step_decoded, step, run_from, answers_from}
 use Rattle.arbiter.specs.Marks.{command, write, stop}

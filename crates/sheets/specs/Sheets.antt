@@ -1,7 +1,6 @@
 -- Document 02, request #106: what bytes are a sheet, with the refusals in their order, and the looking up of a box on two sheets.
 -- Assumes nothing.
-use Rattle.std.specs.Prelude.{ℕ, ◌+◌, ◌*◌, Bool, not, ◌&&◌, ◌||◌, List, [], eqb, ltb, length, take, drop}
-use Rattle.arbiter.specs.Words.{if◌then◌else◌}
+use Rattle.std.specs.Prelude.{ℕ, ◌+◌, ◌*◌, Bool, not, ◌&&◌, ◌||◌, List, [], eqb, ltb, length, take, drop, if◌then◌else◌}
 use Rattle.arbiter.specs.Events.{zero_or_one}
 use Rattle.arbiter.specs.Traces.{byte_at}
 use Rattle.sheets.specs.declared.Fault.{Fault}

@@ -1,8 +1,7 @@
 -- How long a controller can wait, by what a complete pair of sheets orders for the other: a grade and a number of ticks. What each grade promises is
 -- said and proved in the crate `guarantee`.
 -- Assumes nothing.
-use Rattle.std.specs.Prelude.{ℕ, ◌+◌, ◌-◌, not, List, ltb}
-use Rattle.arbiter.specs.Words.{if◌then◌else◌}
+use Rattle.std.specs.Prelude.{ℕ, ◌+◌, ◌-◌, not, List, ltb, if◌then◌else◌}
 use Rattle.arbiter.specs.Rules.{limit_of}
 use Rattle.arbiter.specs.Traces.{is_kind, kind_of}
 use Rattle.arbiter.specs.declared.Kind.{Kind}

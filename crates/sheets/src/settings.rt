@@ -10,6 +10,7 @@ use crate::sheet::{check_pair, fault_number};
 use crate::{Checked, Fault, Order, OrderRead, Ordered, Setting};
 use bits::worth_of;
 
+#[tactic(auto, unfolding(crate::specs::Settings::ticked_on_either))]
 fn ticked_on_either(board: &[u8], house: &[u8], at: usize) -> bool
     requires { (at < length board.now) × (at < length house.now) }
     ensures { result ≡ ticked_on_either at board.now house.now }
@@ -17,6 +18,7 @@ fn ticked_on_either(board: &[u8], house: &[u8], at: usize) -> bool
     (board[at] == 1) | (house[at] == 1)
 }
 
+#[tactic(auto, unfolding(crate::specs::Settings::is_complete))]
 pub(crate) fn is_complete(board: &[u8], house: &[u8]) -> bool
     requires { (15 ≤ length board.now) × (15 ≤ length house.now) }
     ensures { result ≡ is_complete board.now house.now }
@@ -30,6 +32,7 @@ pub(crate) fn is_complete(board: &[u8], house: &[u8]) -> bool
 }
 
 // The value of a box that is ticked on one sheet or the other.
+#[tactic(auto, unfolding(crate::specs::Settings::value_at))]
 fn value_at(board: &[u8], house: &[u8], at: usize) -> u8
     requires { (at + 2 ≤ length board.now) × (at + 2 ≤ length house.now) }
     ensures { result ≡ value_at at board.now house.now }
@@ -41,6 +44,7 @@ fn value_at(board: &[u8], house: &[u8], at: usize) -> u8
     }
 }
 
+#[tactic(auto, unfolding(crate::specs::Settings::setting_of))]
 pub(crate) fn setting_of(board: &[u8], house: &[u8], controller: usize) -> Setting
     requires { (controller < 2) × (15 ≤ length board.now) × (15 ≤ length house.now) }
     ensures { result ≡ setting_of controller board.now house.now }
@@ -52,6 +56,7 @@ pub(crate) fn setting_of(board: &[u8], house: &[u8], controller: usize) -> Setti
     }
 }
 
+#[tactic(auto, unfolding(crate::specs::Settings::order_of))]
 fn order_of(board: &[u8], house: &[u8]) -> Order
     requires { (15 ≤ length board.now) × (15 ≤ length house.now) }
     ensures { result ≡ order_of board.now house.now }
@@ -62,6 +67,7 @@ fn order_of(board: &[u8], house: &[u8]) -> Order
     }
 }
 
+#[tactic(auto, unfolding(crate::specs::Settings::read_complete))]
 fn read_complete(board: &[u8], house: &[u8], room: usize) -> OrderRead
     requires { (15 ≤ length board.now) × (15 ≤ length house.now) }
     ensures { result ≡ read_complete board.now house.now room }
@@ -75,6 +81,7 @@ fn read_complete(board: &[u8], house: &[u8], room: usize) -> OrderRead
     OrderRead::Withheld(Fault::Unticked)
 }
 
+#[tactic(auto, using(crate::proofs::Sound::pair_long), unfolding(crate::specs::Settings::read_order))]
 fn read_order(board: &[u8], house: &[u8], room: usize) -> OrderRead
     ensures { result ≡ read_order board.now house.now room }
 {
@@ -88,6 +95,7 @@ fn read_order(board: &[u8], house: &[u8], room: usize) -> OrderRead
 // ---- its events
 
 // The CONTR byte that is written for one master.
+#[tactic(auto, unfolding(crate::specs::Settings::control_byte))]
 fn control_byte(s: Setting) -> u8
     ensures { result ≡ control_byte s }
 {
@@ -95,6 +103,7 @@ fn control_byte(s: Setting) -> u8
 }
 
 // The four bytes of an event of master m, whose last field is unused.
+#[tactic(auto, unfolding(crate::specs::Stored::stored))]
 fn put_event(events: &mut [u8], at: usize, kind: u8, m: u8, v: u8)
     requires { at + 4 ≤ length events.old }
     ensures { events.new ≡ stored events.old at (raw kind m v 0) }
@@ -106,6 +115,7 @@ fn put_event(events: &mut [u8], at: usize, kind: u8, m: u8, v: u8)
 }
 
 // Master m sets register p to v: COMMAND, WRITE, STOP.
+#[tactic(auto, using(crate::proofs::Complete::register_stored))]
 fn put_register(events: &mut [u8], at: usize, m: u8, p: u8, v: u8)
     requires { at + 12 ≤ length events.old }
     ensures { events.new ≡ stored_register events.old at m p v }
@@ -116,6 +126,7 @@ fn put_register(events: &mut [u8], at: usize, m: u8, p: u8, v: u8)
 }
 
 // The six events of one master: its reserve, then its CONTR.
+#[tactic(auto, using(crate::proofs::Complete::setting_stored))]
 fn put_setting(events: &mut [u8], at: usize, m: u8, s: Setting)
     requires { at + 24 ≤ length events.old }
     ensures { events.new ≡ stored_setting events.old at m s }
@@ -125,6 +136,7 @@ fn put_setting(events: &mut [u8], at: usize, m: u8, s: Setting)
     put_register(events, at + 12, m, 0x01, control);
 }
 
+#[tactic(auto, using(crate::proofs::Complete::order_stored))]
 fn put_order(events: &mut [u8], o: Order)
     requires { 48 ≤ length events.old }
     ensures { events.new ≡ raws_bytes (order_events o) ++ drop 48 events.old }
@@ -136,6 +148,7 @@ fn put_order(events: &mut [u8], o: Order)
 }
 
 // The twelve events that a complete pair of sheets orders, at the front of the lent buffer. A refusal writes nothing.
+#[tactic(auto, using(crate::proofs::Complete::given_passed), unfolding(crate::specs::Settings::ordered, crate::specs::Settings::ordered_of, crate::specs::Settings::ordered_buffer, crate::specs::Settings::buffer_of))]
 pub fn order_events(board: &[u8], house: &[u8], events: &mut [u8]) -> Ordered
     ensures { (result ≡ ordered board.now house.now events.old)
         × (events.new ≡ ordered_buffer board.now house.now events.old) }

@@ -4,6 +4,7 @@ ghost use Rattle.sheets.specs.Sheets.{counts_right, box_right, flag_right, boxes
 
 use crate::{Checked, Fault};
 
+#[tactic(auto, unfolding(crate::specs::Sheets::counts_right))]
 fn counts_right(sheet: &[u8]) -> bool
     requires { 15 ≤ length sheet.now }
     ensures { result ≡ counts_right sheet.now }
@@ -12,6 +13,7 @@ fn counts_right(sheet: &[u8]) -> bool
 }
 
 // A reserve's box.
+#[tactic(auto, unfolding(crate::specs::Sheets::box_right))]
 fn box_right(sheet: &[u8], at: usize) -> bool
     requires { at + 2 ≤ length sheet.now }
     ensures { result ≡ box_right at sheet.now }
@@ -22,6 +24,7 @@ fn box_right(sheet: &[u8], at: usize) -> bool
 }
 
 // A priority's or an idle setting's box.
+#[tactic(auto, unfolding(crate::specs::Sheets::flag_right))]
 fn flag_right(sheet: &[u8], at: usize) -> bool
     requires { at + 2 ≤ length sheet.now }
     ensures { result ≡ flag_right at sheet.now }
@@ -29,6 +32,7 @@ fn flag_right(sheet: &[u8], at: usize) -> bool
     box_right(sheet, at) & (sheet[at + 1] < 2)
 }
 
+#[tactic(auto, unfolding(crate::specs::Sheets::boxes_right))]
 fn boxes_right(sheet: &[u8]) -> bool
     requires { 15 ≤ length sheet.now }
     ensures { result ≡ boxes_right sheet.now }
@@ -41,6 +45,7 @@ fn boxes_right(sheet: &[u8]) -> bool
         & flag_right(sheet, 13)
 }
 
+#[tactic(auto, unfolding(crate::specs::Sheets::check_sheet))]
 fn check_sheet(sheet: &[u8]) -> Checked
     ensures { result ≡ check_sheet sheet.now }
 {
@@ -60,6 +65,7 @@ fn check_sheet(sheet: &[u8]) -> Checked
 }
 
 // The board sheet first, then the house sheet.
+#[tactic(auto, unfolding(crate::specs::Sheets::check_pair))]
 pub fn check_pair(board: &[u8], house: &[u8]) -> Checked
     ensures value { result ≡ check_pair board.now house.now }
     ensures result_value { checked_number result ≡ pair_number board.now house.now }

@@ -31,6 +31,7 @@ fn idle_limit_of(kind: Kind) -> u16
 
 // Behind a holder with these settings: a reserve runs out, and its STOP has one tick more; reserve 00h never does, so that only the idle timer
 // is left.
+#[tactic(auto, unfolding(crate::specs::Waits::wait_behind))]
 fn wait_behind(kind: Kind, holder: Setting) -> Wait
     ensures { result ≡ wait_behind kind holder }
 {
@@ -55,6 +56,7 @@ fn wait_behind(kind: Kind, holder: Setting) -> Wait
     }
 }
 
+#[tactic(auto, unfolding(crate::specs::Waits::wait_on))]
 fn wait_on(board: &[u8], house: &[u8], controller: u8, kind: u8) -> Wait
     requires { (15 ≤ length board.now) × (15 ≤ length house.now) }
     ensures { result ≡ wait_on controller kind board.now house.now }
@@ -75,6 +77,7 @@ fn wait_on(board: &[u8], house: &[u8], controller: u8, kind: u8) -> Wait
 }
 
 // How long `controller` can wait by these two sheets, on a part of this kind. A refusal has its number alone.
+#[tactic(auto, using(crate::proofs::Sound::pair_long), unfolding(crate::specs::Waits::wait_of))]
 pub fn wait_of(board: &[u8], house: &[u8], controller: u8, kind: u8) -> Wait
     ensures { result ≡ wait_of controller kind board.now house.now }
 {

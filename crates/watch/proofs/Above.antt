@@ -12,7 +12,8 @@ use Rattle.capture.specs.declared.Awaited.{Awaited}
 use Rattle.capture.specs.declared.Awaited.TheVariants.{NoByte, AddressByte, CommandByte, WriteByte, ReadByte, CallByte, SkippedByte}
 use Rattle.capture.specs.declared.Given.{Given}
 use Rattle.capture.specs.declared.Given.TheVariants.{Nothing, Written, Gives}
-use Rattle.watch.specs.Names.{ℕ, Bool, true, false, not, ◌&&◌, List, [], ◌∷◌, ◌++◌, eqb, ltb, if◌then◌else◌, bit, Master, Zero, One, Event, Write, Lines}
+use Rattle.std.specs.Prelude.{◌&&◌, ◌∷◌, ◌++◌, if◌then◌else◌}
+use Rattle.watch.specs.Names.{ℕ, Bool, true, false, not, List, [], eqb, ltb, bit, Master, Zero, One, Event, Write, Lines}
 use Rattle.watch.specs.Names.{Tick, Listener, Both, Settings, Ear}
 use Rattle.watch.specs.Sample.{below_before, levels_below, lines_given, heard_now, is_timed, is_due, ticks_given, events_at}
 use Rattle.watch.specs.Answers.{is_above, above}

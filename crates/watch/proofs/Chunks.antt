@@ -5,7 +5,8 @@ use mathlib.Core.List.{append_assoc, map-append}
 use Rattle.arbiter.specs.Steps.{run_from}
 use Rattle.arbiter.proofs.Runs.{from_append}
 use Rattle.capture.specs.Events.{raw_of}
-use Rattle.watch.specs.Names.{ℕ, List, [], ◌∷◌, ◌++◌, map, Device, Raw, Event, Check, Watcher}
+use Rattle.std.specs.Prelude.{◌∷◌, ◌++◌}
+use Rattle.watch.specs.Names.{List, [], map, Device, Raw, Event, Check, Watcher}
 use Rattle.watch.specs.Stream.{followed, followed_all, heard_by, events_now, watched_at, watched, events_in}
 use Rattle.watch.specs.Found.{checks_among, checks}
 use Rattle.watch.specs.Answers.{ChunksAlike, EventsInChunks, ChecksInChunks, DeviceIsRun}

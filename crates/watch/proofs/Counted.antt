@@ -5,7 +5,8 @@ use mathlib.Core.Path.{◌≡◌, refl, sym, ap, ◌∙◌}
 use native.Mathlib.Omega.{arith}
 use lib.ListN.{length-append}
 use Rattle.arbiter.proofs.Choice.{split, if_true, if_false}
-use Rattle.watch.specs.Names.{ℕ, ◌+◌, Bool, List, [], ◌∷◌, ◌++◌, length, worth, Event, Command, Write, Read, Stop, Pair, Lines, Tick, Pulse, Reset}
+use Rattle.std.specs.Prelude.{◌+◌, ◌∷◌, ◌++◌}
+use Rattle.watch.specs.Names.{ℕ, List, [], length, worth, Event, Command, Write, Read, Stop, Pair, Lines, Tick, Pulse, Reset}
 use Rattle.watch.specs.Names.{GeneralCall, Check, Tally, Watcher}
 use Rattle.watch.specs.Stream.{top, plus, check_of, differs, with_event, with_read, tally_with, followed, followed_all, with_sample, heard_by, events_now}
 use Rattle.watch.specs.Stream.{faults_now, watched_at, watched, events_in}
@@ -158,7 +159,8 @@ differing_length : (p q : List Check) → length (differing (p ++ q)) ≡ length
 differing_length p q = ap length (differing_append p q) ∙ length-append (differing p) (differing q)
 
 pub differ_among : (es : List Event) (w : Watcher)
-    → among (λ (t : Tally). t.differences) (λ e w. length (differing (checks_of e w))) some_differ kept_differences es w ≡ length (differing (checks_among es w))
+    → among (λ (t : Tally). t.differences) (λ e w. length (differing (checks_of e w))) some_differ kept_differences es w
+    ≡ length (differing (checks_among es w))
 unfolding among checks_among differing
 differ_among [] w = refl
 differ_among (e ∷ es) w =

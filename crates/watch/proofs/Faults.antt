@@ -1,14 +1,13 @@
 -- Faults: #104 refuses a capture with 12 exactly if a fault was counted or its last sample is inside a byte.
 -- Assumes nothing.
-use Prim.Native.Nat.{◌<◌}
 use mathlib.Core.Path.{◌≡◌, refl, sym, ap, ◌∙◌}
 use native.Mathlib.Omega.{arith}
 use borrow.Author.Tests.{ne_eqb}
-use Rattle.capture.specs.OneBus.{inside, is_cut, heard}
-use Rattle.capture.specs.Import.{cut_on_either}
+use Rattle.capture.specs.OneBus.{inside, heard}
 use Rattle.capture.specs.Samples.{sign_of, sampled, both_silent, both_from, both_after}
 use Rattle.capture.proofs.Joined.{cut_joined}
-use Rattle.watch.specs.Names.{ℕ, ◌+◌, Bool, true, false, not, ◌||◌, List, [], ◌∷◌, eqb, worth, Zero, One, Kind, Device, Both, Settings, Tally, Watcher}
+use Rattle.std.specs.Prelude.{◌+◌, ◌||◌, ◌∷◌}
+use Rattle.watch.specs.Names.{ℕ, Bool, true, false, not, List, [], eqb, worth, Zero, One, Device, Both, Settings, Tally, Watcher}
 use Rattle.watch.specs.Sample.{mended, both_mended, heard_now, ear_after, silent_ear}
 use Rattle.watch.specs.Stream.{heard_by, watched_at, watched, beginning}
 use Rattle.watch.specs.Found.{faults}

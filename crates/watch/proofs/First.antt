@@ -5,9 +5,11 @@ use mathlib.Core.Path.{◌≡◌, refl, sym, ap, ◌∙◌}
 use native.Mathlib.Omega.{arith}
 use borrow.Author.Tests.{ne_eqb}
 use Rattle.arbiter.proofs.Choice.{split, if_true, if_false}
-use Rattle.watch.specs.Names.{ℕ, ◌+◌, Bool, true, false, ◌&&◌, List, [], ◌∷◌, ◌++◌, eqb, ltb, length, if◌then◌else◌, Master, Kind, Event, Command, Write}
-use Rattle.watch.specs.Names.{Read, Stop, Pair, Lines, Tick, Pulse, Reset, GeneralCall, Settings, Check, Tally, Watcher}
-use Rattle.watch.specs.Stream.{top, up_to, plus, check_of, differs, with_event, first_with, with_read, tally_with, followed, followed_all, with_sample, heard_by}
+use Rattle.std.specs.Prelude.{◌+◌, ◌&&◌, ◌∷◌, ◌++◌, if◌then◌else◌}
+use Rattle.watch.specs.Names.{ℕ, Bool, true, false, List, [], eqb, ltb, length, Master, Event, Command, Write}
+use Rattle.watch.specs.Names.{Read, Stop, Pair, Lines, Tick, Pulse, Reset, GeneralCall, Check, Tally, Watcher}
+use Rattle.watch.specs.Stream.{top, up_to, plus, check_of, differs, with_event, first_with, with_read, tally_with, followed, followed_all, with_sample}
+use Rattle.watch.specs.Stream.{heard_by}
 use Rattle.watch.specs.Stream.{events_now, watched_at, watched, events_in, no_tally, beginning}
 use Rattle.watch.specs.Found.{checks_of, checks_among, checks, differing, first_or, faults}
 use Rattle.watch.specs.Answers.{AllCounted}

@@ -1,12 +1,12 @@
 -- The events of a stream are those of an import (#104): a fault that is forgotten plays no part in them, and LINES and TICKs only stand between them.
 -- Assumes nothing.
-use mathlib.Core.Path.{◌≡◌, refl, sym, ap, ◌∙◌}
+use mathlib.Core.Path.{◌≡◌, refl, ap, ◌∙◌}
 use mathlib.Core.List.{append-nil}
 use Rattle.capture.specs.Events.{together, captured}
 use Rattle.capture.specs.Samples.{sign_of, sampled, events_in, both_silent, events_from, events_after}
-use Rattle.capture.specs.declared.Given.{Given}
 use Rattle.capture.proofs.Joined.{events_joined}
-use Rattle.watch.specs.Names.{ℕ, Bool, true, false, List, [], ◌∷◌, ◌++◌, Zero, One, Kind, Device, Event, Both, Settings, Ear, Tally, Watcher}
+use Rattle.std.specs.Prelude.{◌∷◌, ◌++◌}
+use Rattle.watch.specs.Names.{ℕ, true, false, List, [], Zero, One, Kind, Device, Event, Both, Settings, Tally, Watcher}
 use Rattle.watch.specs.Sample.{both_mended, lines_given, heard_now, ticks_given, events_at, ear_after, silent_ear}
 use Rattle.watch.specs.Stream.{heard_by, events_now, watched_at, events_in as streamEvents, beginning}
 use Rattle.watch.specs.Answers.{plainly, AsImported, above, AboveAsImported}

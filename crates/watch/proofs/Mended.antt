@@ -1,11 +1,11 @@
 -- A fault plays no part in what a bus gives or hears next: a listener with its fault forgotten goes on as the one of #104 does.
 -- Assumes nothing.
 use mathlib.Core.Path.{◌≡◌, refl}
-use Rattle.capture.specs.OneBus.{is_outside, inside, at_clock, shifted, ended, started, stopped, heard, gives}
+use Rattle.capture.specs.OneBus.{is_outside, at_clock, shifted, ended, started, stopped, heard, gives}
 use Rattle.capture.specs.declared.Sign.{Sign}
 use Rattle.capture.specs.declared.Sign.TheVariants.{Steady, Starts, Stops, Clocks}
-use Rattle.capture.specs.declared.Given.{Given}
-use Rattle.watch.specs.Names.{ℕ, Bool, true, false, ◌||◌, ltb, if◌then◌else◌, Master, Listener}
+use Rattle.std.specs.Prelude.{◌||◌, if◌then◌else◌}
+use Rattle.watch.specs.Names.{ℕ, Bool, true, false, ltb, Master, Listener}
 use Rattle.watch.specs.Sample.{mended}
 
 pub gives_mended : (m : Master) (g : Sign) (l : Listener) → gives m g (mended l) ≡ gives m g l

@@ -5,7 +5,8 @@ use mathlib.Core.Path.{◌≡◌, sym, ap, ◌∙◌}
 use native.Mathlib.Omega.{arith}
 use borrow.Author.Tests.{ltb-true, ltb-false, le-ltb}
 use Rattle.arbiter.proofs.Choice.{split, if_true, if_false}
-use Rattle.watch.specs.Names.{ℕ, ◌+◌, ltb}
+use Rattle.std.specs.Prelude.{◌+◌}
+use Rattle.watch.specs.Names.{ℕ, ltb}
 use Rattle.watch.specs.Stream.{top, up_to, plus}
 
 pub up_small : (n : ℕ) → n ≤ top → up_to n ≡ n

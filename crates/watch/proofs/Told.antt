@@ -6,7 +6,8 @@ use native.Mathlib.Omega.{arith}
 use lib.ListN.{take}
 use borrow.Author.Tests.{ltb-false}
 use Rattle.arbiter.proofs.Choice.{split, if_true, if_false, neither}
-use Rattle.watch.specs.Names.{ℕ, ◌+◌, true, false, List, [], ◌∷◌, ltb, length, Tally, Watcher}
+use Rattle.std.specs.Prelude.{◌+◌, ◌∷◌}
+use Rattle.watch.specs.Names.{ℕ, true, false, List, [], ltb, length, Tally, Watcher}
 use Rattle.watch.specs.Stream.{watched_at, watched}
 use Rattle.watch.specs.Told.{tells, taken}
 use Rattle.watch.specs.Answers.{SomeTaken, NoneMissed, LeftWhereTold}
@@ -93,7 +94,8 @@ left_where_told (x ∷ xs) w h =
     here : all ≡ 1 → tells w.tally (watched_at x w).tally ≡ true → at (x ∷ xs) w (all - 1) all
     here one t = let none : all - 1 ≡ 0 = omega (arith, one) in moved 0 none one (first_two x xs w t)
 
-    later : all ≡ 1 + taken xs (watched_at x w) → at xs (watched_at x w) (taken xs (watched_at x w) - 1) (taken xs (watched_at x w)) → at (x ∷ xs) w (all - 1) all
+    later : all ≡ 1 + taken xs (watched_at x w) → at xs (watched_at x w) (taken xs (watched_at x w) - 1) (taken xs (watched_at x w))
+        → at (x ∷ xs) w (all - 1) all
     later more rest =
         let k : ℕ = taken xs (watched_at x w) in
         let whole : all ≡ suc k = omega (arith, more) in

@@ -1,12 +1,12 @@
 -- What is proved of every stream of samples, each statement by its name, and all of them in one record. proofs/Answers.antt fills it with one term,
 -- so that a lost proof fails the check.
 -- Assumes nothing.
-use Rattle.std.specs.Prelude.{◌-◌, ◌≤◌, ◌<◌, ◌≡◌, take}
-use Rattle.arbiter.specs.Steps.{run_from, run}
+use Rattle.std.specs.Prelude.{◌-◌, ◌≤◌, ◌<◌, ◌≡◌, take, ◌||◌, ◌∷◌, ◌++◌, if◌then◌else◌}
+use Rattle.arbiter.specs.Steps.{run_from}
 use Rattle.capture.specs.OneBus.{inside}
 use Rattle.capture.specs.Events.{raw_of, captured}
 use Rattle.capture.specs.Import.{cut_on_either}
-use Rattle.watch.specs.Names.{ℕ, Bool, true, false, not, ◌||◌, List, [], ◌∷◌, ◌++◌, map, eqb, length, if◌then◌else◌, Kind, Event, Command, Write, Read, Stop, Pair, Lines, Tick, Pulse, Reset, GeneralCall, Settings, Check, Watcher}
+use Rattle.watch.specs.Names.{ℕ, Bool, true, false, not, List, [], map, eqb, length, Kind, Event, Command, Write, Read, Stop, Pair, Lines, Tick, Pulse, Reset, GeneralCall, Settings, Watcher}
 use Rattle.watch.specs.Stream.{up_to, watched, events_in, no_check, beginning}
 use Rattle.watch.specs.Examples.{ExamplesHold}
 use Rattle.watch.specs.Found.{checks, differing, first_or, faults}

@@ -1,11 +1,11 @@
 -- Short streams, and what is found in them: READs that differ, faults, and the events' bytes. They show the order inside one sample, when a TICK is due, what the
 -- first sample gives, and that listening goes on after a fault. They are of bus 0 at address 70h, with bus 1 idle. proofs/Examples.antt proves the table whole.
 -- Assumes nothing.
-use Rattle.std.specs.Prelude.{◌≡◌}
+use Rattle.std.specs.Prelude.{◌≡◌, ◌+◌, ◌∷◌, ◌++◌}
 use Rattle.arbiter.specs.declared.Kind.TheVariants.{Pca9641}
 use Rattle.capture.specs.Events.{event_bytes}
 use Rattle.capture.specs.Examples.{idle, clock, byte, byte_with, start, start_again, stop, command}
-use Rattle.watch.specs.Names.{ℕ, ◌+◌, Bool, true, false, List, [], ◌∷◌, ◌++◌, map, Settings, Check, Watcher}
+use Rattle.watch.specs.Names.{ℕ, Bool, true, false, List, [], map, Settings, Check, Watcher}
 use Rattle.watch.specs.Stream.{watched, events_in, beginning}
 
 -- ---- settings, and samples with the bus below

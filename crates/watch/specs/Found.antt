@@ -1,6 +1,7 @@
 -- What there is to find in a stream of samples, said without counting: all its READs in their order, which of them differ, and how many faults it has.
 -- Assumes nothing.
-use Rattle.watch.specs.Names.{ℕ, ◌+◌, List, [], ◌∷◌, ◌++◌, if◌then◌else◌, Event, Command, Write, Read, Stop, Pair, Lines, Tick, Pulse, Reset, GeneralCall, Check, Watcher}
+use Rattle.std.specs.Prelude.{◌+◌, ◌∷◌, ◌++◌, if◌then◌else◌}
+use Rattle.watch.specs.Names.{ℕ, List, [], Event, Command, Write, Read, Stop, Pair, Lines, Tick, Pulse, Reset, GeneralCall, Check, Watcher}
 use Rattle.watch.specs.Stream.{check_of, differs, followed, events_now, faults_now, watched_at}
 
 -- of one event

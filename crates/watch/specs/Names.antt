@@ -1,8 +1,8 @@
 -- Names of `watch`: the types of src/lib.rt and those that they stand on, and the library's own booleans, numbers and lists, passed on under
 -- their own names.
 -- Assumes nothing.
-pub use Rattle.std.specs.Prelude.{ℕ, ◌+◌, Bool, true, false, not, ◌&&◌, ◌||◌, List, [], ◌∷◌, ◌++◌, map, eqb, ltb, length}
-pub use Rattle.arbiter.specs.Words.{if◌then◌else◌, bit, worth, of, side}
+pub use Rattle.std.specs.Prelude.{ℕ, ◌+◌, Bool, true, false, not, ◌&&◌, ◌||◌, List, [], ◌∷◌, ◌++◌, map, eqb, ltb, length, if◌then◌else◌}
+pub use Rattle.arbiter.specs.Words.{bit, worth, of, side}
 pub use Rattle.arbiter.specs.declared.Master.{Master}
 pub use Rattle.arbiter.specs.declared.Master.TheVariants.{Zero, One}
 pub use Rattle.arbiter.specs.declared.Register.{Register}

@@ -1,9 +1,9 @@
 -- One sample of a watched bus: the events that it gives, in their order, and what is known after it. START, bits, bytes and STOP are those of request
 -- #104 (capture/specs/OneBus); what is added here is time, the bus below, and that listening goes on after a fault.
 -- Assumes nothing.
-use Rattle.std.specs.Prelude.{◌/◌, ◌%◌}
+use Rattle.std.specs.Prelude.{◌/◌, ◌%◌, ◌+◌, ◌&&◌, ◌∷◌, ◌++◌, if◌then◌else◌}
 use Rattle.capture.specs.Samples.{sampled, events_in, both_silent}
-use Rattle.watch.specs.Names.{ℕ, ◌+◌, Bool, true, false, not, ◌&&◌, List, [], ◌∷◌, ◌++◌, eqb, ltb, if◌then◌else◌, bit, worth, Event, Lines, Tick, Listener, Nothing, Both, Heard, Settings, Ear}
+use Rattle.watch.specs.Names.{ℕ, Bool, true, false, not, List, [], eqb, ltb, bit, worth, Event, Lines, Tick, Listener, Nothing, Both, Heard, Settings, Ear}
 
 -- ---- the bus below: bits 4, 5 and 6 of a sample are downstream SCL, SDA and INT_IN, if the settings say so
 

@@ -3,7 +3,8 @@
 use Rattle.arbiter.specs.Effects.{power_up}
 use Rattle.arbiter.specs.Steps.{step}
 use Rattle.capture.specs.Events.{raw_of}
-use Rattle.watch.specs.Names.{ℕ, ◌+◌, Bool, not, ◌&&◌, List, [], ◌∷◌, ◌++◌, eqb, ltb, if◌then◌else◌, worth, of, side, Master, Zero, Id, Kind, Device, Event, Command, Write, Read, Stop, Pair, Lines, Tick, Pulse, Reset, GeneralCall, Both, Settings, Check, Tally, Watcher}
+use Rattle.std.specs.Prelude.{◌+◌, ◌&&◌, ◌∷◌, ◌++◌, if◌then◌else◌}
+use Rattle.watch.specs.Names.{ℕ, Bool, not, List, [], eqb, ltb, worth, of, side, Master, Zero, Id, Kind, Device, Event, Command, Write, Read, Stop, Pair, Lines, Tick, Pulse, Reset, GeneralCall, Both, Settings, Check, Tally, Watcher}
 use Rattle.watch.specs.Sample.{heard_now, faults_in, events_at, ear_after, silent_ear}
 
 -- ---- counts stop at the top of 64 bits

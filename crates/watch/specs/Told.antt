@@ -1,8 +1,8 @@
 -- What one call of a listener takes: all samples that it is given, or those up to the first one that has something to tell. So whoever calls sees each
 -- READ that differs and each fault in its own sample, and calls again with the rest.
 -- Assumes nothing.
-use Rattle.std.specs.Prelude.{take}
-use Rattle.watch.specs.Names.{ℕ, ◌+◌, Bool, ◌||◌, List, [], ◌∷◌, ltb, if◌then◌else◌, Tally, Watcher}
+use Rattle.std.specs.Prelude.{take, ◌+◌, ◌||◌, ◌∷◌, if◌then◌else◌}
+use Rattle.watch.specs.Names.{ℕ, Bool, List, [], ltb, Tally, Watcher}
 use Rattle.watch.specs.Stream.{watched_at, watched}
 
 -- a READ that differs was counted, or a fault

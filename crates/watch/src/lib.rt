@@ -1,11 +1,13 @@
 // A listener on both upstream buses, with the device's model beside the chip: the types. What they mean is written in specs/, and specs/Lib.antt lists
 // the files in reading order.
+#![tactic(auto)]
+
 use arbiter::{Device, Master, Register};
 use capture::Both;
 
 // What a listener is told before the first sample: the device's address, how many samples are one TICK (with 0 there are no TICKs), and whether
 // bits 4 to 6 of a sample are the bus below.
-#[derive(Drop)]
+#[derive(Clone, Copy)]
 pub struct Settings {
     pub address: u8,
     pub every: u32,
@@ -13,7 +15,7 @@ pub struct Settings {
 }
 
 // What is known between two samples: whether there was one, the last one, how many came since the last TICK, and both buses.
-#[derive(Drop)]
+#[derive(Clone, Copy)]
 pub struct Ear {
     pub begun: bool,
     pub before: u8,
@@ -22,7 +24,7 @@ pub struct Ear {
 }
 
 // A READ that was heard: in which sample, by whom, of which register, the byte on SDA, and the byte that the model answers.
-#[derive(Drop)]
+#[derive(Clone, Copy)]
 pub struct Check {
     pub sample: u64,
     pub master: Master,
@@ -33,7 +35,7 @@ pub struct Check {
 
 // What was counted so far, the first READ that differed, the last READ of each master, and the sample of the first fault. Where there was none it is all
 // zeros.
-#[derive(Drop)]
+#[derive(Clone, Copy)]
 pub struct Tally {
     pub samples: u64,
     pub events: u64,
@@ -47,7 +49,7 @@ pub struct Tally {
 }
 
 // A listener between two samples, whole.
-#[derive(Drop)]
+#[derive(Clone, Copy)]
 pub struct Watcher {
     pub settings: Settings,
     pub ear: Ear,

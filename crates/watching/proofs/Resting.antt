@@ -9,25 +9,23 @@ use lib.Dec.{eqb, ltb}
 use lib.ListN.{length, get_or, take, drop}
 use lib.Seq.{take-suc, get_or-drop}
 use borrow.Author.Tests.{ltb-true, ltb-false, eqb-true, eq-eqb, ne_eqb, lt-ltb, le-ltb}
-use Rattle.arbiter.specs.Words.{if◌then◌else◌}
+use Rattle.std.specs.Prelude.{if◌then◌else◌}
 use Rattle.arbiter.proofs.Choice.{split, if_true, if_false, not_true}
 use Rattle.arbiter.specs.declared.Event.{Event}
-use Rattle.capture.specs.declared.Given.TheVariants.{Nothing}
 use Rattle.capture.specs.declared.Listener.{Listener}
-use Rattle.capture.specs.declared.Both.{Both}
 use Rattle.capture.specs.declared.Heard.{Heard}
 use Rattle.capture.specs.Events.{together}
-use Rattle.capture.specs.Samples.{sampled, events_in}
 use Rattle.hearing.specs.Light.{is_still, unheard}
 use Rattle.hearing.proofs.Light.{still_sampled}
 use Rattle.watch.specs.declared.Settings.{Settings}
 use Rattle.watch.specs.declared.Ear.{Ear}
 use Rattle.watch.specs.declared.Tally.{Tally}
 use Rattle.watch.specs.declared.Watcher.{Watcher}
-use Rattle.watch.specs.Sample.{levels_below, lines_given, heard_now, mended, both_mended, faults_in, is_timed, is_due, ticks_given, since_after, events_at, ear_after}
+use Rattle.watch.specs.Sample.{levels_below, lines_given, heard_now, mended, both_mended, faults_in, is_timed, is_due, ticks_given, since_after, events_at}
+use Rattle.watch.specs.Sample.{ear_after}
 use Rattle.watch.specs.Stream.{top, up_to, plus, followed_all, fault_with, with_sample, events_now, faults_now, heard_by, watched_at, watched}
 use Rattle.watch.specs.Told.{tells, taken}
-use Rattle.watch.proofs.Sums.{plus_twice, plus_below}
+use Rattle.watch.proofs.Sums.{plus_twice}
 use Rattle.watching.specs.Resting.{are_all, is_ready, with_samples, since_more, ear_rested, rested}
 
 -- ---- what is asked of a listener

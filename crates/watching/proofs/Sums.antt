@@ -1,12 +1,10 @@
 -- Sums that stop at the top of 64 bits, as the code makes them; and when a TICK is due, as the code asks it.
 -- Assumes nothing.
-use Prim.Native.Nat.{ℕ, ◌+◌, ◌-◌, ◌≤◌, ◌<◌}
-use mathlib.Core.Path.{◌≡◌, refl, sym, ap, ◌∙◌}
+use Prim.Native.Nat.{ℕ, ◌+◌, ◌≤◌, ◌<◌}
+use mathlib.Core.Path.{◌≡◌, refl, sym}
 use mathlib.Core.Bool.{Bool, true, false, not, ◌&&◌, false≢true}
-use native.Mathlib.Omega.{arith}
 use lib.Dec.{ltb}
-use borrow.Author.Tests.{ltb-true, ltb-false, lt-ltb, le-ltb}
-use Rattle.arbiter.proofs.Choice.{split}
+use borrow.Author.Tests.{ltb-true}
 use Rattle.watch.specs.Stream.{top, plus}
 use Rattle.watch.proofs.Sums.{up_small, up_past}
 
@@ -18,16 +16,7 @@ pub plus_in : (a b : ℕ) → a + b ≤ 18446744073709551615 → a + b ≡ plus 
 unfolding top plus
 plus_in a b h = sym (up_small (a + b) h)
 
-pub due_soon : (since every : ℕ) → since < every → not (ltb 1 (every - since)) ≡ not (ltb (since + 1) every)
-due_soon since every h =
-    split (ltb (since + 1) every)
-    (λ t. let far = ltb-true (since + 1) every t in simp (t, lt-ltb 1 (every - since) (omega arith)))
-    (λ f. let near = ltb-false (since + 1) every f in simp (f, le-ltb 1 (every - since) (omega arith)))
-
-pub due_past : (since every : ℕ) → every ≤ since → true ≡ not (ltb (since + 1) every)
-due_past since every h = simp (le-ltb (since + 1) every (omega arith))
-
--- where it is not due there is room for one more
+-- where a TICK is not due there is room for one more
 pub due_far : (timed due : Bool) (since every : ℕ) → (timed && not due) ≡ true → due ≡ not (ltb (since + 1) every) → since + 1 < every
 due_far true true since every h d = absurd (false≢true h)
 due_far true false since every h d = ltb-true (since + 1) every (not_false (ltb (since + 1) every) (sym d))

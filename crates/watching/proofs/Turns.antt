@@ -10,7 +10,7 @@ use lib.ListN.{length, get_or, take, drop, length-drop, take-append-drop}
 use lib.Seq.{drop-cons, drop-drop, take-add, length-take-le}
 use borrow.Author.Tests.{ltb-true, ltb-false}
 use Rattle.arbiter.proofs.Choice.{split}
-use Rattle.arbiter.specs.Words.{if◌then◌else◌}
+use Rattle.std.specs.Prelude.{if◌then◌else◌}
 use Rattle.watch.specs.declared.Watcher.{Watcher}
 use Rattle.watch.specs.Stream.{watched_at, watched}
 use Rattle.watch.specs.Told.{tells, taken, listened}

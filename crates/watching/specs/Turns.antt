@@ -1,7 +1,6 @@
 -- One turn of the walk through a chunk: from sample i to sample j.
 -- Assumes nothing.
-use Rattle.std.specs.Prelude.{ℕ, ◌+◌, ◌-◌, Bool, List, take, drop}
-use Rattle.arbiter.specs.Words.{if◌then◌else◌}
+use Rattle.std.specs.Prelude.{ℕ, ◌+◌, ◌-◌, Bool, List, take, drop, if◌then◌else◌}
 use Rattle.watch.specs.declared.Watcher.{Watcher}
 use Rattle.watch.specs.Stream.{watched}
 use Rattle.watch.specs.Told.{taken}

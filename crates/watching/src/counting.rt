@@ -15,6 +15,7 @@ use watch::{Check, Tally};
 // ---- numbers
 
 // Counts stop at the top of 64 bits.
+#[tactic(auto, using(crate::proofs::Sums::plus_past, crate::proofs::Sums::plus_in))]
 pub(crate) fn plus_of(a: u64, b: u64) -> u64
     ensures { result ≡ plus a b }
 {
@@ -36,6 +37,7 @@ fn check_with(sample: u64, master: Master, register: Register, heard: u8, expect
 }
 
 // The byte that the model answers is handed over: it stands in the answer of the step, which is made anyway.
+#[tactic(auto, unfolding(watch::specs::Stream::check_of))]
 fn check_of(sample: u64, s: Both, m: Master, d: Device, expected: u8) -> Check
     requires { expected ≡ (step d (raw_of (Read m))).answer.read }
     ensures { result ≡ check_of sample s m d }
@@ -66,6 +68,7 @@ fn is_different(k: Check) -> bool
 
 // ---- one event
 
+#[tactic(auto, unfolding(watch::specs::Stream::with_event))]
 fn with_event(t: Tally) -> Tally
     ensures { result ≡ with_event t }
 {
@@ -116,6 +119,7 @@ fn kept_1(k: Check, old: Check) -> Check
     }
 }
 
+#[tactic(auto, unfolding(watch::specs::Stream::with_read))]
 fn with_read(k: Check, t: Tally) -> Tally
     ensures { result ≡ with_read k t }
 {
@@ -136,6 +140,7 @@ fn with_read(k: Check, t: Tally) -> Tally
 }
 
 // An event with the byte that the model answers to it.
+#[tactic(auto, unfolding(watch::specs::Stream::tally_with))]
 pub(crate) fn tally_with(e: Event, s: Both, d: Device, t: Tally, answered: u8) -> Tally
     requires { answered ≡ (step d (raw_of e)).answer.read }
     ensures { result ≡ tally_with e s d t }
@@ -166,6 +171,7 @@ fn fault_with(faults: u64, t: Tally) -> u64
     }
 }
 
+#[tactic(auto, unfolding(watch::specs::Stream::with_sample))]
 pub(crate) fn with_sample(faults: u64, t: Tally) -> Tally
     ensures { result ≡ with_sample faults t }
 {

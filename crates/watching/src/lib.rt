@@ -1,4 +1,6 @@
 // A listener on both upstream buses, by value: so many samples of a chunk as one call takes.
+#![tactic(auto)]
+
 mod counting;
 mod sample;
 
@@ -13,14 +15,14 @@ use sample::watch_sample;
 use watch::{Ear, Settings, Tally, Watcher};
 
 // A listener after so many samples.
-#[derive(Drop)]
+#[derive(Clone, Copy)]
 pub struct Listened {
     pub watcher: Watcher,
     pub taken: usize,
 }
 
 // The same on the way, and whether the last of them has something to tell.
-#[derive(Drop)]
+#[derive(Clone, Copy)]
 pub struct Turned {
     pub watcher: Watcher,
     pub at: usize,
@@ -30,6 +32,7 @@ pub struct Turned {
 // ---- samples that repeat the one before
 
 // How many of them may come before the next TICK is due.
+#[tactic(auto, using(crate::proofs::Resting::soon_room, crate::proofs::Resting::or_true), unfolding(crate::specs::Resting::is_ready))]
 fn room_of(c: Settings, e: Ear) -> usize
     ensures { (eqb result 0 || is_ready c e result) ≡ true }
 {
@@ -48,6 +51,7 @@ fn room_of(c: Settings, e: Ear) -> usize
 }
 
 // How many samples from one on are this one.
+#[tactic(auto, unfolding(crate::specs::Resting::are_all))]
 fn count_still(samples: &[u8], from: usize, x: u8, room: usize) -> usize
     requires { from ≤ length samples.now }
     ensures { (result ≤ room) × (from + result ≤ length samples.now) × (are_all x (take result (drop from samples.now)) ≡ true) }
@@ -64,6 +68,7 @@ fn count_still(samples: &[u8], from: usize, x: u8, room: usize) -> usize
     n
 }
 
+#[tactic(auto, unfolding(crate::specs::Resting::with_samples))]
 fn with_samples(n: u64, t: Tally) -> Tally
     ensures { result ≡ with_samples n t }
 {
@@ -83,6 +88,7 @@ fn with_samples(n: u64, t: Tally) -> Tally
     }
 }
 
+#[tactic(auto, using(crate::proofs::Resting::ready_far), unfolding(crate::specs::Resting::since_more))]
 fn since_more(c: Settings, e: Ear, n: usize) -> u32
     requires { is_ready c e n ≡ true }
     ensures { result ≡ since_more c e n }
@@ -94,6 +100,7 @@ fn since_more(c: Settings, e: Ear, n: usize) -> u32
     }
 }
 
+#[tactic(auto, unfolding(crate::specs::Resting::ear_rested))]
 fn ear_rested(c: Settings, e: Ear, n: usize) -> Ear
     requires { is_ready c e n ≡ true }
     ensures { result ≡ ear_rested c e n }
@@ -107,6 +114,7 @@ fn ear_rested(c: Settings, e: Ear, n: usize) -> Ear
     }
 }
 
+#[tactic(auto, unfolding(crate::specs::Resting::rested))]
 fn rest(n: usize, w: Watcher) -> Watcher
     requires { is_ready w.settings w.ear n ≡ true }
     ensures { result ≡ rested n w }
@@ -125,6 +133,7 @@ fn rest(n: usize, w: Watcher) -> Watcher
 
 // ---- so many samples as there is nothing to tell of
 
+#[tactic(auto, unfolding(watch::specs::Told::tells))]
 fn is_told(before: Tally, after: Tally) -> bool
     ensures { result ≡ tells before after }
 {
@@ -132,6 +141,7 @@ fn is_told(before: Tally, after: Tally) -> bool
 }
 
 // One sample from this one on, or several that are alike.
+#[tactic(auto, using(crate::proofs::Resting::ready_still, crate::proofs::Turns::turn_one, crate::proofs::Turns::one_goes))]
 fn turn(samples: &[u8], i: usize, w: Watcher) -> Turned
     requires { i < length samples.now }
     ensures { (i < result.at) × (result.at ≤ length samples.now) × (result.watcher ≡ turned samples.now i result.at w) × (goes_on samples.now i result.at w result.told ≡ taken (drop i samples.now) w) }
@@ -156,6 +166,7 @@ fn turn(samples: &[u8], i: usize, w: Watcher) -> Turned
 }
 
 // Up to the first sample that has something to tell, or all of them.
+#[tactic(auto, using(arbiter::proofs::Choice::if_false, crate::proofs::Turns::goes_in, crate::proofs::Turns::turned_on, crate::proofs::Turns::taken_on), unfolding(watch::specs::Stream::watched))]
 pub fn listen(samples: &[u8], w: Watcher) -> Listened
     ensures { (result.watcher ≡ listened samples.now w) × (result.taken ≡ taken samples.now w) }
 {

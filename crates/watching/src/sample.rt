@@ -19,6 +19,7 @@ use watch::{Ear, Settings, Watcher};
 
 // ---- one event
 
+#[tactic(auto, unfolding(watch::specs::Stream::followed))]
 fn follow(e: Event, w: Watcher) -> Watcher
     ensures { result ≡ followed e w }
 {
@@ -35,6 +36,7 @@ fn follow(e: Event, w: Watcher) -> Watcher
     }
 }
 
+#[tactic(auto, unfolding(watch::specs::Stream::followed_all))]
 fn follow_few(f: Few, w: Watcher) -> Watcher
     ensures { result ≡ followed_all (listed f) w }
 {
@@ -65,6 +67,7 @@ fn lines_in(x: u8) -> Event
     Event::Lines(x / 16 % 2 == 1, x / 32 % 2 == 1, x / 64 % 2 == 1)
 }
 
+#[tactic(auto, unfolding(watch::specs::Sample::lines_given))]
 fn lines_given(c: Settings, x: u8, e: Ear) -> Few
     ensures { listed result ≡ lines_given c x e }
 {
@@ -77,6 +80,7 @@ fn lines_given(c: Settings, x: u8, e: Ear) -> Few
 
 // ---- both buses above
 
+#[tactic(auto, unfolding(watch::specs::Sample::heard_now))]
 fn heard_now(c: Settings, x: u8, e: Ear) -> Heard
     ensures { result ≡ heard_now c x e }
 {
@@ -143,6 +147,7 @@ fn is_due(c: Settings, e: Ear) -> bool
     }
 }
 
+#[tactic(auto, unfolding(watch::specs::Sample::ticks_given))]
 fn ticks_given(c: Settings, e: Ear) -> Few
     ensures { listed result ≡ ticks_given c e }
 {
@@ -153,6 +158,7 @@ fn ticks_given(c: Settings, e: Ear) -> Few
     }
 }
 
+#[tactic(auto, using(crate::proofs::Sums::due_far), unfolding(watch::specs::Sample::since_after))]
 fn since_after(c: Settings, e: Ear) -> u32
     ensures { result ≡ since_after c e }
 {
@@ -165,6 +171,7 @@ fn since_after(c: Settings, e: Ear) -> u32
 
 // ---- the whole sample
 
+#[tactic(auto, unfolding(watch::specs::Sample::ear_after))]
 fn ear_after(c: Settings, x: u8, e: Ear, heard: Both) -> Ear
     requires { heard ≡ (heard_now c x e).both }
     ensures { result ≡ ear_after c x e }
@@ -178,6 +185,7 @@ fn ear_after(c: Settings, x: u8, e: Ear, heard: Both) -> Ear
     }
 }
 
+#[tactic(auto, unfolding(watch::specs::Stream::heard_by))]
 fn heard_by(x: u8, w: Watcher, after: Watcher, heard: Both) -> Watcher
     requires { heard ≡ (heard_now w.settings x w.ear).both }
     ensures { result ≡ heard_by x w after }
@@ -195,6 +203,7 @@ fn heard_by(x: u8, w: Watcher, after: Watcher, heard: Both) -> Watcher
 }
 
 // The bus below moves first, then the buses above speak, and then time passes.
+#[tactic(auto, using(crate::proofs::Parts::sample_watched))]
 pub(crate) fn watch_sample(x: u8, w: Watcher) -> Watcher
     ensures { result ≡ watched_at x w }
 {

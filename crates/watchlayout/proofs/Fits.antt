@@ -20,7 +20,8 @@ use Rattle.watch.specs.declared.Check.{Check}
 use Rattle.watch.specs.declared.Watcher.{Watcher}
 use Rattle.watch.specs.Stream.{top}
 use Rattle.watchlayout.specs.Numbers.{double_at, long_at}
-use Rattle.watchlayout.specs.Places.{watch_length, laid, settings_in, bus_at, ear_in, check_at, tally_in, watcher_in, image_part, bytes_fit, fits_at, settings_fit}
+use Rattle.watchlayout.specs.Places.{watch_length, laid, settings_in, bus_at, ear_in, check_at, tally_in, watcher_in, image_part, bytes_fit, fits_at}
+use Rattle.watchlayout.specs.Places.{settings_fit}
 use Rattle.watchlayout.specs.Places.{bus_fits, ear_fits, check_fits, tally_fits, watch_in_range}
 use Rattle.watchlayout.specs.Calls.{is_long, watch_number, is_watch}
 use Rattle.watchlayout.specs.Laws.{Fit, Whole, BufferFits, ListenerFits}

@@ -15,7 +15,8 @@ use Rattle.capture.specs.declared.Sign.{Sign}
 use Rattle.capture.specs.declared.Sign.TheVariants.{Steady, Starts, Stops, Clocks}
 use Rattle.capture.specs.declared.Given.{Given}
 use Rattle.capture.specs.declared.Given.TheVariants.{Written, Gives}
-use Rattle.watch.specs.Names.{ℕ, ◌+◌, Bool, true, false, not, ◌&&◌, List, [], ◌∷◌, ◌++◌, eqb, ltb, if◌then◌else◌, bit, worth, Master, Zero, One, Event, Command}
+use Rattle.std.specs.Prelude.{◌+◌, ◌&&◌, ◌∷◌, ◌++◌, if◌then◌else◌}
+use Rattle.watch.specs.Names.{ℕ, Bool, true, false, not, List, [], eqb, ltb, bit, worth, Master, Zero, One, Event, Command}
 use Rattle.watch.specs.Names.{Write, Read, Stop, Pair, Lines, Tick, GeneralCall, Listener, Nothing, Both, Heard}
 use Rattle.watch.specs.declared.Settings.{Settings}
 use Rattle.watch.specs.declared.Ear.{Ear}

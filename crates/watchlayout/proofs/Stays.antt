@@ -11,7 +11,8 @@ use Rattle.ranges.specs.Ranges.{in_range, are_bytes}
 use Rattle.ranges.proofs.Ranges.{in_range_lem, stays_in_range}
 use Rattle.capture.specs.Events.{raw_of}
 use mathlib.Core.Bool.{and-eq-true_iff}
-use Rattle.watch.specs.Names.{ℕ, ◌+◌, true, not, ◌&&◌, List, [], ◌∷◌, eqb, ltb, worth, of, Master, Zero, One, Kind, Device, Event, Command, Write, Read, Stop}
+use Rattle.std.specs.Prelude.{◌+◌, ◌&&◌, ◌∷◌}
+use Rattle.watch.specs.Names.{ℕ, true, not, List, [], eqb, ltb, worth, of, Master, Zero, One, Kind, Device, Event, Command, Write, Read, Stop}
 use Rattle.watch.specs.Names.{Pair, Lines, Tick, Pulse, Reset, GeneralCall, Both}
 use Rattle.watch.specs.declared.Settings.{Settings}
 use Rattle.watch.specs.declared.Ear.{Ear}

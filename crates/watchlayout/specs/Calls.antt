@@ -1,8 +1,7 @@
 -- What the two calls of a listener answer and leave: a fresh one, and one that listens to samples. The refusals come in one order: 9 for a buffer of
 -- another length, 16 for a field outside its range; of a fresh one 9, 3 for another kind of part or another word on the bus below, and #104's 11.
 -- Assumes nothing.
-use Rattle.std.specs.Prelude.{ℕ, Bool, ◌&&◌, List, [], ◌∷◌, ◌++◌, eqb, ltb, length, take}
-use Rattle.arbiter.specs.Words.{if◌then◌else◌}
+use Rattle.std.specs.Prelude.{ℕ, Bool, ◌&&◌, List, [], ◌∷◌, ◌++◌, eqb, ltb, length, take, if◌then◌else◌}
 use Rattle.arbiter.specs.Straps.{in_range}
 use Rattle.arbiter.specs.Traces.{is_kind, kind_of}
 use Rattle.watch.specs.declared.Settings.{Settings}
