@@ -1,10 +1,9 @@
 -- A short buffer and the same with 0 after it are read as one device.
 -- Assumes nothing.
 use Prim.Native.Nat.{ℕ, zero, suc}
-use mathlib.Core.Path.{◌≡◌, refl, ap, ◌∙◌}
+use mathlib.Core.Path.{◌≡◌, refl}
 use mathlib.Core.List.{List, [], ◌∷◌, ◌++◌}
-use lib.ListN.{length, take, drop, replicate}
-use lib.Seq.{take-length}
+use lib.ListN.{length, drop, replicate}
 use Rattle.arbiter.specs.Traces.{byte_at}
 use Rattle.layout.specs.Layout.{side_in, bus_in, arb_in, device_in}
 
@@ -34,7 +33,5 @@ same_device : (l m : List ℕ) → ((i : ℕ) → byte_at i l ≡ byte_at i m) �
 unfolding device_in side_in bus_in arb_in
 same_device l m h = simp h
 
-pub padded : (b : List ℕ) (n : ℕ) → device_in (take (length b) b ++ drop (length b) (none n)) ≡ device_in b
-padded b n =
-    ap (λ (l : List ℕ). device_in (l ++ drop (length b) (none n))) (take-length b)
-    ∙ same_device (b ++ drop (length b) (none n)) b (followed b n)
+pub padded : (b : List ℕ) (n : ℕ) → device_in (b ++ drop (length b) (none n)) ≡ device_in b
+padded b n = same_device (b ++ drop (length b) (none n)) b (followed b n)

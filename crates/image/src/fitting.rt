@@ -34,6 +34,7 @@ fn contr_fits(at: usize, b: &[u8]) -> bool
 }
 
 // The registers of either master, from its first one on.
+#[tactic(auto, unfolding(layout::specs::Layout::rows_fit_too))]
 fn registers_fit(at: usize, b: &[u8]) -> bool
     requires { at < 38 }
     ensures { (m : Master) → result ≡ rows_fit at (registers m) b.now }
@@ -47,6 +48,7 @@ fn registers_fit(at: usize, b: &[u8]) -> bool
         & fits(at + 6, 1, b)
 }
 
+#[tactic(auto, unfolding(layout::specs::Layout::rows_fit_too))]
 fn counts_fit(b: &[u8]) -> bool
     ensures { result ≡ rows_fit 14 counts b.now }
 {
@@ -58,6 +60,7 @@ fn counts_fit(b: &[u8]) -> bool
         & fits(20, limit, b)
 }
 
+#[tactic(auto, unfolding(layout::specs::Layout::rows_fit_too))]
 fn shared_fit(b: &[u8]) -> bool
     ensures { result ≡ rows_fit 21 shared b.now }
 {
@@ -73,12 +76,14 @@ fn shared_fit(b: &[u8]) -> bool
         & fits(30, 1, b)
 }
 
+#[tactic(auto, unfolding(layout::specs::Layout::rows_fit_too))]
 fn port_0_fits(b: &[u8]) -> bool
     ensures { result ≡ rows_fit 32 (port Zero) b.now }
 {
     fits(32, 2, b) & fits(33, 7, b) & fits(34, 1, b)
 }
 
+#[tactic(auto, unfolding(layout::specs::Layout::rows_fit_too))]
 fn port_1_fits(b: &[u8]) -> bool
     ensures { result ≡ rows_fit 35 (port One) b.now }
 {

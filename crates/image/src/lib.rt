@@ -1,5 +1,7 @@
 // An image read: as a device, whether it is one, and a register of it. By the table of crates/layout/specs/Layout.antt. What the numbers of its
 // fields stand for is in `numbers`, and their ranges in `fitting`.
+#![tactic(auto)]
+
 mod fitting;
 mod numbers;
 
@@ -13,7 +15,6 @@ use crate::fitting::in_range;
 use crate::numbers::{control_of, last_numbered, port_numbered, switch_numbered, turn_numbered};
 use arbiter::{Arbitration, Bus, Device, Kind, Mailbox, Master, Register, Side};
 use bits::wide_u16;
-use bytes::copy;
 use fields::{arb_with, master_of, owns_turn, port_of, register_at, side_with, turn_of};
 use format::{byte_at, kind_of};
 use layout::{IMAGE_LENGTH, Shown};
@@ -73,6 +74,7 @@ fn mail_with(low: u8, high: u8, full: bool) -> Mailbox
 }
 
 // A master's registers from `at` on, and its port from `port` on.
+#[tactic(auto, unfolding(layout::specs::Layout::side_in))]
 fn side_in(at: usize, port: usize, b: &[u8]) -> Side
     requires { (at < 32) × (port < 36) × (image_length ≤ length b.now) }
     ensures { result ≡ side_in at port b.now }
@@ -89,6 +91,7 @@ fn side_in(at: usize, port: usize, b: &[u8]) -> Side
     )
 }
 
+#[tactic(auto, unfolding(layout::specs::Layout::bus_in))]
 fn bus_in(b: &[u8]) -> Bus
     requires { image_length ≤ length b.now }
     ensures { result ≡ bus_in b.now }
@@ -107,6 +110,7 @@ fn bus_in(b: &[u8]) -> Bus
     }
 }
 
+#[tactic(auto, unfolding(layout::specs::Layout::arb_in))]
 fn arb_in(b: &[u8]) -> Arbitration
     requires { image_length ≤ length b.now }
     ensures { result ≡ arb_in b.now }
@@ -121,6 +125,7 @@ fn arb_in(b: &[u8]) -> Arbitration
 }
 
 // The device of a buffer that is long enough.
+#[tactic(auto, unfolding(layout::specs::Layout::device_in))]
 fn device_in(b: &[u8]) -> Device
     requires { image_length ≤ length b.now }
     ensures { result ≡ device_in b.now }
@@ -140,7 +145,7 @@ pub fn read_image(b: &[u8]) -> Device
 {
     if b.len() < IMAGE_LENGTH {
         let mut bytes = [0u8; 38];
-        copy(b, &mut bytes);
+        bytes[..b.len()].copy_from_slice(b);
         device_in(&bytes)
     } else {
         device_in(b)
@@ -150,6 +155,7 @@ pub fn read_image(b: &[u8]) -> Device
 // ---- whether it is one
 
 // 0 for an image with every field in its range; 9 for a buffer of another length, and then 16.
+#[tactic(auto, unfolding(layout::specs::Images::image_number))]
 pub fn image_number(b: &[u8]) -> u8
     ensures { result ≡ image_number b.now }
 {
@@ -163,6 +169,7 @@ pub fn image_number(b: &[u8]) -> u8
 // ---- a register read
 
 // What a master reads of this register. The crate `registers` reads at the pointer, so the side is handed over with its pointer there.
+#[tactic(auto, using(crate::proofs::Pointer::at_pointer))]
 fn reads(
     r: Register,
     granted: bool,
@@ -198,6 +205,7 @@ fn reads_at(r: Register, m: Master, d: Device) -> u8
     }
 }
 
+#[tactic(auto, unfolding(layout::specs::Images::shown_number))]
 fn shown_number(m: u8, r: u8, b: &[u8]) -> u8
     ensures { result ≡ shown_number m r b.now }
 {
@@ -211,6 +219,7 @@ fn shown_number(m: u8, r: u8, b: &[u8]) -> u8
 
 // What a master reads of a register of an image, without an event: nothing changes. Refused by 9, 16, and then 3 for a master above 1 or a
 // register above 7.
+#[tactic(auto, unfolding(layout::specs::Images::shown))]
 pub fn read_register(m: u8, r: u8, b: &[u8]) -> Shown
     ensures { result ≡ shown m r b.now }
 {

@@ -34,7 +34,8 @@ use Rattle.imaging.proofs.OnImages.{ticks_in_range}
 
 -- ---- a jump: the counts in their place, and the other bytes as they were
 
-counts_in_place : (j : ℕ) (d : Device) → take 14 (image_of d) ++ (laid_out counts (after_ticks j d) ++ drop 7 (drop 14 (image_of d))) ≡ image_of (after_ticks j d)
+counts_in_place : (j : ℕ) (d : Device) → take 14 (image_of d) ++ (laid_out counts (after_ticks j d) ++ drop 7 (drop 14 (image_of d)))
+    ≡ image_of (after_ticks j d)
 unfolding image_of laid_out after_ticks with_counts
 counts_in_place j d = refl
 

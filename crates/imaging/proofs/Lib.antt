@@ -1,4 +1,3 @@
-pub mod Copied
 pub mod OnImages
 pub mod Leaps
 pub mod Answers

@@ -1,23 +1,21 @@
 -- An advance on an image: ticks keep the ranges, so the new record has an image; and it goes with as many TICK events on the image.
 -- Assumes nothing.
-use Prim.Native.Nat.{ℕ, zero, suc, ◌+◌, ◌<◌, ◌≤◌}
+use Prim.Native.Nat.{ℕ, zero, suc, ◌<◌, ◌≤◌}
 use mathlib.Core.Path.{◌≡◌, refl, sym, ap, subst, ◌∙◌}
 use mathlib.Core.Bool.{Bool, true, false}
-use mathlib.Core.List.{List, [], ◌∷◌}
+use mathlib.Core.List.{List}
 use native.Mathlib.Omega.{arith}
 use lib.Dec.{ltb}
 use lib.ListN.{replicate}
 use borrow.Author.Tests.{ltb-false, lt-ltb, le-ltb}
 use Rattle.arbiter.specs.Words.{worth}
 use Rattle.arbiter.specs.Steps.{step, run_from, run}
-use Rattle.arbiter.specs.declared.Kind.{Kind}
 use Rattle.arbiter.specs.declared.Device.{Device}
-use Rattle.arbiter.specs.declared.Raw.{Raw}
 use Rattle.arbiter.proofs.Choice.{either, if_true, if_false}
-use Rattle.ranges.specs.Ranges.{in_range, are_bytes}
+use Rattle.ranges.specs.Ranges.{in_range}
 use Rattle.ranges.proofs.Ranges.{in_range_lem, stays_in_range}
 use Rattle.layout.specs.Layout.{image_of, device_in}
-use Rattle.layout.specs.Images.{is_image, image_after, image_run}
+use Rattle.layout.specs.Images.{is_image, image_run}
 use Rattle.layout.proofs.Fits.{record_fits, image_fits}
 use Rattle.layout.proofs.Back.{read_back, laid_out_back}
 use Rattle.layout.proofs.Steps.{steps_alike}
@@ -27,7 +25,7 @@ use Rattle.advance.specs.Changes.{changes}
 use Rattle.advance.specs.Advance.{changing, most_ticks, advanced_with, advanced}
 use Rattle.advance.proofs.Answers.{answers}
 use Rattle.imaging.specs.declared.Told.{Told}
-use Rattle.imaging.specs.Advancing.{told_with, told_of, image_told, image_advanced}
+use Rattle.imaging.specs.Advancing.{told_of, image_told, image_advanced}
 use Rattle.imaging.specs.Laws.{AdvancedAlike, AdvancedStays, NoneAdvanced, PastAdvanced, SixOnImages}
 
 -- ---- ticks keep the ranges

@@ -1,8 +1,7 @@
 -- Request #113 on an image: what an advance of the device in a buffer tells, and what it leaves there. The refusals come in one order: 9 for a
 -- buffer of another length, 16 for a field outside its range, and then 3 past 65,535 ticks.
 -- Assumes nothing.
-use Rattle.std.specs.Prelude.{ℕ, List}
-use Rattle.arbiter.specs.Words.{if◌then◌else◌}
+use Rattle.std.specs.Prelude.{ℕ, List, if◌then◌else◌}
 use Rattle.layout.specs.Layout.{image_of, device_in}
 use Rattle.layout.specs.Images.{is_image, image_number}
 use Rattle.advance.specs.declared.Advanced.{Advanced}

@@ -18,8 +18,6 @@ use advance::MOST_TICKS;
 use advance::changes::same_shown;
 use arbiter::{Device, Raw};
 use bits::{least_u16, one_if_u32};
-use bytes::copy;
-use check::same;
 use image::{image_number, read_image};
 use quiet::{after_ticks, quiet_ticks};
 
@@ -65,7 +63,7 @@ fn jump(image: &mut [u8], j: u16)
     let bytes = counts_of(after_ticks(j, read_image(image)));
     let from = COUNTS;
     let end = COUNTS_END;
-    copy(&bytes, &mut image[from..end]);
+    image[from..end].copy_from_slice(&bytes);
 }
 
 // ---- a tick that is taken and compared
@@ -83,8 +81,8 @@ fn is_changed_in(before: &[u8], after: &[u8]) -> bool
 {
     let from = COUNTS;
     let end = COUNTS_END;
-    let first = same(&before[..from], &after[..from]);
-    let rest = same(&before[end..], &after[end..]);
+    let first = before[..from] == after[..from];
+    let rest = before[end..] == after[end..];
     !(first & rest & shows_alike(read_image(before), read_image(after)))
 }
 
@@ -94,7 +92,7 @@ fn tick_on(image: &mut [u8]) -> u32
     ensures { (result ≡ worth 1 (changes (device_in image.old) (step (device_in image.old) tick).device)) × (result ≤ 1) × (image.new ≡ image_of (step (device_in image.old) tick).device) }
 {
     let mut before = [0u8; 38];
-    copy(image, &mut before);
+    before.copy_from_slice(image);
     step_any(
         image,
         Raw {

@@ -1,4 +1,6 @@
 // A device kept as an image in a lent buffer: a fresh one, and a step on it (request #108), and an advance (request #113).
+#![tactic(auto)]
+
 pub mod advancing;
 
 ghost use Rattle.std.specs.Prelude.{◌+◌, ◌/◌, ◌%◌, ◌<◌, ◌≡◌, true, false, length};
@@ -11,7 +13,6 @@ ghost use Rattle.layout.specs.Images.{is_image, refused_by, image_answer, image_
 
 use arbiter::{Answer, Control, Device, Ground, Last, Master, Port, Raw, Switch, Turn};
 use bits::{byte_of, worth_of};
-use bytes::copy;
 use fields::{last_of, pointer_of, port_of, register_number, switch_of, turn_of};
 use format::{is_kind, kind_byte, kind_of};
 use image::{image_number, read_image};
@@ -19,7 +20,7 @@ use layout::IMAGE_LENGTH;
 use step::{fresh, step_device};
 
 // What an advance tells: its number, and how many of its ticks changed anything but counts.
-#[derive(Drop)]
+#[derive(Clone, Copy)]
 pub struct Told {
     pub number: u8,
     pub reported: u32,
@@ -193,7 +194,7 @@ pub fn write_image(d: Device, out: &mut [u8])
     ensures { out.new ≡ image_of d }
 {
     let bytes = image_of(d);
-    copy(&bytes, out);
+    out.copy_from_slice(&bytes);
 }
 
 // ---- a fresh image

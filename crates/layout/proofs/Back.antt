@@ -1,20 +1,19 @@
 -- A record in range comes back from its image, and an image in range from its record.
 -- Assumes nothing.
 use Prim.Native.Nat.{ℕ, zero, suc, ◌+◌, ◌<◌}
-use mathlib.Core.Path.{◌≡◌, refl, sym, ap, ◌∙◌}
-use mathlib.Core.Bool.{Bool, true, and-eq-true_iff}
-use mathlib.Core.List.{List, [], ◌∷◌, ◌++◌}
+use mathlib.Core.Path.{◌≡◌, sym, ap, ◌∙◌}
+use mathlib.Core.Bool.{and-eq-true_iff}
+use mathlib.Core.List.{List, [], ◌∷◌}
 use native.Mathlib.Omega.{arith}
 use lib.Dec.{leb}
-use lib.ListN.{length, get_or, drop, drop_of_length-le}
+use lib.ListN.{length, drop, drop_of_length-le}
 use lib.Seq.{drop-cons}
 use Rattle.arbiter.specs.Traces.{byte_at}
-use Rattle.ranges.specs.Ranges.{in_range, pulses}
+use Rattle.ranges.specs.Ranges.{pulses}
 use Rattle.arbiter.specs.declared.Master.TheVariants.{Zero, One}
 use Rattle.arbiter.specs.declared.Device.{Device}
 use Rattle.layout.specs.Layout.{registers, counts, shared, part, port, image_length, laid_out, image_of, word_at}
 use Rattle.layout.specs.Layout.{kind_in, side_in, bus_in, arb_in, device_in}
-use Rattle.layout.specs.Images.{is_image}
 use Rattle.layout.specs.Laws.{ReadBack, LaidOutBack}
 use Rattle.layout.proofs.Numbers.{register_back, port_back, turn_back, last_back, kind_back, flag_back, switch_back, contr_back, word_back}
 use Rattle.layout.proofs.Numbers.{register_same, port_same, turn_same, last_same, kind_same, flag_same, switch_same, contr_same, low_same, high_same}

@@ -1,8 +1,7 @@
 -- Request #108: what a step on an image answers and leaves, what a fresh image is, and what a register of an image reads. The refusals come
 -- in one order: 9 for a buffer of another length, 16 for a field outside its range, and then document 01's own.
 -- Assumes nothing.
-use Rattle.std.specs.Prelude.{ℕ, Bool, not, ◌&&◌, List, [], ◌∷◌, eqb, ltb, length}
-use Rattle.arbiter.specs.Words.{if◌then◌else◌}
+use Rattle.std.specs.Prelude.{ℕ, Bool, ◌&&◌, List, [], ◌∷◌, eqb, ltb, length, if◌then◌else◌}
 use Rattle.arbiter.specs.Registers.{reads_at}
 use Rattle.arbiter.specs.Events.{master}
 use Rattle.arbiter.specs.Effects.{register_at, power_up}

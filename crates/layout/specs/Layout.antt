@@ -2,13 +2,13 @@
 -- their order, which docs/IMAGE.md prints: what stands in each, in one byte or two, and which values are in range there. Then a device laid
 -- out by it, read back from it, and the test of the ranges.
 -- Assumes nothing.
-use Rattle.std.specs.Prelude.{ℕ, ◌+◌, ◌*◌, ◌/◌, ◌%◌, Bool, true, false, not, ◌&&◌, List, [], ◌∷◌, ◌++◌, eqb, leb}
-use Rattle.arbiter.specs.Words.{if◌then◌else◌, bit, side}
+use Rattle.std.specs.Prelude.{ℕ, ◌+◌, ◌*◌, ◌/◌, ◌%◌, Bool, true, false, not, ◌&&◌, List, [], ◌∷◌, ◌++◌, eqb, leb, if◌then◌else◌}
+use Rattle.arbiter.specs.Words.{bit, side}
 use Rattle.arbiter.specs.Rules.{limit_of}
 use Rattle.arbiter.specs.Registers.{register_number, contr_byte, control_of}
 use Rattle.arbiter.specs.Effects.{register_at}
 use Rattle.arbiter.specs.Traces.{byte_at, kind_number, kind_of}
-use Rattle.ranges.specs.Ranges.{Field, ◌upTo◌, flag, port_number, last_number, turn_number, state_number}
+use Rattle.ranges.specs.Ranges.{Field, ◌up_to◌, flag, port_number, last_number, turn_number, state_number}
 use Rattle.arbiter.specs.declared.Master.{Master}
 use Rattle.arbiter.specs.declared.Master.TheVariants.{Zero, One}
 use Rattle.arbiter.specs.declared.Kind.{Kind}

@@ -2,8 +2,7 @@
 -- are read back. (A pointer's and a kind's are register_at of Effects and kindOf of Traces.) Numbers past the top never come to it: an image
 -- with one is refused.
 -- Assumes nothing.
-use Rattle.std.specs.Prelude.{ℕ, ◌-◌, eqb, ltb}
-use Rattle.arbiter.specs.Words.{if◌then◌else◌}
+use Rattle.std.specs.Prelude.{ℕ, ◌-◌, eqb, ltb, if◌then◌else◌}
 use Rattle.arbiter.specs.declared.Master.TheVariants.{Zero, One}
 use Rattle.arbiter.specs.declared.Ground.TheVariants.{Sole, Priority, LastGranted}
 use Rattle.arbiter.specs.declared.Port.{Port}

@@ -1,14 +1,12 @@
 -- What the code decides on plain values, in the shape in which it decides it.
 -- Assumes nothing.
 use Rattle.arbiter.specs.Steps.{step}
-use Rattle.std.specs.Prelude.{ℕ, zero, suc, ◌+◌, Bool, true, false, ◌||◌, List, [], ◌∷◌, eqb, ltb, length, get_or, set}
-use Rattle.arbiter.specs.Words.{if◌then◌else◌}
+use Rattle.std.specs.Prelude.{ℕ, zero, suc, ◌+◌, Bool, true, false, ◌||◌, List, [], ◌∷◌, eqb, ltb, length, get_or, set, if◌then◌else◌}
 use Rattle.arbiter.specs.declared.Raw.{Raw}
 use Rattle.arbiter.specs.declared.Answer.{Answer}
 use Rattle.shelf.specs.declared.Record.{Record}
 use Rattle.shelf.specs.declared.Naming.{Naming}
 use Rattle.shelf.specs.declared.Naming.TheVariants.{AnAddress, APlace, Nothing}
-use Rattle.shelf.specs.declared.Fault.{Fault}
 use Rattle.shelf.specs.declared.Fault.TheVariants.{EmptyRow, TooMany, EqualAddresses, NotInRow}
 use Rattle.shelf.specs.declared.Reach.{Reach}
 use Rattle.shelf.specs.declared.Reach.TheVariants.{At, Everyone, Refused}

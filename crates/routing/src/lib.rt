@@ -1,5 +1,7 @@
 // What is decided for a shelf's row, on plain values: what is known of it once it has been looked at, whom an event reaches, and what is to be done
 // then. The crate `showing` has what one record does, and the crate `rows` goes through the row.
+#![tactic(auto)]
+
 ghost use Rattle.std.specs.Prelude.{◌≡◌, ◌≤◌};
 ghost use Rattle.shelf.specs.Shelf.{naming, fault_number, fault_answer};
 ghost use Rattle.routing.specs.Deciding.{start_of, among_first, first_at, see_of, place_below, named_in, reach_for, reach_in, no_answer, plan_with, plan_by, plan_of};
@@ -9,7 +11,7 @@ use shelf::{Fault, Naming, Reach, Record};
 
 // What is known of a row after some records: the name that is looked for and its place, how many records there are (17 for any more than
 // 16), their addresses, and whether two of these are equal.
-#[derive(Drop)]
+#[derive(Clone, Copy)]
 pub struct Seen {
     pub name: u8,
     pub count: u8,
@@ -19,7 +21,7 @@ pub struct Seen {
 }
 
 // What is handed from record to record: the event, whether one has answered already, and the answer.
-#[derive(Drop)]
+#[derive(Clone, Copy)]
 pub struct Task {
     pub event: Raw,
     pub told: bool,
@@ -27,7 +29,7 @@ pub struct Task {
 }
 
 // Which places are to make the step, from one to below another.
-#[derive(Drop)]
+#[derive(Clone, Copy)]
 pub struct Plan {
     pub from: usize,
     pub to: usize,
@@ -35,7 +37,7 @@ pub struct Plan {
 }
 
 // A record after its step, and what it hands on.
-#[derive(Drop)]
+#[derive(Clone, Copy)]
 pub struct Visited {
     pub stepped: Record,
     pub task: Task,

@@ -1,16 +1,14 @@
 -- The bytes of a row, record by record: read back, laid out again, the record at a place, and one image replaced.
 -- Assumes nothing.
-use Prim.Native.Nat.{ℕ, zero, suc, ◌+◌, ◌-◌, ◌*◌, ◌/◌, ◌%◌, ◌<◌, ◌≤◌}
+use Prim.Native.Nat.{ℕ, zero, suc, ◌+◌, ◌-◌, ◌*◌, ◌%◌, ◌<◌, ◌≤◌}
 use native.Mathlib.Omega.{arith}
-use mathlib.Core.Path.{◌≡◌, refl, sym, ap, ap₂, subst, ◌∙◌}
+use mathlib.Core.Path.{◌≡◌, refl, sym, ap, ap₂, ◌∙◌}
 use mathlib.Core.Bool.{Bool, true, false, ◌&&◌, and-true, and-eq-true_iff}
 use mathlib.Core.List.{List, [], ◌∷◌, ◌++◌, append_assoc}
 use lib.Dec.{eqb}
-use lib.ListN.{length, get_or, take, drop, set, length-append, length-drop, take-append-drop}
-use lib.Seq.{take_at, drop_at, drop-drop, get_or-drop, take-append-add, drop-append-add}
-use borrow.Author.Tests.{eq-eqb, ne_eqb, eqb-true}
-use Rattle.arbiter.specs.Words.{if◌then◌else◌}
-use Rattle.arbiter.specs.Traces.{byte_at}
+use lib.ListN.{length, take, drop, set, length-append, length-drop, take-append-drop}
+use lib.Seq.{take_at, drop_at, drop-drop, take-append-add, drop-append-add}
+use borrow.Author.Tests.{eq-eqb, eqb-true}
 use Rattle.arbiter.specs.declared.Device.{Device}
 use Rattle.arbiter.proofs.Choice.{split, if_true, if_false}
 use Rattle.ranges.specs.Ranges.{in_range}
@@ -20,7 +18,8 @@ use Rattle.layout.proofs.Fits.{whole, record_fits, image_fits}
 use Rattle.layout.proofs.Back.{read_back, laid_out_back}
 use Rattle.shelf.specs.declared.Record.{Record}
 use Rattle.shelf.specs.Shelf.{record_at, device_at}
-use Rattle.rowimage.specs.Row.{record_bytes, record_count, bytes_of_record, bytes_of_row, image_in, record_in, records_to, records_in, images_fit, row_number, is_row}
+use Rattle.rowimage.specs.Row.{record_bytes, record_count, bytes_of_record, bytes_of_row, image_in, record_in, records_to, records_in, images_fit, row_number}
+use Rattle.rowimage.specs.Row.{is_row}
 use Rattle.rowimage.specs.Walk.{image_place, with_image}
 use Rattle.rowimage.specs.Laws.{row_in_range, RowReadBack, RowLaidOutBack}
 

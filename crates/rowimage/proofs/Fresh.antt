@@ -1,16 +1,16 @@
 -- The slots of a fresh row, one after the other, and their records in the buffer.
 -- Assumes nothing.
-use Prim.Native.Nat.{ℕ, zero, suc, ◌+◌, ◌-◌, ◌*◌, ◌/◌, ◌%◌, ◌<◌, ◌≤◌}
+use Prim.Native.Nat.{ℕ, zero, suc, ◌+◌, ◌*◌, ◌/◌, ◌%◌, ◌<◌, ◌≤◌}
 use native.Mathlib.Numerals.{add-one}
 use native.Mathlib.Omega.{arith}
-use mathlib.Core.Path.{◌≡◌, refl, sym, ap, ap₂, subst, ◌∙◌}
+use mathlib.Core.Path.{◌≡◌, refl, sym, ap, ap₂, ◌∙◌}
 use mathlib.Core.Bool.{Bool, true, false, ◌&&◌, and-true, and-eq-true_iff}
 use mathlib.Core.List.{List, [], ◌∷◌, ◌++◌, append_assoc, append-nil}
 use lib.Dec.{eqb}
-use lib.ListN.{length, get_or, take, drop, set, length-append, length-take, length-drop, drop_of_length-le, length-map}
+use lib.ListN.{length, get_or, take, drop, set, length-drop, drop_of_length-le, length-map}
 use lib.Seq.{drop-drop, drop-cons, get_or-drop, take-append-add, drop-append-add, set_at, length-take-le}
 use borrow.Author.Tests.{eq-eqb, ne_eqb, eqb-true, eqb-false}
-use Rattle.arbiter.specs.Words.{if◌then◌else◌}
+use Rattle.std.specs.Prelude.{if◌then◌else◌}
 use Rattle.arbiter.specs.Effects.{power_up}
 use Rattle.arbiter.specs.Traces.{byte_at, is_kind, kind_of}
 use Rattle.arbiter.proofs.Choice.{split, if_true, if_false}
@@ -29,8 +29,8 @@ use Rattle.routing.proofs.Told.{reach_for_is}
 use Rattle.rowimage.specs.Row.{record_bytes, bytes_of_record, bytes_of_row, image_in}
 use Rattle.rowimage.specs.Slots.{slot_bytes, slot_count, slot_in, slots_to, kinds_known, row_of_slots, number_by, slots_number, is_laid_for, fresh_row_number}
 use Rattle.rowimage.specs.Slots.{fresh_row_buffer}
-use Rattle.rowimage.specs.Walk.{image_place, with_image}
-use Rattle.rowimage.proofs.Bytes.{record_long, row_long}
+use Rattle.rowimage.specs.Walk.{with_image}
+use Rattle.rowimage.proofs.Bytes.{row_long}
 
 -- ---- slots
 
@@ -133,7 +133,8 @@ laid row n = split (eqb row (record_bytes * n))
 bytes_more : (row : List Record) (c : Record) → bytes_of_row (row ++ c ∷ []) ≡ bytes_of_row row ++ bytes_of_record c
 unfolding bytes_of_row
 bytes_more [] c = append-nil (bytes_of_record c)
-bytes_more (a ∷ row) c = ap (λ (l : List ℕ). bytes_of_record a ++ l) (bytes_more row c) ∙ sym (append_assoc (bytes_of_record a) (bytes_of_row row) (bytes_of_record c))
+bytes_more (a ∷ row) c = ap (λ (l : List ℕ). bytes_of_record a ++ l) (bytes_more row c)
+    ∙ sym (append_assoc (bytes_of_record a) (bytes_of_row row) (bytes_of_record c))
 
 map_more : (slots : List Slot) (s : Slot) → fresh_row (slots ++ s ∷ []) ≡ fresh_row slots ++ fresh_record s ∷ []
 map_more [] s = refl
@@ -143,7 +144,8 @@ map_more (x ∷ slots) s = ap (λ (l : List Record). fresh_record x ∷ l) (map_
 abbrev first_bytes : ℕ → List ℕ → List ℕ
 first_bytes i slots = bytes_of_row (fresh_row (slots_to i slots))
 
-first_more : (i : ℕ) (slots : List ℕ) → first_bytes (i + 1) slots ≡ first_bytes i slots ++ bytes_of_record (fresh_record (slot_in (drop (slot_bytes * i) slots)))
+first_more : (i : ℕ) (slots : List ℕ) → first_bytes (i + 1) slots ≡ first_bytes i slots
+    ++ bytes_of_record (fresh_record (slot_in (drop (slot_bytes * i) slots)))
 first_more i slots =
     ap (λ (n : ℕ). first_bytes n slots) (add-one i) ∙ ap (λ (l : List Slot). bytes_of_row (fresh_row l)) (slots_more i slots)
     ∙ ap bytes_of_row (map_more (slots_to i slots) _) ∙ bytes_more (fresh_row (slots_to i slots)) _
@@ -196,7 +198,8 @@ module _ (slots l : List ℕ) (n i : ℕ) (known : kinds_known n slots ≡ true)
       in
       ap (λ (x : List ℕ). set x (record_bytes * i) (get_or slots (slot_bytes * i) 0)) (e ∙ ap₂ (λ (x y : List ℕ). with_image i x y) image at)
       ∙ placed (first_bytes i slots) l _ _ i (first_long i slots) inside
-      ∙ ap (λ (a : ℕ). (first_bytes i slots ++ (a ∷ image_of (power_up (slot_in (drop (slot_bytes * i) slots)).kind))) ++ drop (record_bytes * i + record_bytes) l)
+      ∙ ap (λ (a : ℕ). (first_bytes i slots ++ (a ∷ image_of (power_up (slot_in (drop (slot_bytes * i) slots)).kind)))
+      ++ drop (record_bytes * i + record_bytes) l)
       (first_byte i slots)
       ∙ ap₂ (λ (x : List ℕ) (k : ℕ). x ++ drop k l) (sym (first_more i slots)) (further i)
     where

@@ -7,10 +7,9 @@ use mathlib.Core.Bool.{Bool, true, false, false≢true}
 use mathlib.Core.List.{List}
 use lib.Dec.{eqb, ltb}
 use lib.ListN.{length, drop}
-use Rattle.arbiter.specs.Words.{if◌then◌else◌}
+use Rattle.std.specs.Prelude.{if◌then◌else◌}
 use Rattle.arbiter.specs.Steps.{answer}
 use Rattle.arbiter.specs.declared.Raw.{Raw}
-use Rattle.arbiter.specs.declared.Answer.{Answer}
 use Rattle.layout.specs.Layout.{device_in}
 use Rattle.shelf.specs.declared.Record.{Record}
 use Rattle.shelf.specs.declared.Naming.TheVariants.{APlace}
@@ -18,7 +17,7 @@ use Rattle.shelf.specs.declared.Fault.{Fault}
 use Rattle.shelf.specs.declared.Fault.TheVariants.{EmptyRow, TooMany, EqualAddresses, NotInRow}
 use Rattle.shelf.specs.declared.Reach.{Reach}
 use Rattle.shelf.specs.declared.Reach.TheVariants.{At, Everyone, Refused}
-use Rattle.shelf.specs.Shelf.{addresses_of, device_at, naming, two_equal, most_records, reach_of, reaches, fault_answer, show_by, shelf_show}
+use Rattle.shelf.specs.Shelf.{addresses_of, naming, two_equal, most_records, reach_of, reaches, fault_answer, show_by, shelf_show}
 use Rattle.shelf.proofs.Rows.{addresses_length}
 use Rattle.shelf.proofs.Found.{reached_in_row}
 use Rattle.routing.specs.declared.Seen.{Seen}

@@ -1,23 +1,22 @@
 -- One turn of each walk through a row's bytes: a part of the buffer is the image at its place, one address more is seen, one record more has
 -- made the step.
 -- Assumes nothing.
-use Prim.Native.Nat.{ℕ, zero, suc, ◌+◌, ◌-◌, ◌*◌, ◌/◌, ◌<◌, ◌≤◌}
+use Prim.Native.Nat.{ℕ, zero, suc, ◌+◌, ◌-◌, ◌*◌, ◌<◌, ◌≤◌}
 use native.Mathlib.Numerals.{add-one}
 use native.Mathlib.Omega.{arith}
 use mathlib.Core.Path.{◌≡◌, refl, sym, ap, subst, ◌∙◌}
 use mathlib.Core.Bool.{Bool, true, ◌&&◌}
-use mathlib.Core.List.{List, ◌++◌}
+use mathlib.Core.List.{List}
 use lib.Dec.{eqb}
 use lib.ListN.{length, get_or, take, drop, set}
 use lib.Seq.{drop-drop, get_or-drop, get_or-set_other}
 use Rattle.arbiter.specs.Steps.{step}
-use Rattle.arbiter.specs.Traces.{byte_at}
 use Rattle.arbiter.specs.declared.Device.{Device}
 use Rattle.arbiter.specs.declared.Raw.{Raw}
 use Rattle.arbiter.specs.declared.Answer.{Answer}
 use Rattle.ranges.specs.Ranges.{in_range}
-use Rattle.layout.specs.Layout.{image_length, image_of, device_in}
-use Rattle.layout.specs.Images.{is_image, image_number, image_answer, image_after}
+use Rattle.layout.specs.Layout.{image_length, image_of}
+use Rattle.layout.specs.Images.{image_number, image_answer, image_after}
 use Rattle.layout.proofs.Steps.{steps_alike}
 use Rattle.shelf.specs.declared.Record.{Record}
 use Rattle.shelf.specs.Shelf.{no_record, record_at, device_at, step_record, shelf_row, shelf_answer}
@@ -26,8 +25,8 @@ use Rattle.routing.specs.declared.Task.{Task}
 use Rattle.routing.specs.declared.Plan.{Plan}
 use Rattle.routing.specs.Deciding.{start_of, see_of, seen_to, seen_of, plan_of, visit_of}
 use Rattle.rows.specs.Sweeps.{turn, place_after, sweep_of, carried_out}
-use Rattle.rows.proofs.Carried.{place_sum, sweep_none, sweep_length, Does, plan_does}
-use Rattle.rowimage.specs.Row.{record_bytes, record_count, bytes_of_row, image_in, record_in, records_to, records_in, images_fit, is_row}
+use Rattle.rows.proofs.Carried.{place_sum, sweep_none, sweep_length, plan_does}
+use Rattle.rowimage.specs.Row.{record_bytes, record_count, bytes_of_row, image_in, records_to, records_in, images_fit, is_row}
 use Rattle.rowimage.specs.Walk.{image_place, with_image, told_by}
 use Rattle.rowimage.specs.Laws.{row_in_range}
 use Rattle.rowimage.proofs.Bytes.{record_at_lem, records_length, images_more, image_at, image_put, row_laid_out_back}
@@ -169,7 +168,8 @@ module _ (b : List ℕ) (good : is_row b ≡ true) where
   -- all of them
   pub plan_fits : (name : ℕ) (r : Raw) (p : Plan) → p ≡ plan_of (seen_of name (records_in b)) r → p.to ≤ record_count b
   plan_fits name r p e =
-      subst (λ (q : Plan). q.to ≤ record_count b) (sym e) (subst (λ (n : ℕ). (plan_of (seen_of name (records_in b)) r).to ≤ n) count (plan_does name r row).fits)
+      subst (λ (q : Plan). q.to ≤ record_count b) (sym e)
+      (subst (λ (n : ℕ). (plan_of (seen_of name (records_in b)) r).to ≤ n) count (plan_does name r row).fits)
 
   pub plan_done : (name : ℕ) (r : Raw) (p : Plan) (after : List ℕ) (t : Task) → p ≡ plan_of (seen_of name (records_in b)) r
       → after ≡ bytes_of_row (carried_out p (records_in b)).0 → t ≡ (carried_out p (records_in b)).1

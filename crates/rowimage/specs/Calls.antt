@@ -1,8 +1,7 @@
 -- What an event on a row in a buffer answers and leaves, and what a place of it shows. The refusals of the buffer (9, 16) come first, then the
 -- shelf's (5, 6, 17, 18), then document 01's own.
 -- Assumes nothing.
-use Rattle.std.specs.Prelude.{ℕ, List}
-use Rattle.arbiter.specs.Words.{if◌then◌else◌}
+use Rattle.std.specs.Prelude.{ℕ, List, if◌then◌else◌}
 use Rattle.arbiter.specs.declared.Raw.{Raw}
 use Rattle.arbiter.specs.declared.Answer.{Answer}
 use Rattle.layout.specs.Images.{refused_by}

@@ -1,8 +1,7 @@
 -- Request #110 for C and Rust: the row of a shelf as one lent buffer of bytes. Its records stand one after the other, each its address and
 -- then the image of its device (request #108).
 -- Assumes nothing.
-use Rattle.std.specs.Prelude.{ℕ, zero, suc, ◌/◌, ◌%◌, Bool, true, ◌&&◌, List, [], ◌∷◌, ◌++◌, eqb, length, take, drop}
-use Rattle.arbiter.specs.Words.{if◌then◌else◌}
+use Rattle.std.specs.Prelude.{ℕ, zero, suc, ◌/◌, ◌%◌, Bool, true, ◌&&◌, List, [], ◌∷◌, ◌++◌, eqb, length, take, drop, if◌then◌else◌}
 use Rattle.arbiter.specs.Traces.{byte_at}
 use Rattle.layout.specs.Layout.{image_length, image_of, device_in}
 use Rattle.layout.specs.Images.{is_image}

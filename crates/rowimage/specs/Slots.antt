@@ -1,8 +1,7 @@
 -- A fresh row, of slots that are two bytes each: an address, and the number of a kind of part. Each record is its address and the image of a
 -- device of this kind after power-up.
 -- Assumes nothing.
-use Rattle.std.specs.Prelude.{ℕ, zero, suc, ◌*◌, ◌/◌, ◌%◌, Bool, true, ◌&&◌, List, [], ◌∷◌, eqb, length, drop}
-use Rattle.arbiter.specs.Words.{if◌then◌else◌}
+use Rattle.std.specs.Prelude.{ℕ, zero, suc, ◌*◌, ◌/◌, ◌%◌, Bool, true, ◌&&◌, List, [], ◌∷◌, eqb, length, drop, if◌then◌else◌}
 use Rattle.arbiter.specs.Traces.{byte_at, is_kind, kind_of}
 use Rattle.shelf.specs.declared.Record.{Record}
 use Rattle.shelf.specs.declared.Naming.TheVariants.{Nothing}

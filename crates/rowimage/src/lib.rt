@@ -1,6 +1,8 @@
 // A shelf's row as one lent buffer of bytes (request #110): one event on it and a look at a place; a fresh row is in `slots`. Whom an event
 // reaches is decided by functions on plain values in the crate `routing`; here the buffer is tested, looked through and stepped, record by
 // record.
+#![tactic(auto)]
+
 pub mod slots;
 
 ghost use Rattle.std.specs.Prelude.{◌+◌, ◌*◌, ◌≤◌, ◌<◌, ◌≡◌, true, length, drop};

@@ -8,25 +8,23 @@ use mathlib.Core.List.{List, [], ◌∷◌, map}
 use lib.Dec.{eqb, ltb}
 use lib.ListN.{length, set, length-set}
 use borrow.Author.Tests.{eqb-false, ltb-false}
-use Rattle.arbiter.specs.Words.{if◌then◌else◌}
+use Rattle.std.specs.Prelude.{if◌then◌else◌}
 use Rattle.arbiter.specs.Steps.{step}
 use Rattle.arbiter.specs.declared.Raw.{Raw}
 use Rattle.arbiter.specs.declared.Answer.{Answer}
 use Rattle.shelf.specs.declared.Record.{Record}
-use Rattle.shelf.specs.declared.Naming.{Naming}
-use Rattle.shelf.specs.declared.Naming.TheVariants.{AnAddress, APlace, Nothing}
 use Rattle.shelf.specs.declared.Fault.{Fault}
-use Rattle.shelf.specs.declared.Fault.TheVariants.{EmptyRow, TooMany, EqualAddresses, NotInRow}
+use Rattle.shelf.specs.declared.Fault.TheVariants.{EmptyRow, TooMany}
 use Rattle.shelf.specs.declared.Reach.{Reach}
 use Rattle.shelf.specs.declared.Reach.TheVariants.{At, Everyone, Refused}
-use Rattle.shelf.specs.Shelf.{addresses_of, record_at, device_at, two_equal, naming, reach_by, reaches, step_record, row_after, fault_answer, answer_after, shelf_row}
+use Rattle.shelf.specs.Shelf.{addresses_of, record_at, device_at, reaches, step_record, row_after, answer_after, shelf_row}
 use Rattle.shelf.specs.Shelf.{shelf_answer}
 use Rattle.shelf.proofs.Rows.{addresses_length}
 use Rattle.shelf.proofs.Found.{reached_in_row}
 use Rattle.routing.specs.declared.Task.{Task}
 use Rattle.routing.specs.declared.Plan.{Plan}
 use Rattle.routing.specs.declared.Visited.{Visited}
-use Rattle.routing.specs.Deciding.{seen_of, reach_in, no_answer, plan_with, plan_by, plan_of, first_answer, visit_of}
+use Rattle.routing.specs.Deciding.{seen_of, no_answer, plan_with, plan_by, plan_of, first_answer, visit_of}
 use Rattle.routing.proofs.Told.{reach_is, count_is}
 use Rattle.rows.specs.Sweeps.{turn, place_after, sweep_of, carried_out}
 
@@ -52,6 +50,19 @@ pub sweep_length : (from k : ℕ) (s : List Record × Task) → length (sweep_of
 unfolding sweep_of
 sweep_length from zero s = refl
 sweep_length from (suc k) s = length-set (sweep_of from k s).0 (place_after from k) _ ∙ sweep_length from k s
+
+-- one turn more of the loop, at the place i
+pub visited_next : (from i : ℕ) (s : List Record × Task) (row : List Record) (t : Task) (v : Visited) → from ≤ i
+    → (row, t) ≡ sweep_of from (i - from) s → v ≡ visit_of (record_at row i) t → (set row i v.stepped, v.task) ≡ sweep_of from (i + 1 - from) s
+visited_next from i s row t v h before now =
+    ap (λ (w : Visited). (set row i w.stepped, w.task)) now ∙ ap (turn i) before ∙ ap (λ (n : ℕ). turn n (sweep_of from (i - from) s)) here
+    ∙ sweep_next from (i - from) s ∙ ap (λ (k : ℕ). sweep_of from k s) (sym next)
+  where
+    here : i ≡ place_after from (i - from)
+    here = let e = place_sum from (i - from) in omega (arith, h)
+
+    next : i + 1 - from ≡ suc (i - from)
+    next = omega (arith, h)
 
 -- ---- every record
 

@@ -1,5 +1,7 @@
 // A shelf's row lent to one event: a few thin functions over a slice of records. What they decide is decided by functions on plain values
 // in the crate `routing`; they only look at the records and act on them.
+#![tactic(auto)]
+
 ghost use Rattle.std.specs.Prelude.{◌≡◌, ◌≤◌, length};
 ghost use Rattle.shelf.specs.Shelf.{ShelfStepped, raw_of, tick_raw, reset_raw, shelf_show};
 ghost use Rattle.shelf.specs.Runs.{fresh_at};

@@ -1,10 +1,10 @@
 -- Whom an event reaches: one that reaches a place has passed every refusal, and the place has the address that was named. And what an event
 -- of unknown kind does.
 -- Assumes nothing.
-use Prim.Native.Nat.{ℕ, zero, suc, ◌<◌, ◌≤◌}
+use Prim.Native.Nat.{ℕ, suc, ◌<◌}
 use native.Mathlib.Omega.{arith}
 use mathlib.Core.Path.{◌≡◌, refl, sym, ap, ◌∙◌}
-use mathlib.Core.Bool.{Bool, true, false, true≢false, false≢true}
+use mathlib.Core.Bool.{Bool, true, false, false≢true}
 use mathlib.Core.List.{List, [], ◌∷◌, map}
 use lib.Dec.{eqb, ltb}
 use lib.ListN.{length, get_or}
@@ -15,9 +15,10 @@ use Rattle.arbiter.specs.declared.Decoded.{Decoded}
 use Rattle.arbiter.specs.declared.Decoded.TheVariants.{UnknownKind}
 use Rattle.arbiter.specs.declared.Stepped.{Stepped}
 use Rattle.arbiter.proofs.Choice.{split, if_true, if_false}
-use Rattle.shelf.specs.Names.{if◌then◌else◌, Device, Raw, Record, Naming, AnAddress, APlace, Nothing, Fault, EmptyRow, TooMany, EqualAddresses, NotInRow}
+use Rattle.std.specs.Prelude.{if◌then◌else◌}
+use Rattle.shelf.specs.Names.{Device, Raw, Record, Naming, AnAddress, APlace, Nothing, Fault, EmptyRow, TooMany, EqualAddresses, NotInRow}
 use Rattle.shelf.specs.Names.{Reach, At, Everyone, Refused}
-use Rattle.shelf.specs.Shelf.{most_records, addresses_of, device_at, naming, two_equal, further, place_of, reach_by, reaches, step_record, row_after, answer_after}
+use Rattle.shelf.specs.Shelf.{most_records, device_at, naming, two_equal, further, place_of, reach_by, reaches, step_record, row_after, answer_after}
 use Rattle.shelf.specs.Shelf.{shelf_row, shelf_answer}
 use Rattle.shelf.specs.Runs.{ReachedInRow, UnknownChangesNone}
 

@@ -3,25 +3,23 @@
 use Prim.Native.Nat.{ℕ, zero, suc, ◌+◌, ◌<◌}
 use native.Mathlib.Omega.{arith}
 use mathlib.Core.Path.{◌≡◌, refl, sym, ap, ◌∙◌, subst}
-use mathlib.Core.Bool.{Bool, true, false, false≢true}
-use mathlib.Core.List.{List, [], ◌∷◌, ◌++◌, map}
-use lib.Dec.{eqb}
-use lib.ListN.{length, get_or}
+use mathlib.Core.Bool.{true, false, false≢true}
+use mathlib.Core.List.{List, [], ◌∷◌, ◌++◌}
+use lib.ListN.{length}
 use borrow.Author.Tests.{eqb-true}
 use Rattle.arbiter.specs.Words.{partner}
 use Rattle.arbiter.specs.State.{owns, connected, is_idle}
 use Rattle.arbiter.specs.Effects.{power_up}
 use Rattle.arbiter.specs.Steps.{step, run_from, run}
 use Rattle.arbiter.specs.AuditWords.{next, requests, resting, reserve_of, reset, tick, withdrawal_of, grant_taken, ticks_in, never}
-use Rattle.arbiter.specs.declared.Master.{Master}
 use Rattle.arbiter.proofs.Choice.{split, if_true, if_false}
 use Rattle.arbiter.proofs.Runs.{from_append}
 use Rattle.arbiter.proofs.Connected.{one_connected}
 use Rattle.arbiter.proofs.Reserve.{reserve_lasts}
 use Rattle.arbiter.proofs.InTime.{partner_in_time}
-use Rattle.shelf.specs.Names.{if◌then◌else◌, Kind, Device, Raw, Answer, Record, Reach, At, Everyone, Refused}
-use Rattle.shelf.specs.Shelf.{addresses_of, record_at, device_at, reaches, reaches_place, step_record, answer_after, shelf_row, shelf_answer}
-use Rattle.shelf.specs.Runs.{Named, shelf_run, Slot, fresh_record, fresh_row, kind_at, shelf_after, reached, reached_at, reaches_at, answers_for, answers_at}
+use Rattle.shelf.specs.Names.{Kind, Device, Raw, Record, Reach, At, Everyone, Refused}
+use Rattle.shelf.specs.Shelf.{addresses_of, device_at, reaches, reaches_place, step_record, answer_after, shelf_row, shelf_answer}
+use Rattle.shelf.specs.Runs.{Named, shelf_run, Slot, fresh_row, kind_at, shelf_after, reached, reached_at, reaches_at, answers_for}
 use Rattle.shelf.specs.Runs.{AtPlace, AnswerAtPlace, EveryRunAtPlace, OneConnectedAtPlace, LaterAtPlace, ReserveLastsAtPlace, PartnerInTimeAtPlace}
 use Rattle.shelf.proofs.Rows.{keeps_addresses, addresses_length, others_same, reached_steps}
 

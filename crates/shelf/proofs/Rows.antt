@@ -1,17 +1,16 @@
 -- What one event does to a row: to its addresses, to the record that it reaches and to the others.
 -- Assumes nothing.
-use Prim.Native.Nat.{ℕ, zero, suc, ◌<◌, ◌≤◌}
+use Prim.Native.Nat.{ℕ, zero, suc, ◌<◌}
 use native.Mathlib.Omega.{arith}
 use mathlib.Core.Path.{◌≡◌, refl, sym, ap, ◌∙◌, subst}
-use mathlib.Core.Bool.{Bool, true, false, true≢false, false≢true}
+use mathlib.Core.Bool.{true, false, true≢false, false≢true}
 use mathlib.Core.List.{List, [], ◌∷◌, map}
-use lib.Dec.{eqb, ltb}
-use lib.ListN.{length, get_or, set}
-use borrow.Author.Tests.{eqb-true, eqb-false, ltb-true, ltb-false, eq-eqb}
+use lib.ListN.{length, set}
+use borrow.Author.Tests.{eqb-true, eqb-false}
 use Rattle.arbiter.specs.Steps.{step}
-use Rattle.shelf.specs.Names.{if◌then◌else◌, Device, Raw, Record, Naming, AnAddress, APlace, Nothing, Fault, EmptyRow, TooMany, EqualAddresses, NotInRow}
+use Rattle.shelf.specs.Names.{Device, Raw, Record}
 use Rattle.shelf.specs.Names.{Reach, At, Everyone, Refused}
-use Rattle.shelf.specs.Shelf.{addresses_of, no_record, record_at, device_at, naming, is_in, two_equal, further, place_of, reach_by, reaches, reaches_place}
+use Rattle.shelf.specs.Shelf.{addresses_of, record_at, reaches, reaches_place}
 use Rattle.shelf.specs.Shelf.{step_record, row_after, answer_after, shelf_row, shelf_answer}
 use Rattle.shelf.specs.Runs.{KeepsAddresses, OthersSame, ReachedSteps, AnswerAlone, RefusedSame}
 

@@ -17,7 +17,8 @@ use Rattle.arbiter.specs.Witnesses.{sets_contr}
 use Rattle.arbiter.specs.declared.Master.{Master}
 use Rattle.arbiter.specs.declared.Master.TheVariants.{Zero}
 use Rattle.arbiter.proofs.Witnesses.{Holds}
-use Rattle.shelf.specs.Names.{ℕ, true, false, List, [], ◌∷◌, ◌++◌, Device}
+use Rattle.std.specs.Prelude.{◌∷◌, ◌++◌}
+use Rattle.shelf.specs.Names.{ℕ, true, false, List, [], Device}
 use Rattle.shelf.specs.Shelf.{no_record, device_at, naming, reaches, step_record, shelf_row, shelf_answer}
 use Rattle.shelf.specs.Runs.{Named, kind_at, shelf_after, shelf_run, reached, reached_at, AnswerAtPlace, OneConnectedAtPlace, LaterAtPlace}
 use Rattle.shelf.specs.Runs.{ReserveLastsAtPlace, PartnerInTimeAtPlace, PartnerInTimeThroughoutAtPlace, IsNextAtPlace, PartnerNextAtPlace}

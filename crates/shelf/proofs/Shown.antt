@@ -7,11 +7,12 @@ use mathlib.Core.List.{List}
 use lib.Dec.{eqb, ltb}
 use lib.ListN.{length}
 use borrow.Author.Tests.{lt-ltb}
-use Rattle.arbiter.specs.Steps.{answer, step}
+use Rattle.arbiter.specs.Steps.{answer}
 use Rattle.arbiter.proofs.Choice.{if_true, if_false}
-use Rattle.shelf.specs.Names.{if◌then◌else◌, Device, Raw, Record, APlace, Fault, EmptyRow, TooMany, EqualAddresses, NotInRow, Reach, At, Everyone}
+use Rattle.std.specs.Prelude.{if◌then◌else◌}
+use Rattle.shelf.specs.Names.{Raw, Record, APlace, Fault, EmptyRow, TooMany, EqualAddresses, NotInRow, Reach, At}
 use Rattle.shelf.specs.Names.{Refused}
-use Rattle.shelf.specs.Shelf.{most_records, addresses_of, device_at, record_at, two_equal, reach_of, reaches, reaches_place, step_record, show_by, shelf_row}
+use Rattle.shelf.specs.Shelf.{most_records, addresses_of, two_equal, reach_of, reaches, reaches_place, step_record, show_by, shelf_row}
 use Rattle.shelf.specs.Shelf.{shelf_show}
 use Rattle.shelf.specs.Runs.{ShownAtPlace}
 use Rattle.shelf.proofs.Rows.{keeps_addresses, reached_steps, addresses_length}

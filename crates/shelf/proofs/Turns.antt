@@ -7,13 +7,10 @@ use mathlib.Core.List.{List, [], ◌∷◌, ◌++◌}
 use lib.ListN.{length}
 use Rattle.arbiter.specs.Words.{partner}
 use Rattle.arbiter.specs.State.{owns, claims, is_idle}
-use Rattle.arbiter.specs.Events.{decode}
-use Rattle.arbiter.specs.Steps.{run_from, run}
-use Rattle.arbiter.specs.AuditWords.{next, requests, resting, reserve_of, reset, tick, withdrawal_of, stop_of, grant_taken, grant_ended, ticks_in, never, throughout}
+use Rattle.arbiter.specs.Steps.{run_from}
+use Rattle.arbiter.specs.AuditWords.{next, requests, resting, reserve_of, reset, tick, grant_taken, grant_ended, ticks_in, never, throughout}
 use Rattle.arbiter.specs.Audit.{IsNext}
 use Rattle.arbiter.specs.declared.Master.{Master}
-use Rattle.arbiter.specs.declared.Decoded.TheVariants.{Reads}
-use Rattle.arbiter.specs.declared.Event.TheVariants.{Stop}
 use Rattle.arbiter.proofs.Runs.{from_append}
 use Rattle.arbiter.proofs.Waiting.{partner_next}
 use Rattle.arbiter.proofs.InTime.{partner_in_time_throughout}

@@ -1,8 +1,8 @@
 -- Request #110 by example: one table of what the definitions give and what the request says. proofs/Examples.antt proves it whole.
 -- Assumes nothing.
-use Rattle.std.specs.Prelude.{◌≡◌}
-use Rattle.arbiter.specs.Marks.{raw, command, write, stop, pair, lines, tick, pulse, reset, general_call, sets, both_at_contr, times}
-use Rattle.shelf.specs.Names.{ℕ, zero, suc, List, [], ◌∷◌, ◌++◌, map, length, Kind, Pca9641, Raw, Answer, Record}
+use Rattle.std.specs.Prelude.{◌≡◌, ◌∷◌, ◌++◌}
+use Rattle.arbiter.specs.Marks.{raw, command, stop, pair, lines, tick, pulse, reset, general_call, sets, both_at_contr, times}
+use Rattle.shelf.specs.Names.{ℕ, zero, suc, List, [], map, length, Pca9641, Raw, Answer, Record}
 use Rattle.shelf.specs.Shelf.{shelf_answer, shelf_show}
 use Rattle.shelf.specs.Runs.{Named, Slot, fresh_row, shelf_run}
 

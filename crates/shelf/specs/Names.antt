@@ -1,8 +1,7 @@
 -- Names of `shelf`: the types of src/lib.rt and those of the arbiter, and the library's own booleans, numbers and lists, passed on under their
 -- own names.
 -- Assumes nothing.
-pub use Rattle.std.specs.Prelude.{ℕ, zero, suc, Bool, true, false, not, ◌&&◌, ◌||◌, List, [], ◌∷◌, ◌++◌, map, eqb, ltb, length, get_or, set}
-pub use Rattle.arbiter.specs.Words.{if◌then◌else◌}
+pub use Rattle.std.specs.Prelude.{ℕ, zero, suc, Bool, true, false, not, ◌&&◌, ◌||◌, List, [], ◌∷◌, ◌++◌, map, eqb, ltb, length, get_or, set, if◌then◌else◌}
 pub use Rattle.arbiter.specs.declared.Kind.{Kind}
 pub use Rattle.arbiter.specs.declared.Kind.TheVariants.{Pca9641}
 pub use Rattle.arbiter.specs.declared.Device.{Device}

@@ -2,7 +2,7 @@
 -- by which everything said of every run of one device is said of each device of a shelf. Each statement is proved in proofs/, under the
 -- same name in small letters.
 -- Assumes nothing.
-use Rattle.std.specs.Prelude.{◌+◌, ◌<◌, ◌≤◌, ◌≡◌}
+use Rattle.std.specs.Prelude.{◌+◌, ◌<◌, ◌≤◌, ◌≡◌, ◌∷◌, ◌++◌, if◌then◌else◌}
 use Rattle.arbiter.specs.Words.{partner}
 use Rattle.arbiter.specs.State.{owns, claims, connected, is_idle}
 use Rattle.arbiter.specs.Events.{decode, decoded_number}
@@ -12,7 +12,7 @@ use Rattle.arbiter.specs.AuditWords.{next, requests, resting, reserve_of, reset,
 use Rattle.arbiter.specs.declared.Master.{Master}
 use Rattle.arbiter.specs.declared.Decoded.TheVariants.{UnknownKind, Reads}
 use Rattle.arbiter.specs.declared.Event.TheVariants.{Stop}
-use Rattle.shelf.specs.Names.{ℕ, Bool, true, false, List, [], ◌∷◌, ◌++◌, map, eqb, length, get_or, if◌then◌else◌, Kind, Pca9641, Device, Raw, Answer, Record, AnAddress, Nothing, Fault, Reach, At, Everyone, Refused}
+use Rattle.shelf.specs.Names.{ℕ, Bool, true, false, List, [], map, eqb, length, get_or, Kind, Pca9641, Device, Raw, Record, AnAddress, Fault, Reach, At, Everyone, Refused}
 use Rattle.shelf.specs.Shelf.{addresses_of, record_at, device_at, naming, reaches, reaches_place, most_records, two_equal, step_record, fault_answer, shelf_row, shelf_answer, shelf_show}
 
 -- ---- one event

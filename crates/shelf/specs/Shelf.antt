@@ -1,10 +1,10 @@
 -- Request #110: "A shelf is a lent row of up to 16 device records, each with its address." Whom an event reaches, what it answers and what
 -- it leaves of the row.
 -- Assumes nothing.
-use Rattle.std.specs.Prelude.{◌≡◌}
+use Rattle.std.specs.Prelude.{◌≡◌, ◌||◌, ◌∷◌, if◌then◌else◌}
 use Rattle.arbiter.specs.Effects.{power_up}
 use Rattle.arbiter.specs.Steps.{step, answer}
-use Rattle.shelf.specs.Names.{ℕ, suc, Bool, true, false, ◌||◌, List, [], ◌∷◌, map, eqb, ltb, length, get_or, set, if◌then◌else◌, Pca9641, Device, Raw, Answer, Record, Naming, AnAddress, APlace, Nothing, Fault, EmptyRow, TooMany, EqualAddresses, NotInRow, Reach, At, Everyone, Refused}
+use Rattle.shelf.specs.Names.{ℕ, suc, Bool, true, false, List, [], map, eqb, ltb, length, get_or, set, Pca9641, Device, Raw, Answer, Record, Naming, AnAddress, APlace, Nothing, Fault, EmptyRow, TooMany, EqualAddresses, NotInRow, Reach, At, Everyone, Refused}
 
 -- ---- the row
 

@@ -1,7 +1,7 @@
 -- Shelves and events that meet the premises of the statements of Runs: a shelf of two, with a part of each kind, looked at from either place, for
 -- both masters there. proofs/ShelfWitnesses.antt computes them all.
 -- Assumes nothing.
-use Rattle.std.specs.Prelude.{◌+◌, ◌-◌, ◌≡◌}
+use Rattle.std.specs.Prelude.{◌+◌, ◌-◌, ◌≡◌, ◌∷◌, ◌++◌, if◌then◌else◌}
 use Rattle.arbiter.specs.Words.{partner}
 use Rattle.arbiter.specs.State.{connected, is_idle}
 use Rattle.arbiter.specs.Events.{decode}
@@ -13,7 +13,7 @@ use Rattle.arbiter.specs.declared.Master.{Master}
 use Rattle.arbiter.specs.declared.Master.TheVariants.{Zero}
 use Rattle.arbiter.specs.declared.Kind.TheVariants.{Tpt29641}
 use Rattle.arbiter.specs.declared.Decoded.TheVariants.{UnknownKind}
-use Rattle.shelf.specs.Names.{ℕ, Bool, true, false, not, List, [], ◌∷◌, ◌++◌, eqb, ltb, length, if◌then◌else◌, Pca9641, Device, Raw, Record, NotInRow, At, Everyone, Refused}
+use Rattle.shelf.specs.Names.{ℕ, Bool, true, false, not, List, [], eqb, ltb, length, Pca9641, Device, Raw, Record, NotInRow, At, Everyone, Refused}
 use Rattle.shelf.specs.Shelf.{addresses_of, device_at, reaches, reaches_place}
 use Rattle.shelf.specs.Runs.{Named, Slot, shelf_after, reached_at, reaches_at, answers_at}
 use Rattle.shelf.specs.Examples.{at}

@@ -1,16 +1,18 @@
 // A shelf with several arbiters (request #110): the types. What they mean is written in specs/, and specs/Lib.antt lists the files in
 // reading order.
+#![tactic(auto)]
+
 use arbiter::Device;
 
 // One record of the row: a device and its address.
-#[derive(Drop)]
+#[derive(Clone, Copy)]
 pub struct Record {
     pub address: u8,
     pub device: Device,
 }
 
 // What an event names, by its kind: an address, a place in the row, or nothing.
-#[derive(Drop)]
+#[derive(Clone, Copy)]
 pub enum Naming {
     AnAddress,
     APlace,
@@ -18,7 +20,7 @@ pub enum Naming {
 }
 
 // Why the shelf refuses an event before any device meets it.
-#[derive(Drop)]
+#[derive(Clone, Copy)]
 pub enum Fault {
     EmptyRow,
     TooMany,
@@ -27,7 +29,7 @@ pub enum Fault {
 }
 
 // Whom an event reaches: the device at one place, every device, or none, since the shelf refuses it.
-#[derive(Drop)]
+#[derive(Clone, Copy)]
 pub enum Reach {
     At(u8),
     Everyone,

@@ -2,13 +2,13 @@
 -- Assumes nothing.
 use Prim.Native.Nat.{ℕ, zero, suc, ◌<◌, ◌≤◌}
 use native.Mathlib.Omega.{arith}
-use mathlib.Core.Path.{◌≡◌, refl, sym, ap, ◌∙◌, subst}
+use mathlib.Core.Path.{◌≡◌, refl, ap, ◌∙◌, subst}
 use mathlib.Core.Bool.{Bool, true, false}
 use mathlib.Core.List.{List}
 use lib.Dec.{eqb, ltb}
 use lib.ListN.{length}
 use borrow.Author.Tests.{eqb-true, eqb-false, ltb-true, ltb-false}
-use Rattle.arbiter.specs.Words.{if◌then◌else◌}
+use Rattle.std.specs.Prelude.{if◌then◌else◌}
 use Rattle.arbiter.specs.Steps.{answer}
 use Rattle.arbiter.specs.declared.Answer.{Answer}
 use Rattle.arbiter.proofs.Choice.{split, if_true, if_false}
@@ -17,13 +17,12 @@ use Rattle.shelf.specs.declared.Naming.TheVariants.{APlace}
 use Rattle.shelf.specs.declared.Fault.{Fault}
 use Rattle.shelf.specs.declared.Fault.TheVariants.{EmptyRow, TooMany, EqualAddresses, NotInRow}
 use Rattle.shelf.specs.declared.Reach.{Reach}
-use Rattle.shelf.specs.declared.Reach.TheVariants.{At, Everyone, Refused}
+use Rattle.shelf.specs.declared.Reach.TheVariants.{At, Refused}
 use Rattle.shelf.specs.Shelf.{addresses_of, record_at, device_at, two_equal, reach_of, show_by, shelf_show}
 use Rattle.shelf.proofs.Rows.{addresses_length}
 use Rattle.routing.specs.declared.Seen.{Seen}
 use Rattle.routing.specs.Deciding.{see_of, seen_to, seen_of, reach_for}
 use Rattle.routing.proofs.Told.{reach_for_is, seen_at}
-use Rattle.showing.specs.declared.Looked.{Looked}
 use Rattle.showing.specs.Showing.{look_start, shown_here, look_of, looked_to, looked_of, shown_with, shown_of}
 
 seen_too : (i place : ℕ) (row : List Record) → (looked_to i place row).seen ≡ seen_to i place row

@@ -1,7 +1,6 @@
 -- What the code knows of a row that it shows a place of, in the shape in which it decides it.
 -- Assumes nothing.
-use Rattle.std.specs.Prelude.{ℕ, zero, suc, Bool, List, eqb, length}
-use Rattle.arbiter.specs.Words.{if◌then◌else◌}
+use Rattle.std.specs.Prelude.{ℕ, zero, suc, Bool, List, eqb, length, if◌then◌else◌}
 use Rattle.arbiter.specs.Steps.{answer}
 use Rattle.arbiter.specs.declared.Device.{Device}
 use Rattle.arbiter.specs.declared.Answer.{Answer}

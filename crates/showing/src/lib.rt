@@ -1,5 +1,7 @@
 // What one record of a shelf does with an event, and a shelf's device shown by its place, on plain values: what is known of a row once it has been
 // looked at, and what it shows. The crate `rows` goes through the row.
+#![tactic(auto)]
+
 ghost use Rattle.std.specs.Prelude.{◌≡◌};
 ghost use Rattle.arbiter.specs.Steps.{answer};
 ghost use Rattle.routing.specs.Deciding.{first_answer, visit_of};
@@ -42,7 +44,7 @@ pub fn visit(c: Record, t: Task) -> Visited
 // ---- what a place shows
 
 // What is known of a row after some records, its name a place, and what the device at that place shows once it has been met.
-#[derive(Drop)]
+#[derive(Clone, Copy)]
 pub struct Looked {
     pub seen: Seen,
     pub answer: Answer,

@@ -9,7 +9,6 @@ ghost use Rattle.watchimage.specs.Parts.{with_part, count_bytes, read_bytes};
 
 use arbiter::Master;
 use bits::worth_of;
-use bytes::copy;
 use capture::{Awaited, Listener};
 use fields::register_number;
 use imaging::write_image;
@@ -146,7 +145,8 @@ fn put(at: usize, part: &[u8], out: &mut [u8])
     requires { at + length part.now ≤ length out.old }
     ensures { out.new ≡ with_part at part.now out.old }
 {
-    copy(part, &mut out[at..]);
+    let end = at + part.len();
+    out[at..end].copy_from_slice(part);
 }
 
 fn put_long(at: usize, n: u64, out: &mut [u8])

@@ -1,4 +1,6 @@
 // A listener kept in a lent buffer: a fresh one, and samples heard by it. What stands where is written in crates/watchlayout/specs/Places.antt.
+#![tactic(auto)]
+
 mod fitting;
 mod laying;
 mod reading;

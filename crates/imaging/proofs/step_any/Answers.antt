@@ -1,0 +1,20 @@
+-- `imaging::step_any` meets its contract.
+-- Assumes nothing.
+use mathlib.Core.Path.{sym, ap, ◌∙◌}
+use borrow.Author.Tests.{eq-eqb, ne_eqb}
+use Rattle.layout.specs.Images.{refused_by, image_answer, image_after}
+use Rattle.imaging.proofs.step_any.Goals as goal
+
+pub returns-then-number-eq0 : goal.returns-then-number-eq0
+unfolding image_answer image_after
+returns-then-number-eq0 c =
+    let good = eq-eqb _ _ (sym c.image_number-number.ensures ∙ c.if-number-eq0.true) in
+    let done = c.step_good.ensures in
+    (simp good done.0, simp good done.1)
+
+pub returns-else-number-eq0 : goal.returns-else-number-eq0
+unfolding image_answer image_after
+returns-else-number-eq0 c =
+    let number = c.image_number-number.ensures in
+    let bad = ne_eqb _ _ (λ e. c.if-number-eq0.false (number ∙ e)) in
+    (simp bad (c.refused_by.ensures ∙ ap refused_by number), simp bad)
