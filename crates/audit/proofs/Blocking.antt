@@ -2,10 +2,11 @@
 -- Assumes nothing.
 use mathlib.Core.Path.{◌≡◌, refl, sym, ap, ◌∙◌, subst}
 use mathlib.Core.Bool.{true≢false, false≢true}
-use Rattle.ranges.specs.Names.{Bool, true, false, not, ◌&&◌, List, [], ◌∷◌, eqb, Master, Zero, One, Ground, Sole, Turn, Nobody, Claims, Owns, Device, Raw}
+use Rattle.std.specs.Prelude.{◌&&◌, ◌∷◌, if◌then◌else◌}
+use Rattle.ranges.specs.Names.{Bool, true, false, not, List, [], eqb, Master, Zero, One, Ground, Sole, Turn, Nobody, Claims, Owns, Device, Raw}
 use Rattle.ranges.specs.Names.{Event, Command, Write, Read, Stop, Pair, Lines, Tick, Pulse, Reset, GeneralCall}
 use Rattle.arbiter.specs.Rules.{idle_limit}
-use Rattle.arbiter.specs.Words.{if◌then◌else◌, partner, side}
+use Rattle.arbiter.specs.Words.{partner, side}
 use Rattle.arbiter.specs.State.{owns_turn, claims_turn, is_idle}
 use Rattle.arbiter.specs.Effects.{effect}
 use Rattle.arbiter.specs.Order.{is_reset, levels, new_claim, claim_after}

@@ -2,17 +2,19 @@
 -- Assumes nothing.
 use mathlib.Core.Path.{◌≡◌, refl, sym, ap, ap₂, ◌∙◌}
 use mathlib.Core.Bool.{true≢false, false≢true, and-eq-true_iff, and-true, and-false, not-not}
-use Rattle.ranges.specs.Names.{ℕ, Bool, true, false, not, ◌&&◌, List, [], ◌∷◌, eqb, Master, Zero, One, Ground, Turn, Nobody, Owns, Register, Id, Contr, Status}
+use Rattle.std.specs.Prelude.{◌&&◌, ◌∷◌, if◌then◌else◌}
+use Rattle.ranges.specs.Names.{ℕ, Bool, true, false, not, List, [], eqb, Master, Zero, One, Ground, Turn, Nobody, Owns, Register, Id, Contr, Status}
 use Rattle.ranges.specs.Names.{Rt, IntStatus, IntMask, MailLow, MailHigh, Switch, Apart, Initialising, Closed, Clock, Side, Device, Raw, Event, Command, Write}
 use Rattle.ranges.specs.Names.{Read, Stop, Pair, Lines, Tick, Pulse, Reset, GeneralCall}
 use Rattle.arbiter.specs.Rules.{rolls}
-use Rattle.arbiter.specs.Words.{if◌then◌else◌, bit, partner, side}
+use Rattle.arbiter.specs.Words.{bit, partner, side}
 use Rattle.arbiter.specs.State.{owns, closed_for, connected}
 use Rattle.arbiter.specs.Registers.{disconnected, withdraws, own_written}
 use Rattle.arbiter.specs.Parts.{with_side}
 use Rattle.arbiter.specs.Events.{good_command, soft_reset}
 use Rattle.arbiter.specs.Effects.{commanded, write_risen, reader_side, written, paired, was_read, lined, ticked, effect}
-use Rattle.arbiter.specs.Order.{is_reset, is_tick, clock_of, cut_ticks, levels, cut_from, cut, claim, grant, switched, joined, kept_joined, connect_from, connect}
+use Rattle.arbiter.specs.Order.{is_reset, is_tick, clock_of, cut_ticks, levels, cut_from, cut, claim, grant, switched, joined, kept_joined, connect_from}
+use Rattle.arbiter.specs.Order.{connect}
 use Rattle.arbiter.specs.Steps.{parts, run_from, run}
 use Rattle.arbiter.specs.AuditWords.{next, is_contr, clears_request, lets_go, reset, never, throughout}
 use Rattle.audit.specs.Connection.{clears_connect, disconnects, disconnection_of, cut_of, ConnectionExact, StaysConnected}

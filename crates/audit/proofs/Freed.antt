@@ -6,14 +6,16 @@ use mathlib.Core.Bool.{false≢true, and-eq-true_iff}
 use native.Mathlib.Nat.{sub-zero, not-suc-le-zero}
 use native.Mathlib.Omega.{arith}
 use borrow.Author.Tests.{eq-eqb}
-use Rattle.ranges.specs.Names.{ℕ, ◌-◌, Bool, true, false, ◌&&◌, ◌||◌, List, [], ◌∷◌, eqb, Master, Zero, One, Claims, Owns, Apart, Clock, Bus, Device, Raw}
+use Rattle.std.specs.Prelude.{◌-◌, ◌&&◌, ◌||◌, ◌∷◌, if◌then◌else◌}
+use Rattle.ranges.specs.Names.{ℕ, Bool, true, false, List, [], eqb, Master, Zero, One, Claims, Owns, Apart, Clock, Bus, Device, Raw}
 use Rattle.ranges.specs.Names.{Event, Command, Write, Read, Stop, Pair, Lines, Tick, Pulse, Reset, GeneralCall}
-use Rattle.arbiter.specs.Words.{if◌then◌else◌, worth, of, side}
+use Rattle.arbiter.specs.Words.{worth, of, side}
 use Rattle.arbiter.specs.State.{owns, claims, is_idle, scl_high, sda_high}
 use Rattle.arbiter.specs.Events.{decode, in_sequence, soft_reset}
 use Rattle.arbiter.specs.Registers.{own_written, mail_written, drives_written, turn_written}
 use Rattle.arbiter.specs.Effects.{commanded, written, fresh_side, fresh_bus, fresh_arb, ticked, was_reset, hold_ticks, effect}
-use Rattle.arbiter.specs.Order.{is_reset, is_tick, clock_of, scl_changed, levels, losses_from, losses, cut_from, cut, claim, granted, grant_from, grant, connect_from}
+use Rattle.arbiter.specs.Order.{is_reset, is_tick, clock_of, scl_changed, levels, losses_from, losses, cut_from, cut, claim, granted, grant_from, grant}
+use Rattle.arbiter.specs.Order.{connect_from}
 use Rattle.arbiter.specs.Order.{connect}
 use Rattle.arbiter.specs.Steps.{parts, refused, taken, step_event, step_decoded, step, run_from, run}
 use Rattle.arbiter.specs.AuditWords.{next, requests, resting, reset, tick, ticks_in, never}

@@ -1,20 +1,21 @@
 -- Every row of specs/FurtherWitnesses.antt meets its premises: antt computes each. And they are the premises of the statement that the row is
 -- for: with the statement, they give what it concludes.
 -- Assumes nothing.
-use Prim.Native.Nat.{◌≤◌, ◌<◌}
+use Prim.Native.Nat.{◌<◌}
 use mathlib.Core.Path.{◌≡◌, refl, sym, ap, ◌∙◌, subst}
 use mathlib.Core.Bool.{false≢true, and-eq-true_iff}
 use mathlib.Core.List.{append_assoc}
 use native.Mathlib.Omega.{arith}
 use borrow.Author.Tests.{ltb-true, leb-true, eqb-true, not-true}
-use Rattle.ranges.specs.Names.{ℕ, ◌+◌, ◌*◌, Bool, true, false, not, ◌&&◌, List, [], ◌∷◌, ◌++◌, eqb, ltb, Master, Kind, Pca9641, Tpt29641, Device, Raw, Pair}
+use Rattle.std.specs.Prelude.{◌+◌, ◌*◌, ◌&&◌, ◌∷◌, ◌++◌, if◌then◌else◌}
+use Rattle.ranges.specs.Names.{ℕ, Bool, true, false, not, List, [], eqb, ltb, Master, Kind, Pca9641, Tpt29641, Device, Raw, Pair}
 use Rattle.ranges.specs.Names.{Reads}
 use Rattle.arbiter.specs.declared.Strapped.{Strapped}
 use Rattle.arbiter.specs.declared.Strapped.TheVariants.{Address, Unlisted}
 use Rattle.arbiter.specs.declared.TraceRead.TheVariants.{Accepted, Refused}
 use Rattle.arbiter.specs.declared.Refusal.TheVariants.{TraceCut}
 use Rattle.arbiter.specs.Rules.{rules_of}
-use Rattle.arbiter.specs.Words.{if◌then◌else◌, worth, byte_of}
+use Rattle.arbiter.specs.Words.{worth, byte_of}
 use Rattle.arbiter.specs.Straps.{address_of}
 use Rattle.arbiter.specs.State.{bus_hung}
 use Rattle.arbiter.specs.Registers.{contr_byte, status_byte, register_byte, is_asserted, own_written, mail_written, drives_written, turn_written}
@@ -31,7 +32,8 @@ use Rattle.arbiter.specs.Traces.{event_bytes, pins_in, count_in, read_trace}
 use Rattle.arbiter.specs.OldTraces.{old_number, converted, ConvertedAccepted, OldRefused}
 use Rattle.arbiter.specs.Marks.{lines}
 use Rattle.arbiter.specs.Witnesses.{all_met}
-use Rattle.audit.specs.FurtherWitnesses.{ground_of_choice, ground_stays, contest_is_pair, is_address_lem, converted_accepted, old_refused, ground_rows, old_rows}
+use Rattle.audit.specs.FurtherWitnesses.{ground_of_choice, ground_stays, contest_is_pair, is_address, converted_accepted, old_refused, ground_rows}
+use Rattle.audit.specs.FurtherWitnesses.{old_rows}
 use Rattle.audit.specs.FurtherWitnesses.{FurtherWitnessesMeet, SlowClockRuns}
 use Rattle.arbiter.proofs.Choice.{split, if_false}
 use Rattle.arbiter.proofs.Witnesses.{Holds}
@@ -65,14 +67,14 @@ pub contest_is_pair_met : ContestIsPair → (k : Kind) (m : Master) (rs : List R
     → (v0 : ℕ) × (v1 : ℕ) × (decode r ≡ Reads (Pair v0 v1))
 contest_is_pair_met told k m rs r (made, (contest, _)) = told k m rs r made (not-true (eqb (ground_shown r (run k rs)) 1) contest)
 
-is_address : (a : ℕ) (s : Strapped) → is_address_lem a s ≡ true → s ≡ Address a
-is_address a (Address b) h = ap Address (sym (eqb-true a b h))
-is_address a Unlisted h = absurd (false≢true h)
+is_address_lem : (a : ℕ) (s : Strapped) → is_address a s ≡ true → s ≡ Address a
+is_address_lem a (Address b) h = ap Address (sym (eqb-true a b h))
+is_address_lem a Unlisted h = absurd (false≢true h)
 
 pub converted_accepted_met : ConvertedAccepted → (t : List ℕ) (room a : ℕ) → Holds (converted_accepted t room a)
     → read_trace (converted t) room ≡ Accepted a (count_in t) Pca9641
 converted_accepted_met told t room a (old, (strapped, (fits, _))) =
-    (told t room a (eqb-true (old_number t) 0 old) (is_address a (address_of (pins_in t)) strapped) (leb-true (event_bytes * count_in t) room fits)).0
+    (told t room a (eqb-true (old_number t) 0 old) (is_address_lem a (address_of (pins_in t)) strapped) (leb-true (event_bytes * count_in t) room fits)).0
 
 pub old_refused_met : OldRefused → (t : List ℕ) (room : ℕ) → Holds (old_refused t) → read_trace t room ≡ Refused TraceCut
 old_refused_met told t room (old, _) = told t room (eqb-true (old_number t) 0 old)

@@ -7,10 +7,11 @@ use mathlib.Core.Logic.{◌⊎◌, inl, inr, ⊎_elim}
 use native.Mathlib.Nat.{eq-or-lt_of_le}
 use native.Mathlib.Omega.{arith}
 use borrow.Author.Tests.{eq-eqb, ltb-true}
-use Rattle.ranges.specs.Names.{ℕ, ◌+◌, ◌-◌, Bool, true, false, not, ◌&&◌, ◌||◌, List, [], ◌∷◌, eqb, ltb, Master, Turn, Nobody, Claims, Owns, Bus, Kind, Device}
+use Rattle.std.specs.Prelude.{◌+◌, ◌-◌, ◌&&◌, ◌||◌, ◌∷◌, if◌then◌else◌}
+use Rattle.ranges.specs.Names.{ℕ, Bool, true, false, not, List, [], eqb, ltb, Master, Turn, Nobody, Claims, Owns, Bus, Kind, Device}
 use Rattle.ranges.specs.Names.{Raw, Event}
 use Rattle.arbiter.specs.Rules.{limit_of, idle_limit}
-use Rattle.arbiter.specs.Words.{if◌then◌else◌, worth, partner}
+use Rattle.arbiter.specs.Words.{worth, partner}
 use Rattle.arbiter.specs.State.{owns, claims, is_idle}
 use Rattle.arbiter.specs.Effects.{counted_to, hold_ticks, ticked, was_reset, power_up, effect}
 use Rattle.arbiter.specs.Order.{is_reset, is_tick, clock_of, levels, losses, cut, claim, granted, grant_from, grant}

@@ -5,7 +5,8 @@ use Prim.Native.Nat.{◌≤◌}
 use mathlib.Core.Path.{◌≡◌, refl, ap, ap₂, ◌∙◌, subst}
 use mathlib.Core.Bool.{and-false}
 use borrow.Author.Tests.{ltb-true, leb-true, eqb-true, not-true}
-use Rattle.ranges.specs.Names.{ℕ, ◌+◌, Bool, true, false, not, ◌&&◌, List, [], ◌∷◌, ◌++◌, Master, Zero, One, Kind, Pca9641, Tpt29641, Device, Raw}
+use Rattle.std.specs.Prelude.{◌+◌, ◌&&◌, ◌∷◌, ◌++◌}
+use Rattle.ranges.specs.Names.{ℕ, Bool, true, false, not, List, [], Master, Zero, One, Kind, Pca9641, Tpt29641, Device, Raw}
 use Rattle.arbiter.specs.Rules.{rules_of, limit_of}
 use Rattle.arbiter.specs.Words.{worth, partner, side}
 use Rattle.arbiter.specs.State.{owns, claims, connected, is_idle, bus_hung}
@@ -22,8 +23,10 @@ use Rattle.audit.specs.Blocking.{OvertakenOnce}
 use Rattle.audit.specs.Freed.{held_reset, ResetFrees, ResetRemedies, ResetUnheld, ResetHolds}
 use Rattle.audit.specs.Connection.{disconnection_of, cut_of, ConnectionExact, StaysConnected, TransferLasts, UnownedReleased, ConnectedReleased}
 use Rattle.arbiter.specs.Witnesses.{sets_contr}
-use Rattle.audit.specs.MoreWitnesses.{claimant_blocks, claimant_yields, yields_at_rest, yields_open, lost_idle, stalled_holder, hung_holder, idle_timer_anywhere}
-use Rattle.audit.specs.MoreWitnesses.{idle_timer_to_partner, overtaken, reset_frees, reset_remedies, reset_unheld, reset_holds, connection_kept, connection_left}
+use Rattle.audit.specs.MoreWitnesses.{claimant_blocks, claimant_yields, yields_at_rest, yields_open, lost_idle, stalled_holder, hung_holder}
+use Rattle.audit.specs.MoreWitnesses.{idle_timer_anywhere}
+use Rattle.audit.specs.MoreWitnesses.{idle_timer_to_partner, overtaken, reset_frees, reset_remedies, reset_unheld, reset_holds, connection_kept}
+use Rattle.audit.specs.MoreWitnesses.{connection_left}
 use Rattle.audit.specs.MoreWitnesses.{connection_cut, stays_connected, transfer_lasts, unowned_released, connected_released, soft_reset_of, blocking_rows}
 use Rattle.audit.specs.MoreWitnesses.{freed_rows, connection_rows, MoreWitnessesMeet}
 use Rattle.arbiter.proofs.Witnesses.{Holds}

@@ -5,7 +5,8 @@ use mathlib.Core.Path.{◌≡◌, refl, sym, ap, ◌∙◌}
 use mathlib.Core.Bool.{true≢false, false≢true, and-false}
 use mathlib.Core.Logic.{◌⊎◌, inl, inr, ⊎_elim}
 use native.Mathlib.Omega.{arith}
-use Rattle.ranges.specs.Names.{Bool, true, false, not, ◌&&◌, List, [], ◌∷◌, Master, Zero, One, Ground, Sole, Turn, Nobody, Claims, Owns, Device, Raw}
+use Rattle.std.specs.Prelude.{◌&&◌, ◌∷◌}
+use Rattle.ranges.specs.Names.{Bool, true, false, not, List, [], Master, Zero, One, Ground, Sole, Turn, Nobody, Claims, Owns, Device, Raw}
 use Rattle.arbiter.specs.Words.{worth, partner}
 use Rattle.arbiter.specs.State.{owns_turn, owns, claims_turn, claims}
 use Rattle.arbiter.specs.Steps.{run}

@@ -7,9 +7,9 @@ use mathlib.Core.Bool.{true≢false, and-eq-true_iff, and-true}
 use native.Mathlib.Nat.{sub-zero}
 use native.Mathlib.Omega.{arith}
 use borrow.Author.Tests.{eq-eqb, ne_eqb, eqb-true, eqb-false, ltb-true}
-use Rattle.ranges.specs.Names.{ℕ, ◌+◌, ◌-◌, Bool, true, false, not, ◌&&◌, ◌||◌, eqb, ltb, Master, Ground, Sole, Turn, Nobody, Claims, Owns, Bus, Device, Raw}
-use Rattle.ranges.specs.Names.{Event, Tick}
-use Rattle.arbiter.specs.Words.{if◌then◌else◌, worth, partner}
+use Rattle.std.specs.Prelude.{◌+◌, ◌-◌, ◌&&◌, ◌||◌, if◌then◌else◌}
+use Rattle.ranges.specs.Names.{ℕ, Bool, true, false, not, eqb, ltb, Master, Ground, Sole, Turn, Nobody, Claims, Owns, Bus, Device, Raw, Event, Tick}
+use Rattle.arbiter.specs.Words.{worth, partner}
 use Rattle.arbiter.specs.State.{owns_turn, owns, claims_turn, claims, at_rest}
 use Rattle.arbiter.specs.Effects.{ticked, effect}
 use Rattle.arbiter.specs.Order.{is_reset, is_tick, levels, new_claim, claim_after}

@@ -5,7 +5,8 @@ use mathlib.Core.Bool.{Bool, true, false, not, ◌||◌, true≢false, false≢t
 use Rattle.ranges.specs.Names.{ℕ, List, Master, Zero, One, Ground, Turn, Nobody, Claims, Owns, Register, Id, Contr, Status, Rt, IntStatus, IntMask, MailLow}
 use Rattle.ranges.specs.Names.{MailHigh, Side, Bus, Clock, Kind, Device, Raw, Event, Command, Write, Read, Stop, Pair, Lines, Tick, Pulse, Reset, GeneralCall}
 use Rattle.arbiter.specs.Rules.{rolls}
-use Rattle.arbiter.specs.Words.{if◌then◌else◌, bit, partner, side}
+use Rattle.std.specs.Prelude.{if◌then◌else◌}
+use Rattle.arbiter.specs.Words.{bit, partner, side}
 use Rattle.arbiter.specs.Parts.{with_drives}
 use Rattle.arbiter.specs.State.{owns_turn, owns}
 use Rattle.arbiter.specs.Registers.{own_written, drives_written, turn_written}

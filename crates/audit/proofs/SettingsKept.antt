@@ -3,16 +3,18 @@
 use mathlib.Core.Path.{◌≡◌, refl, sym, ap, ap₂, ◌∙◌}
 use mathlib.Core.Bool.{true≢false, false≢true, and-eq-true_iff}
 use borrow.Author.Tests.{eq-eqb, eqb-true}
-use Rattle.ranges.specs.Names.{ℕ, ◌%◌, Bool, true, false, not, ◌&&◌, List, [], ◌∷◌, eqb, Master, Zero, One, Turn, Nobody, Claims, Owns, Register, Id, Contr}
+use Rattle.std.specs.Prelude.{◌%◌, ◌&&◌, ◌∷◌, if◌then◌else◌}
+use Rattle.ranges.specs.Names.{ℕ, Bool, true, false, not, List, [], eqb, Master, Zero, One, Turn, Nobody, Claims, Owns, Register, Id, Contr}
 use Rattle.ranges.specs.Names.{Status, Rt, IntStatus, IntMask, MailLow, MailHigh, Side, Switch, Clock, Device, Raw, Event, Command, Write, Read, Stop, Pair}
 use Rattle.ranges.specs.Names.{Lines, Tick, Pulse, Reset, GeneralCall}
 use Rattle.arbiter.specs.Rules.{rolls, idle_limit}
-use Rattle.arbiter.specs.Words.{if◌then◌else◌, partner, side}
+use Rattle.arbiter.specs.Words.{partner, side}
 use Rattle.arbiter.specs.State.{owns}
 use Rattle.arbiter.specs.Registers.{withdraws, control_of, own_written, mail_written}
 use Rattle.arbiter.specs.Events.{good_command, soft_reset}
 use Rattle.arbiter.specs.Effects.{commanded, write_risen, reader_side, written, paired, was_read, lined, ticked, fresh_side, was_reset, hold_asked, effect}
-use Rattle.arbiter.specs.Order.{is_reset, is_tick, clock_of, runs_out, levels, lost, losses_from, losses, cut_from, cut, claim, granted, grant_from, grant, connect}
+use Rattle.arbiter.specs.Order.{is_reset, is_tick, clock_of, runs_out, levels, lost, losses_from, losses, cut_from, cut, claim, granted, grant_from, grant}
+use Rattle.arbiter.specs.Order.{connect}
 use Rattle.arbiter.specs.Steps.{parts, run_from}
 use Rattle.arbiter.specs.AuditWords.{next, reserve_of, is_contr, accepted, reset, never, throughout}
 use Rattle.audit.specs.SettingsKept.{lasting_bits, bits_of, mask_of, is_rt, is_int_mask, writes_at, byte_by, writes_to_contr, stores, stores_rt, rt_is}

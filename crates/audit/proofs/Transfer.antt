@@ -3,7 +3,8 @@
 use Prim.Native.Nat.{◌<◌}
 use mathlib.Core.Path.{◌≡◌, refl, ap, ap₂}
 use native.Mathlib.Omega.{arith}
-use Rattle.ranges.specs.Names.{◌+◌, ◌-◌, Bool, true, not, ◌&&◌, List, [], ◌∷◌, ◌++◌, Master, Device, Raw}
+use Rattle.std.specs.Prelude.{◌+◌, ◌-◌, ◌&&◌, ◌∷◌, ◌++◌}
+use Rattle.ranges.specs.Names.{Bool, true, not, List, [], Master, Device, Raw}
 use Rattle.arbiter.specs.Words.{worth}
 use Rattle.arbiter.specs.State.{owns}
 use Rattle.arbiter.specs.Steps.{run_from, run}

@@ -5,7 +5,8 @@ use mathlib.Core.Path.{◌≡◌, refl, sym, ap, ap₂, ◌∙◌, subst}
 use mathlib.Core.Bool.{true≢false, false≢true, or-true, and-eq-true_iff}
 use native.Mathlib.Omega.{arith}
 use borrow.Author.Tests.{eq-eqb, lt-ltb, ltb-true}
-use Rattle.ranges.specs.Names.{ℕ, ◌+◌, ◌-◌, Bool, true, false, not, ◌&&◌, ◌||◌, List, [], ◌∷◌, ◌++◌, eqb, ltb, Master, Zero, One, Kind, Device, Raw}
+use Rattle.std.specs.Prelude.{◌+◌, ◌-◌, ◌&&◌, ◌||◌, ◌∷◌, ◌++◌}
+use Rattle.ranges.specs.Names.{ℕ, Bool, true, false, not, List, [], eqb, ltb, Master, Zero, One, Kind, Device, Raw}
 use Rattle.arbiter.specs.Words.{worth}
 use Rattle.arbiter.specs.State.{owns}
 use Rattle.arbiter.specs.Effects.{power_up}
@@ -42,7 +43,8 @@ next_within m most r d ok unstored w =
           let good : is_within most (byte_by m e) ≡ true =
           other_holds (stores m e d) (is_within most (byte_by m e)) is (sym (x.same λ f y. stores m f y && not (is_within most (byte_by m f))) ∙ unstored) in
           let now : reserve_of m (next d r) ≡ byte_by m e =
-          rt_stored m d r (byte_by m e) (x.same (λ f y. stores m f y && eqb (byte_by m f) (byte_by m e)) ∙ ap₂ ◌&&◌ is (eq-eqb (byte_by m e) (byte_by m e) refl)) in
+          rt_stored m d r (byte_by m e)
+          (x.same (λ f y. stores m f y && eqb (byte_by m f) (byte_by m e)) ∙ ap₂ ◌&&◌ is (eq-eqb (byte_by m e) (byte_by m e) refl)) in
           ap (is_within most) now ∙ good)
     ])
     (λ h. ap (is_within most) (rt_kept m d r ok h) ∙ w)

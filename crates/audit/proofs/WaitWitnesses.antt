@@ -7,7 +7,8 @@ use lib.Dec.{leb}
 use native.Mathlib.Nat.{add-zero}
 use native.Mathlib.Omega.{arith}
 use borrow.Author.Tests.{leb-true}
-use Rattle.ranges.specs.Names.{ℕ, ◌+◌, Bool, true, not, ◌&&◌, List, [], ◌∷◌, ltb, Master, Kind, Pca9641, Tpt29641, Device, Raw}
+use Rattle.std.specs.Prelude.{◌+◌, ◌&&◌, ◌∷◌}
+use Rattle.ranges.specs.Names.{ℕ, Bool, true, not, List, [], ltb, Master, Kind, Pca9641, Tpt29641, Device, Raw}
 use Rattle.arbiter.specs.Rules.{rules_of}
 use Rattle.arbiter.specs.Words.{worth, byte_of, partner}
 use Rattle.arbiter.specs.State.{owns, is_idle}

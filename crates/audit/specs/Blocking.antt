@@ -1,8 +1,8 @@
 -- How long can one controller keep the bus from the other? Statements over every run of either kind of part.
 -- proofs/Blocking.antt, proofs/IdleAnywhere.antt and proofs/Overtaking.antt prove them.
 -- Assumes nothing.
-use Rattle.std.specs.Prelude.{◌≤◌, ◌≡◌}
-use Rattle.ranges.specs.Names.{ℕ, ◌+◌, Bool, true, false, not, ◌&&◌, ◌||◌, List, [], ◌∷◌, Master, Kind, Device, Raw}
+use Rattle.std.specs.Prelude.{◌≤◌, ◌≡◌, ◌+◌, ◌&&◌, ◌||◌, ◌∷◌}
+use Rattle.ranges.specs.Names.{ℕ, Bool, true, false, not, List, [], Master, Kind, Device, Raw}
 use Rattle.arbiter.specs.Rules.{limit_of}
 use Rattle.arbiter.specs.Words.{worth, partner}
 use Rattle.arbiter.specs.State.{owns, claims, is_idle}

@@ -1,8 +1,8 @@
 -- How long does a connection last, and when do the drives pull a line? Statements over every run of either kind of part.
 -- proofs/Connection.antt, proofs/Transfer.antt and proofs/Released.antt prove them.
 -- Assumes nothing.
-use Rattle.std.specs.Prelude.{◌<◌, ◌≡◌}
-use Rattle.ranges.specs.Names.{ℕ, Bool, true, false, not, ◌&&◌, List, ◌++◌, eqb, Master, Kind, Side, Device, Raw, Event, Command, Write, Read, Stop, Pair, Lines, Tick, Pulse, Reset, GeneralCall}
+use Rattle.std.specs.Prelude.{◌<◌, ◌≡◌, ◌&&◌, ◌++◌}
+use Rattle.ranges.specs.Names.{ℕ, Bool, true, false, not, List, eqb, Master, Kind, Side, Device, Raw, Event, Command, Write, Read, Stop, Pair, Lines, Tick, Pulse, Reset, GeneralCall}
 use Rattle.arbiter.specs.Words.{bit, same_master, of, side}
 use Rattle.arbiter.specs.State.{owns, connected}
 use Rattle.arbiter.specs.Steps.{run_from, run}

@@ -2,8 +2,8 @@
 -- A reset is the only remedy that the partner has against a claimant that does not send its STOP, or a holder whose bus stays busy (Blocking):
 -- its own GENERAL CALL of 06h, or the pin. Either takes its own settings away too.
 -- Assumes nothing.
-use Rattle.std.specs.Prelude.{◌<◌, ◌≡◌}
-use Rattle.ranges.specs.Names.{◌+◌, ◌-◌, Bool, true, false, ◌&&◌, List, ◌∷◌, Master, Apart, Kind, Device, Raw, Event, Command, Write, Read, Stop, Pair, Lines, Tick, Pulse, Reset, GeneralCall}
+use Rattle.std.specs.Prelude.{◌<◌, ◌≡◌, ◌+◌, ◌-◌, ◌&&◌, ◌∷◌}
+use Rattle.ranges.specs.Names.{Bool, true, false, List, Master, Apart, Kind, Device, Raw, Event, Command, Write, Read, Stop, Pair, Lines, Tick, Pulse, Reset, GeneralCall}
 use Rattle.arbiter.specs.Words.{worth, of, side}
 use Rattle.arbiter.specs.State.{owns, claims}
 use Rattle.arbiter.specs.Events.{soft_reset}

@@ -1,8 +1,8 @@
 -- Runs and traces that meet the premises of further statements of the arbiter: the ground of a claim (Grounds), a clock that runs (Hung), and
 -- traces from before the kind of part (OldTraces). proofs/FurtherWitnesses.antt proves them.
 -- Assumes nothing.
-use Rattle.std.specs.Prelude.{◌≡◌, leb}
-use Rattle.ranges.specs.Names.{ℕ, ◌*◌, Bool, true, false, not, List, [], ◌∷◌, ◌++◌, eqb, Master, Kind, Device, Raw}
+use Rattle.std.specs.Prelude.{◌≡◌, leb, ◌*◌, ◌∷◌, ◌++◌}
+use Rattle.ranges.specs.Names.{ℕ, Bool, true, false, not, List, [], eqb, Master, Kind, Device, Raw}
 use Rattle.arbiter.specs.declared.Strapped.{Strapped}
 use Rattle.arbiter.specs.declared.Strapped.TheVariants.{Address, Unlisted}
 use Rattle.arbiter.specs.Words.{partner, of}
@@ -31,12 +31,12 @@ ground_stays k m rs r later t =
 abbrev pub contest_is_pair : Kind → Master → List Raw → Raw → List Bool
 contest_is_pair k m rs r = claim_made m r (run k rs) ∷ not (eqb (ground_shown r (run k rs)) 1) ∷ []
 
-abbrev pub is_address_lem : ℕ → Strapped → Bool
-is_address_lem a (Address b) = eqb a b
-is_address_lem a Unlisted = false
+abbrev pub is_address : ℕ → Strapped → Bool
+is_address a (Address b) = eqb a b
+is_address a Unlisted = false
 
 abbrev pub converted_accepted : List ℕ → ℕ → ℕ → List Bool
-converted_accepted t room a = eqb (old_number t) 0 ∷ is_address_lem a (address_of (pins_in t)) ∷ leb (event_bytes * count_in t) room ∷ []
+converted_accepted t room a = eqb (old_number t) 0 ∷ is_address a (address_of (pins_in t)) ∷ leb (event_bytes * count_in t) room ∷ []
 
 abbrev pub old_refused : List ℕ → List Bool
 old_refused t = eqb (old_number t) 0 ∷ []

@@ -1,8 +1,8 @@
 -- Runs that meet the premises of the statements of Blocking, Freed and Connection, each for both masters of a part of each kind.
 -- proofs/MoreWitnesses.antt proves the table whole.
 -- Assumes nothing.
-use Rattle.std.specs.Prelude.{◌≡◌, leb}
-use Rattle.ranges.specs.Names.{ℕ, ◌+◌, ◌-◌, Bool, true, not, List, [], ◌∷◌, ◌++◌, eqb, ltb, Master, Zero, One, Kind, Device, Raw}
+use Rattle.std.specs.Prelude.{◌≡◌, leb, ◌+◌, ◌-◌, ◌∷◌, ◌++◌}
+use Rattle.ranges.specs.Names.{ℕ, Bool, true, not, List, [], eqb, ltb, Master, Zero, One, Kind, Device, Raw}
 use Rattle.arbiter.specs.Rules.{limit_of}
 use Rattle.arbiter.specs.Words.{partner, of, side}
 use Rattle.arbiter.specs.State.{owns, claims, connected, is_idle, bus_hung}

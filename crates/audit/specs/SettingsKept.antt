@@ -1,8 +1,8 @@
 -- What changes a master's settings, its RT, the four bits of its CONTR that stay as they were written, and its INT_MSK: its own byte there, or a
 -- reset, and nothing else. proofs/SettingsKept.antt proves it.
 -- Assumes nothing.
-use Rattle.std.specs.Prelude.{◌≡◌}
-use Rattle.ranges.specs.Names.{ℕ, ◌%◌, Bool, true, false, not, ◌&&◌, List, eqb, Master, Register, Id, Contr, Status, Rt, IntStatus, IntMask, MailLow, MailHigh, Control, Device, Raw, Event, Command, Write, Read, Stop, Pair, Lines, Tick, Pulse, Reset, GeneralCall}
+use Rattle.std.specs.Prelude.{◌≡◌, ◌%◌, ◌&&◌}
+use Rattle.ranges.specs.Names.{ℕ, Bool, true, false, not, List, eqb, Master, Register, Id, Contr, Status, Rt, IntStatus, IntMask, MailLow, MailHigh, Control, Device, Raw, Event, Command, Write, Read, Stop, Pair, Lines, Tick, Pulse, Reset, GeneralCall}
 use Rattle.arbiter.specs.Words.{bit, same_master, of, side}
 use Rattle.arbiter.specs.State.{owns}
 use Rattle.arbiter.specs.Steps.{run_from}

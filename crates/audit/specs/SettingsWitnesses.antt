@@ -1,8 +1,8 @@
 -- Runs that meet the premises of the statements of SettingsKept and WaitAsSet, for both masters of a part of each kind, each with what the statement says
 -- of it. proofs/SettingsWitnesses.antt computes them all.
 -- Assumes nothing.
-use Rattle.std.specs.Prelude.{◌≡◌}
-use Rattle.ranges.specs.Names.{ℕ, ◌+◌, Bool, true, not, ◌&&◌, List, [], ◌∷◌, ◌++◌, eqb, ltb, Master, Zero, One, Kind, Device, Raw, Event}
+use Rattle.std.specs.Prelude.{◌≡◌, ◌+◌, ◌&&◌, ◌∷◌, ◌++◌}
+use Rattle.ranges.specs.Names.{ℕ, Bool, true, not, List, [], eqb, ltb, Master, Zero, One, Kind, Device, Raw, Event}
 use Rattle.arbiter.specs.Words.{worth, partner, of, side}
 use Rattle.arbiter.specs.State.{owns, is_idle}
 use Rattle.arbiter.specs.Steps.{run_from, run}
@@ -10,7 +10,7 @@ use Rattle.arbiter.specs.AuditWords.{next, requests, resting, reserve_of, is_con
 use Rattle.arbiter.specs.Marks.{command, write, pair, tick, reset as pinReset, general_call, sets, times}
 use Rattle.arbiter.specs.Witnesses.{number, sets_rt, sets_contr, writes_contr, stop_on, all_met}
 use Rattle.audit.specs.WorstWait.{reserves_within, sends_stops}
-use Rattle.audit.specs.SettingsKept.{mask_of, is_rt, is_int_mask, writes_at, byte_by, stores, stores_rt, writes_to_contr, writes_to_mask}
+use Rattle.audit.specs.SettingsKept.{mask_of, is_int_mask, writes_at, byte_by, stores, stores_rt, writes_to_contr, writes_to_mask}
 use Rattle.audit.specs.WaitAsSet.{is_within, stores_beyond}
 
 -- ---- what is seen of a master

@@ -1,8 +1,8 @@
 -- The worst wait from what a master's RT was set to: over events that store nothing else in it, its reserve stays within that, and so does the
 -- wait of its partner. proofs/WaitAsSet.antt proves it.
 -- Assumes nothing.
-use Rattle.std.specs.Prelude.{◌≤◌, ◌≡◌}
-use Rattle.ranges.specs.Names.{ℕ, ◌+◌, Bool, true, not, ◌&&◌, List, ◌++◌, ltb, Master, Zero, One, Kind, Device, Raw, Event}
+use Rattle.std.specs.Prelude.{◌≤◌, ◌≡◌, ◌+◌, ◌&&◌, ◌++◌}
+use Rattle.ranges.specs.Names.{ℕ, Bool, true, not, List, ltb, Master, Zero, One, Kind, Device, Raw, Event}
 use Rattle.arbiter.specs.Words.{partner}
 use Rattle.arbiter.specs.State.{owns, is_idle}
 use Rattle.arbiter.specs.Steps.{run_from, run}

@@ -1,8 +1,8 @@
 -- Runs that reach the figures of WorstWait, for both masters of a part of each kind: one tick earlier the partner still waits.
 -- proofs/WaitWitnesses.antt computes them all.
 -- Assumes nothing.
-use Rattle.std.specs.Prelude.{◌≡◌, leb}
-use Rattle.ranges.specs.Names.{ℕ, ◌+◌, Bool, true, not, ◌&&◌, List, [], ◌∷◌, ◌++◌, eqb, ltb, Master, Zero, One, Kind, Device, Raw}
+use Rattle.std.specs.Prelude.{◌≡◌, leb, ◌+◌, ◌&&◌, ◌∷◌, ◌++◌}
+use Rattle.ranges.specs.Names.{ℕ, Bool, true, not, List, [], eqb, ltb, Master, Zero, One, Kind, Device, Raw}
 use Rattle.arbiter.specs.Words.{worth, partner}
 use Rattle.arbiter.specs.State.{owns, is_idle}
 use Rattle.arbiter.specs.Steps.{run}

@@ -1,8 +1,8 @@
 -- A worst wait, in one figure. proofs/WorstWait.antt proves it, and WaitWitnesses has runs that reach it.
 -- Assumes nothing.
-use Rattle.std.specs.Prelude.{◌≤◌, ◌≡◌}
-use Rattle.ranges.specs.Names.{ℕ, ◌+◌, Bool, true, not, ◌&&◌, ◌||◌, List, [], ◌∷◌, ltb, Master, Kind, Device, Raw}
-use Rattle.arbiter.specs.Words.{if◌then◌else◌, worth, partner}
+use Rattle.std.specs.Prelude.{◌≤◌, ◌≡◌, ◌+◌, ◌&&◌, ◌||◌, ◌∷◌, if◌then◌else◌}
+use Rattle.ranges.specs.Names.{ℕ, Bool, true, not, List, [], ltb, Master, Kind, Device, Raw}
+use Rattle.arbiter.specs.Words.{worth, partner}
 use Rattle.arbiter.specs.State.{owns, claims, is_idle}
 use Rattle.arbiter.specs.Steps.{run_from, run}
 use Rattle.arbiter.specs.AuditWords.{next, requests, resting, reserve_of, reset, tick, ticks_in, never, throughout}

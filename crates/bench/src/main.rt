@@ -1,25 +1,30 @@
 // The bench: one standing device, lent to each event of the trace on standard input. It prints what the listing does.
-ghost use Rattle.std.specs.Prelude.{◌≤◌, ◌≡◌};
+#![tactic(auto)]
+
+ghost use Rattle.std.specs.Prelude.{◌≤◌, ◌≡◌, ◌++◌, IfOk, IfSome, OnOk};
 ghost use Rattle.arbiter.specs.Effects.{power_up};
-ghost use Rattle.arbiter.specs.Steps.{run};
+ghost use Rattle.std.specs.Io.KnownBytes.{Appends};
+ghost use Rattle.arbiter.specs.Steps.{run, answers_from};
+ghost use Rattle.arbiter.specs.Listing.{head_line, answer_line, answer_lines, listing};
 ghost use Rattle.arbiter.specs.Traces.{most_events, raws_in, event_count};
 ghost use Rattle.format.specs.Places.{events_part, event_at, kind_in};
 
 use arbiter::{Answer, Device, Raw, TraceRead};
 use format::{ANSWER_ROOM, MOST_BYTES, count_in, event_at, events_in, kind_at, kind_of};
 use lent::step_lent;
-use libc::{STDIN_FILENO, STDOUT_FILENO};
-use printing::print_listing;
+use printing::{print_listing, read_full};
+use std::io;
 use step::fresh;
 use text::{high_digit, low_digit};
 use traces::reading::read_trace;
 
-const NAME: [u8; 5] = [b'b', b'e', b'n', b'c', b'h'];
+const NAME: &str = "bench";
 
 // ---- printing
 
-fn print_head(address: u8, n: usize)
+fn print_head<W: io::Write>(out: &mut W, address: u8, n: usize) -> io::Result<()>
     requires { n ≤ most_events }
+    ensures { OnOk result (Appends (W.contents out.old) (W.contents out.new) (head_line address n)) }
 {
     let h = (n / 256) as u8;
     let l = (n % 256) as u8;
@@ -33,10 +38,12 @@ fn print_head(address: u8, n: usize)
         low_digit(l),
         b'\n',
     ];
-    io::write_all(STDOUT_FILENO, &line);
+    out.write_all(&line)
 }
 
-fn print_answer(a: Answer) {
+fn print_answer<W: io::Write>(out: &mut W, a: Answer) -> io::Result<()>
+    ensures { OnOk result (Appends (W.contents out.old) (W.contents out.new) (answer_line a)) }
+{
     let line = [
         high_digit(a.outcome),
         low_digit(a.outcome),
@@ -48,7 +55,7 @@ fn print_answer(a: Answer) {
         low_digit(a.lines),
         b'\n',
     ];
-    io::write_all(STDOUT_FILENO, &line);
+    out.write_all(&line)
 }
 
 // ---- the standing device
@@ -69,52 +76,58 @@ fn event_of(t: &[u8], i: usize) -> Raw
 
 // The first n events of a trace, each answered by a line. The device stands here from power-up on: each step has it lent, and leaves
 // the new state in it.
-fn drive(t: &[u8], n: usize) -> Device
+fn drive<W: io::Write>(out: &mut W, t: &[u8], n: usize) -> io::Result<Device>
     requires { n ≤ event_count (events_part t.now) }
-    ensures { result ≡ run (kind_in t.now) (raws_in n (events_part t.now)) }
+    ensures device { IfOk result (λ d. d ≡ run (kind_in t.now) (raws_in n (events_part t.now))) }
+    ensures lines { OnOk result (Appends (W.contents out.old) (W.contents out.new)
+        (answer_lines (answers_from (power_up (kind_in t.now)) (raws_in n (events_part t.now))))) }
 {
     let mut standing = fresh_for(t);
     let mut i: usize = 0;
     while i < n {
         let r = event_of(t, i);
         let a = step_lent(&mut standing, r);
-        print_answer(a);
+        print_answer(out, a)?;
         i += 1;
     }
-    standing
+    Ok(standing)
 }
 
 // ---- the program
 
-fn print_accepted(t: &[u8], address: u8, n: usize)
+fn print_accepted<W: io::Write>(out: &mut W, t: &[u8], address: u8, n: usize) -> io::Result<()>
     requires { (n ≤ event_count (events_part t.now)) × (n ≤ most_events) }
+    ensures { OnOk result (Appends (W.contents out.old) (W.contents out.new)
+        (head_line address n ++ answer_lines (answers_from (power_up (kind_in t.now)) (raws_in n (events_part t.now))))) }
 {
-    print_head(address, n);
-    drive(t, n);
+    print_head(out, address, n)?;
+    drive(out, t, n)?;
+    Ok(())
 }
 
 // A refused trace has no events to drive: its listing is its number.
-fn print_trace(t: &[u8]) {
+fn print_trace<W: io::Write>(out: &mut W, t: &[u8]) -> io::Result<()>
+    ensures { OnOk result (Appends (W.contents out.old) (W.contents out.new) (listing t.now)) }
+{
     let read = read_trace(t, ANSWER_ROOM);
     match read {
-        TraceRead::Refused(_) => {
-            print_listing(t);
-        }
-        TraceRead::Accepted(address, n, _) => print_accepted(t, address, n),
+        TraceRead::Refused(_) => print_listing(out, t),
+        TraceRead::Accepted(address, n, _) => print_accepted(out, t, address, n),
     }
 }
 
-fn main() {
+// Where the bytes of the input are known, what is printed is their listing, however many they are.
+fn run_bench<R: io::Read, W: io::Write>(from: &mut R, out: &mut W) -> io::Result<()>
+    ensures { OnOk result (IfSome (R.remaining from.old) (λ xs. Appends (W.contents out.old) (W.contents out.new) (listing xs))) }
+{
     // One byte more than the longest trace tells a longer input.
     let mut input = [0u8; MOST_BYTES + 1];
-    let n = io::read_full(STDIN_FILENO, &mut input);
-    // errno is 0 when a program starts, and reads and writes that succeed leave it so.
-    if os::errno() != 0 {
-        os::fail(&NAME);
-        return;
-    }
-    print_trace(&input[..n]);
-    if os::errno() != 0 {
-        os::fail(&NAME);
+    let n = read_full(from, &mut input)?;
+    print_trace(out, &input[..n])
+}
+
+fn main(rt: HostRuntime) {
+    if let Err(e) = run_bench(&mut rt.stdin(), &mut rt.stdout()) {
+        let _ = eprintln!(rt; "{NAME}: {e}");
     }
 }

@@ -1,47 +1,64 @@
 // Reads a trace from before the kind of part (#105) on standard input and writes it with the section of a PCA9641 added, or R and the number of
 // its refusal.
+#![tactic(auto)]
+
+ghost use Rattle.std.specs.Prelude.{◌≡◌, ◌<◌, ◌≤◌, IfSome, OnOk, take};
+ghost use Rattle.std.specs.Io.KnownBytes.{Appends};
+ghost use Rattle.arbiter.specs.Traces.{most_bytes};
+ghost use Rattle.convert.specs.Text.{refused_line, conversion_text};
+
 use arbiter::Written;
 use converter::convert_trace;
 use format::MOST_BYTES;
-use libc::{STDIN_FILENO, STDOUT_FILENO};
+use printing::read_full;
+use std::io;
 
-const NAME: [u8; 7] = [b'c', b'o', b'n', b'v', b'e', b'r', b't'];
+const NAME: &str = "convert";
 
 // R and the number: the numbers are 5, 6, 7, 8 and 10, since the buffer has room for every trace.
-fn write_refused(number: u8) -> bool {
+fn write_refused<W: io::Write>(out: &mut W, number: u8) -> io::Result<()>
+    ensures { number ≤ 10 → OnOk result (Appends (W.contents out.old) (W.contents out.new) (refused_line number)) }
+{
     if number == 10 {
-        return io::write_all(STDOUT_FILENO, &[b'R', b'1', b'0', b'\n']);
+        return out.write_all(&[b'R', b'1', b'0', b'\n']);
     }
-    io::write_all(STDOUT_FILENO, &[b'R', b'0' + number % 10, b'\n'])
+    out.write_all(&[b'R', b'0' + number % 10, b'\n'])
 }
 
-// The first bytes of the buffer, which has them all.
-fn write_front(trace: &[u8], n: usize) -> bool {
+// The first bytes of the buffer, which has them all. (Nothing tells this function so; of fewer it would write those.)
+fn write_front<W: io::Write>(out: &mut W, trace: &[u8], n: usize) -> io::Result<()>
+    ensures { OnOk result (Appends (W.contents out.old) (W.contents out.new) (take n trace.now)) }
+{
     if trace.len() < n {
-        return false;
+        return out.write_all(trace);
     }
-    io::write_all(STDOUT_FILENO, &trace[..n])
+    out.write_all(&trace[..n])
 }
 
-fn write_converted(w: Written, trace: &[u8]) -> bool {
+fn write_converted<W: io::Write>(out: &mut W, w: Written, trace: &[u8]) -> io::Result<()>
+    ensures converted { w.number ≡ 0 → OnOk result (Appends (W.contents out.old) (W.contents out.new) (take w.length trace.now)) }
+    ensures refused { 0 < w.number → w.number ≤ 10 → OnOk result (Appends (W.contents out.old) (W.contents out.new) (refused_line w.number)) }
+{
     if w.number == 0 {
-        return write_front(trace, w.length);
+        return write_front(out, trace, w.length);
     }
-    write_refused(w.number)
+    write_refused(out, w.number)
 }
 
-fn main() {
+// Where the bytes of the input are known, its first ones are the trace.
+fn run<R: io::Read, W: io::Write>(from: &mut R, out: &mut W) -> io::Result<()>
+    ensures { OnOk result (IfSome (R.remaining from.old) (λ xs. Appends (W.contents out.old) (W.contents out.new) (conversion_text (take most_bytes xs)))) }
+{
     // The longest old trace is shorter than this by the section. More bytes than that are refused with 7, as they are.
     let mut input = [0u8; MOST_BYTES];
-    let n = io::read_full(STDIN_FILENO, &mut input);
-    // errno is 0 when a program starts, and reads that succeed leave it so.
-    if os::errno() != 0 {
-        os::fail(&NAME);
-        return;
-    }
+    let n = read_full(from, &mut input)?;
     let mut trace = [0u8; MOST_BYTES];
     let w = convert_trace(&input[..n], &mut trace);
-    if !write_converted(w, &trace) {
-        os::fail(&NAME);
+    write_converted(out, w, &trace)
+}
+
+fn main(rt: HostRuntime) {
+    if let Err(e) = run(&mut rt.stdin(), &mut rt.stdout()) {
+        let _ = eprintln!(rt; "{NAME}: {e}");
     }
 }

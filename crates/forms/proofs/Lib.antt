@@ -1,2 +1,1 @@
-pub mod Everyone
-pub mod Standing
+mod Texts

@@ -4,19 +4,24 @@
 // Standard input has a board sheet and a house sheet of 15 bytes each, then events of five: a name, and the event's four. Printed are a line a
 // box: its section and controller, and the two bytes that were found, or a dash; and a line an event: its five bytes, what the shelf answers, and
 // what one device by itself answers to the same four bytes.
-ghost use Rattle.std.specs.Prelude.{◌≡◌, ◌+◌, ◌≤◌, length};
+#![tactic(auto)]
+
+ghost use Rattle.std.specs.Prelude.{◌≡◌, ◌+◌, ◌≤◌, ◌++◌, length, IfOk, OnOk};
+ghost use Rattle.std.specs.Io.KnownBytes.{Appends};
+ghost use Rattle.arbiter.specs.Listing.{hex2, space, newline};
 ghost use Rattle.shelf.specs.Shelf.{shelf_row, tick_raw, reset_raw};
 
 use arbiter::{Answer, Kind, Raw};
 use lent::step_standing;
-use libc::{STDIN_FILENO, STDOUT_FILENO};
+use printing::read_full;
 use rows::{fresh_record, reset_all, route_event, tick_all};
 use sheets::lookup::look_up;
 use shelf::Record;
+use std::io;
 use step::fresh;
 use text::{high_digit, low_digit};
 
-const NAME: [u8; 5] = [b'f', b'o', b'r', b'm', b's'];
+const NAME: &str = "forms";
 
 const TICK: u8 = 6;
 
@@ -35,62 +40,76 @@ const DEVICES: usize = 2;
 
 // ---- printing
 
-fn print_byte(v: u8) {
-    io::write_all(STDOUT_FILENO, &[high_digit(v), low_digit(v)]);
+fn print_byte<W: io::Write>(out: &mut W, v: u8) -> io::Result<()>
+    ensures { OnOk result (Appends (W.contents out.old) (W.contents out.new)
+        (hex2 v)) }
+{
+    out.write_all(&[high_digit(v), low_digit(v)])
 }
 
-fn print_end() {
-    io::write_all(STDOUT_FILENO, &[b'\n']);
+fn print_end<W: io::Write>(out: &mut W) -> io::Result<()>
+    ensures { OnOk result (Appends (W.contents out.old) (W.contents out.new)
+        (newline)) }
+{
+    out.write_all(&[b'\n'])
 }
 
 // The four bytes of an answer, after a space.
-fn print_answer(a: Answer) {
-    io::write_all(STDOUT_FILENO, &[b' ']);
-    print_byte(a.outcome);
-    print_byte(a.read);
-    print_byte(a.owner);
-    print_byte(a.lines);
+fn print_answer<W: io::Write>(out: &mut W, a: Answer) -> io::Result<()>
+    ensures { OnOk result (Appends (W.contents out.old) (W.contents out.new)
+        (space ++ hex2 a.outcome ++ hex2 a.read ++ hex2 a.owner ++ hex2 a.lines)) }
+{
+    out.write_all(&[b' '])?;
+    print_byte(out, a.outcome)?;
+    print_byte(out, a.read)?;
+    print_byte(out, a.owner)?;
+    print_byte(out, a.lines)
 }
 
-fn print_event(name: u8, r: Raw) {
-    print_byte(name);
-    io::write_all(STDOUT_FILENO, &[b' ']);
-    print_byte(r.kind);
-    print_byte(r.x);
-    print_byte(r.y);
-    print_byte(r.z);
+fn print_event<W: io::Write>(out: &mut W, name: u8, r: Raw) -> io::Result<()>
+    ensures { OnOk result (Appends (W.contents out.old) (W.contents out.new)
+        (hex2 name ++ space ++ hex2 r.kind ++ hex2 r.x ++ hex2 r.y ++ hex2 r.z)) }
+{
+    print_byte(out, name)?;
+    out.write_all(&[b' '])?;
+    print_byte(out, r.kind)?;
+    print_byte(out, r.x)?;
+    print_byte(out, r.y)?;
+    print_byte(out, r.z)
 }
 
 // ---- the sheets
 
 // A refusal hands back no byte.
-fn print_part(part: &[u8]) {
+fn print_part<W: io::Write>(out: &mut W, part: &[u8]) -> io::Result<()> {
     if part.len() < 2 {
-        io::write_all(STDOUT_FILENO, &[b'-']);
-        return;
+        return out.write_all(&[b'-']);
     }
-    print_byte(part[0]);
-    print_byte(part[1]);
+    print_byte(out, part[0])?;
+    print_byte(out, part[1])
 }
 
-fn print_box<'a>(board: &'a [u8], house: &'a [u8], section: u8, controller: u8) {
-    io::write_all(
-        STDOUT_FILENO,
-        &[low_digit(section), low_digit(controller), b' '],
-    );
-    print_part(look_up(board, house, section, controller));
-    print_end();
+fn print_box<'a, W: io::Write>(
+    out: &mut W,
+    board: &'a [u8],
+    house: &'a [u8],
+    section: u8,
+    controller: u8,
+) -> io::Result<()> {
+    out.write_all(&[low_digit(section), low_digit(controller), b' '])?;
+    print_part(out, look_up(board, house, section, controller))?;
+    print_end(out)
 }
 
 // Every box there is, and one that is not.
-fn print_boxes<'a>(board: &'a [u8], house: &'a [u8]) {
-    print_box(board, house, 0, 0);
-    print_box(board, house, 0, 1);
-    print_box(board, house, 1, 0);
-    print_box(board, house, 1, 1);
-    print_box(board, house, 2, 0);
-    print_box(board, house, 2, 1);
-    print_box(board, house, 3, 0);
+fn print_boxes<'a, W: io::Write>(out: &mut W, board: &'a [u8], house: &'a [u8]) -> io::Result<()> {
+    print_box(out, board, house, 0, 0)?;
+    print_box(out, board, house, 0, 1)?;
+    print_box(out, board, house, 1, 0)?;
+    print_box(out, board, house, 1, 1)?;
+    print_box(out, board, house, 2, 0)?;
+    print_box(out, board, house, 2, 1)?;
+    print_box(out, board, house, 3, 0)
 }
 
 // ---- the shelf: the row stands in a local, and is lent to the call
@@ -101,31 +120,36 @@ fn fresh_row() -> [Record; DEVICES] {
     [first, second]
 }
 
-fn routed(row: [Record; DEVICES], name: u8, r: Raw) -> [Record; DEVICES]
-    ensures { result ≡ shelf_row row name r }
+fn routed<W: io::Write>(
+    out: &mut W,
+    row: [Record; DEVICES],
+    name: u8,
+    r: Raw,
+) -> io::Result<[Record; DEVICES]>
+    ensures { IfOk result (λ s. s ≡ shelf_row row name r) }
 {
     let mut standing = row;
     let answer = route_event(&mut standing, name, r);
-    print_answer(answer);
-    standing
+    print_answer(out, answer)?;
+    Ok(standing)
 }
 
-fn ticked(row: [Record; DEVICES]) -> [Record; DEVICES]
-    ensures { result ≡ shelf_row row 0 tick_raw }
+fn ticked<W: io::Write>(out: &mut W, row: [Record; DEVICES]) -> io::Result<[Record; DEVICES]>
+    ensures { IfOk result (λ s. s ≡ shelf_row row 0 tick_raw) }
 {
     let mut standing = row;
     let answer = tick_all(&mut standing);
-    print_answer(answer);
-    standing
+    print_answer(out, answer)?;
+    Ok(standing)
 }
 
-fn cleared(row: [Record; DEVICES]) -> [Record; DEVICES]
-    ensures { result ≡ shelf_row row 0 reset_raw }
+fn cleared<W: io::Write>(out: &mut W, row: [Record; DEVICES]) -> io::Result<[Record; DEVICES]>
+    ensures { IfOk result (λ s. s ≡ shelf_row row 0 reset_raw) }
 {
     let mut standing = row;
     let answer = reset_all(&mut standing);
-    print_answer(answer);
-    standing
+    print_answer(out, answer)?;
+    Ok(standing)
 }
 
 // A kind of event whose three fields are 0.
@@ -134,14 +158,19 @@ fn is_plain(r: Raw, kind: u8) -> bool {
 }
 
 // A tick and a reset have calls of their own; whatever else comes, a TICK or RESET with other fields too, is routed.
-fn on_shelf(row: [Record; DEVICES], name: u8, r: Raw) -> [Record; DEVICES] {
+fn on_shelf<W: io::Write>(
+    out: &mut W,
+    row: [Record; DEVICES],
+    name: u8,
+    r: Raw,
+) -> io::Result<[Record; DEVICES]> {
     if is_plain(r, TICK) {
-        return ticked(row);
+        return ticked(out, row);
     }
     if is_plain(r, RESET) {
-        return cleared(row);
+        return cleared(out, row);
     }
-    routed(row, name, r)
+    routed(out, row, name, r)
 }
 
 // ---- the events
@@ -158,7 +187,7 @@ fn event_at(events: &[u8], at: usize) -> Raw
     }
 }
 
-fn run_events(events: &[u8]) {
+fn run_events<W: io::Write>(out: &mut W, events: &[u8]) -> io::Result<()> {
     let mut row = fresh_row();
     let mut device = fresh(Kind::Pca9641);
     let mut left = events.len();
@@ -166,41 +195,40 @@ fn run_events(events: &[u8]) {
         let at = events.len() - left;
         let name = events[at];
         let r = event_at(events, at);
-        print_event(name, r);
-        let next = on_shelf(row, name, r);
+        print_event(out, name, r)?;
+        let next = on_shelf(out, row, name, r)?;
         row = next;
         let stepped = step_standing(device, r);
-        print_answer(stepped.answer);
+        print_answer(out, stepped.answer)?;
         device = stepped.device;
-        print_end();
+        print_end(out)?;
         left -= NAMED_BYTES;
     }
+    Ok(())
 }
 
 // ---- the program
 
 // What is no two sheets has no box and no event.
-fn run(input: &[u8]) {
+fn run<W: io::Write>(out: &mut W, input: &[u8]) -> io::Result<()> {
     if input.len() < 2 * SHEET_BYTES {
-        return;
+        return Ok(());
     }
     let board = &input[0..SHEET_BYTES];
     let house = &input[SHEET_BYTES..2 * SHEET_BYTES];
     let events = &input[2 * SHEET_BYTES..];
-    print_boxes(board, house);
-    run_events(events);
+    print_boxes(out, board, house)?;
+    run_events(out, events)
 }
 
-fn main() {
+fn run_forms<R: io::Read, W: io::Write>(from: &mut R, out: &mut W) -> io::Result<()> {
     let mut input = [0u8; MOST_BYTES];
-    let n = io::read_full(STDIN_FILENO, &mut input);
-    // errno is 0 when a program starts, and reads and writes that succeed leave it so.
-    if os::errno() != 0 {
-        os::fail(&NAME);
-        return;
-    }
-    run(&input[..n]);
-    if os::errno() != 0 {
-        os::fail(&NAME);
+    let n = read_full(from, &mut input)?;
+    run(out, &input[..n])
+}
+
+fn main(rt: HostRuntime) {
+    if let Err(e) = run_forms(&mut rt.stdin(), &mut rt.stdout()) {
+        let _ = eprintln!(rt; "{NAME}: {e}");
     }
 }

@@ -1,16 +1,15 @@
 -- The boxes in CONTR stand until the next byte there, and what becomes of a holder without a reserve by that byte.
 -- Assumes nothing.
-use Prim.Native.Nat.{ℕ, zero, suc, ◌+◌, ◌-◌}
-use mathlib.Core.Path.{◌≡◌, refl, sym, ap, ap₂, ◌∙◌}
+use Prim.Native.Nat.{ℕ, zero, suc, ◌-◌}
+use mathlib.Core.Path.{◌≡◌, refl, ap, ◌∙◌}
 use mathlib.Core.Bool.{Bool, true, false, ◌&&◌}
-use mathlib.Core.List.{List, [], ◌∷◌, ◌++◌}
 use Rattle.arbiter.specs.Rules.{rules_of, limit_of}
 use Rattle.arbiter.specs.Words.{bit, partner, of}
 use Rattle.arbiter.specs.State.{owns}
 use Rattle.arbiter.specs.Registers.{own_written, mail_written, drives_written, turn_written}
 use Rattle.arbiter.specs.Events.{decode, in_sequence, acknowledged, outcome}
 use Rattle.arbiter.specs.Effects.{commanded, written, counted_to, ticked, effect}
-use Rattle.arbiter.specs.Order.{levels, lost, losses_from, losses, cut_from, cut, claim, granted, grant_from, grant, joined, clocked, kept_joined, connect_from}
+use Rattle.arbiter.specs.Order.{levels, lost, losses_from, losses, cut_from, cut, claim, granted, grant_from, grant, joined, kept_joined, connect_from}
 use Rattle.arbiter.specs.Order.{connect}
 use Rattle.arbiter.specs.Steps.{parts, taken, step_event, step_decoded, step, run_from, run}
 use Rattle.arbiter.specs.AuditWords.{next, requests, never, throughout}
@@ -29,7 +28,6 @@ use Rattle.arbiter.specs.declared.Switch.TheVariants.{Closed}
 use Rattle.arbiter.specs.declared.Side.{Side}
 use Rattle.arbiter.specs.declared.Bus.{Bus}
 use Rattle.arbiter.specs.declared.Device.{Device}
-use Rattle.arbiter.specs.declared.Raw.{Raw}
 use Rattle.audit.specs.SettingsKept.{bits_of}
 use Rattle.sheets.specs.declared.Setting.{Setting}
 use Rattle.sheets.specs.declared.Order.{Order}
@@ -40,7 +38,7 @@ use Rattle.guarantee.specs.Boxes.{setting_in, BoxesOverwritten, keeping_byte, Bo
 use Rattle.arbiter.proofs.Runs.{from_append}
 use Rattle.audit.proofs.SettingsKept.{bits_written, bits_kept_throughout}
 use Rattle.sheets.proofs.Started.{table, at_each}
-use Rattle.guarantee.proofs.Devices.{side_with, started, starts, again, holding, Came, came, holds_again}
+use Rattle.guarantee.proofs.Devices.{side_with, starts, again, holding, Came, came, holds_again}
 
 -- ---- the boxes
 
@@ -129,7 +127,8 @@ connected_05 : (m : Master) (k : Kind) (s t : Setting) (i : Bool) → let s' : S
     let t' : Setting = record { reserve = t.reserve; priority = t.priority; idle = i } in
     came m (sets_contr m 0x05) (holding m k s' t') ≡ (connected_to m false k (reserve_beside m s t) (ints_beside m) 0, true, true)
 unfolding rules_of own_written mail_written drives_written turn_written decode in_sequence acknowledged outcome commanded written effect
-    levels losses_from losses cut_from cut claim grant_from grant joined kept_joined connect_from connect parts taken step_event step_decoded step run_from never
+    levels losses_from losses cut_from cut claim grant_from grant joined kept_joined connect_from connect parts taken step_event step_decoded step run_from
+    never
 connected_05 Zero Pca9641 s t true = refl
 connected_05 Zero Pca9641 s t false = refl
 connected_05 Zero Tpt29641 s t true = refl
@@ -197,7 +196,8 @@ idle_box_dropped k o m n none =
 timed_ticks : (m : Master) (k : Kind) (rt : ℕ) → let d : Device = connected_to m true k rt (ints_beside m) 0 in
     (owns (partner m) (run_from d (times (limit_of k) tick)) ≡ true) × (owns m (run_from d (times (limit_of k - 1) tick)) ≡ true)
 unfolding rules_of decode in_sequence acknowledged outcome ticked effect
-    levels lost losses_from losses cut_from cut claim granted grant_from grant kept_joined connect_from connect parts taken step_event step_decoded step run_from
+    levels lost losses_from losses cut_from cut claim granted grant_from grant kept_joined connect_from connect parts taken step_event step_decoded step
+    run_from
 timed_ticks Zero Pca9641 rt = (refl, refl)
 timed_ticks Zero Tpt29641 rt = (refl, refl)
 timed_ticks One Pca9641 rt = (refl, refl)

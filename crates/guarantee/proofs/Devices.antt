@@ -2,7 +2,7 @@
 -- again, so that the other holds. The reserves, the settings and the kind are left open.
 -- Assumes nothing.
 use Prim.Native.Nat.{ℕ}
-use mathlib.Core.Path.{◌≡◌, refl, sym, ap, ap₂, ◌∙◌}
+use mathlib.Core.Path.{◌≡◌, refl, ap, ◌∙◌}
 use mathlib.Core.Bool.{Bool, true, false, not, ◌&&◌}
 use mathlib.Core.List.{List, [], ◌∷◌, ◌++◌}
 use Rattle.arbiter.specs.Rules.{rules_of}
@@ -10,17 +10,15 @@ use Rattle.arbiter.specs.Words.{partner}
 use Rattle.arbiter.specs.Registers.{own_written, mail_written, drives_written, turn_written}
 use Rattle.arbiter.specs.Events.{decode, in_sequence, acknowledged, outcome}
 use Rattle.arbiter.specs.Effects.{commanded, written, fresh_side, power_up, effect}
-use Rattle.arbiter.specs.Order.{levels, lost, losses_from, losses, cut_from, cut, claim, granted, grant_from, grant, connect_from, connect}
-use Rattle.arbiter.specs.Steps.{parts, taken, refused, step_event, step_decoded, step, run_from, run}
+use Rattle.arbiter.specs.Order.{levels, losses_from, losses, cut_from, cut, claim, granted, grant_from, grant, connect_from, connect}
+use Rattle.arbiter.specs.Steps.{parts, taken, step_event, step_decoded, step, run_from, run}
 use Rattle.arbiter.specs.AuditWords.{next, reset, never}
 use Rattle.arbiter.specs.Marks.{command, write, stop}
 use Rattle.arbiter.specs.Witnesses.{sets_contr}
 use Rattle.arbiter.specs.declared.Master.{Master}
 use Rattle.arbiter.specs.declared.Master.TheVariants.{Zero, One}
 use Rattle.arbiter.specs.declared.Ground.TheVariants.{Sole}
-use Rattle.arbiter.specs.declared.Turn.{Turn}
 use Rattle.arbiter.specs.declared.Turn.TheVariants.{Owns}
-use Rattle.arbiter.specs.declared.Last.{Last}
 use Rattle.arbiter.specs.declared.Last.TheVariants.{Was}
 use Rattle.arbiter.specs.declared.Port.TheVariants.{Rest}
 use Rattle.arbiter.specs.declared.Register.TheVariants.{Contr}

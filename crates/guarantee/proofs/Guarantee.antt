@@ -9,7 +9,6 @@ use Rattle.arbiter.specs.declared.Master.{Master}
 use Rattle.arbiter.specs.declared.Master.TheVariants.{Zero, One}
 use Rattle.arbiter.specs.declared.Ground.TheVariants.{Sole}
 use Rattle.arbiter.specs.declared.Kind.{Kind}
-use Rattle.arbiter.specs.declared.Device.{Device}
 use Rattle.arbiter.specs.declared.Raw.{Raw}
 use Rattle.audit.specs.WaitAsSet.{is_within}
 use Rattle.sheets.specs.declared.Order.{Order}

@@ -15,7 +15,8 @@ use Rattle.arbiter.specs.declared.Master.TheVariants.{Zero, One}
 use Rattle.arbiter.specs.declared.Kind.TheVariants.{Pca9641, Tpt29641}
 use Rattle.audit.specs.WorstWait.{stops_after}
 use Rattle.sheets.specs.Sheets.{counts_right, box_right, flag_right, boxes_right, check_sheet, check_pair}
-use Rattle.sheets.specs.Settings.{ticked_on_either, is_complete, value_at, setting_of, order_of, control_byte, order_events, read_complete, read_order, ordered_of}
+use Rattle.sheets.specs.Settings.{ticked_on_either, is_complete, value_at, setting_of, order_of, control_byte, order_events, read_complete, read_order}
+use Rattle.sheets.specs.Settings.{ordered_of}
 use Rattle.sheets.specs.Settings.{buffer_of, ordered, ordered_buffer}
 use Rattle.sheets.specs.Waits.{wait_behind, wait_on, wait_of}
 use Rattle.guarantee.specs.MoreWitnesses.{more_witnesses, MoreWitnessesMeet}

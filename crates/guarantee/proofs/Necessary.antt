@@ -1,9 +1,9 @@
 -- Behind a reserve of 0 a wait has no bound: after a start m holds, and each short transfer leads back to the same device.
 -- Assumes nothing.
-use Prim.Native.Nat.{ℕ, zero, suc, ◌+◌, ◌≤◌}
-use mathlib.Core.Path.{◌≡◌, refl, sym, ap, ap₂, ◌∙◌, subst}
-use mathlib.Core.Bool.{Bool, true, false, true≢false, false≢true}
-use mathlib.Core.List.{List, [], ◌∷◌, ◌++◌}
+use Prim.Native.Nat.{ℕ, ◌+◌, ◌≤◌}
+use mathlib.Core.Path.{◌≡◌, refl, sym, ap, ◌∙◌, subst}
+use mathlib.Core.Bool.{Bool, true, false, false≢true}
+use mathlib.Core.List.{List}
 use native.Mathlib.Omega.{arith}
 use lib.Dec.{eqb}
 use borrow.Author.Tests.{eqb-true, eqb-false}
@@ -26,7 +26,7 @@ use Rattle.sheets.specs.declared.Setting.{Setting}
 use Rattle.sheets.specs.declared.Order.{Order}
 use Rattle.sheets.specs.Settings.{order_of, order_events}
 use Rattle.guarantee.specs.Guarantee.{reserve_in}
-use Rattle.guarantee.specs.Necessary.{waits_from, StillWaits, ReserveNecessary, short_transfer, short_transfers, BoundedBy, Bounded, BoundedExactly}
+use Rattle.guarantee.specs.Necessary.{waits_from, StillWaits, ReserveNecessary, short_transfer, short_transfers, Bounded, BoundedExactly}
 use Rattle.sheets.proofs.Complete.{events_read}
 use Rattle.arbiter.proofs.Choice.{split}
 use Rattle.arbiter.proofs.Connected.{partner_not}

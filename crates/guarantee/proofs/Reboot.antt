@@ -13,7 +13,7 @@ use Rattle.arbiter.specs.Events.{decode, in_sequence, acknowledged, outcome}
 use Rattle.arbiter.specs.Effects.{commanded, written, lined, ticked, fresh_side, power_up, effect}
 use Rattle.arbiter.specs.Order.{is_reset, levels, lost, losses_from, losses, cut_from, cut, winner, claim, granted, grant_from, grant, connect_from, connect}
 use Rattle.arbiter.specs.Steps.{parts, taken, step_event, step_decoded, step, run_from, run}
-use Rattle.arbiter.specs.AuditWords.{next, requests, resting, reserve_of, accepted, is_accepted, reset, lets_go, withdrawal_of, grant_taken, never, throughout}
+use Rattle.arbiter.specs.AuditWords.{next, requests, resting, reserve_of, accepted, is_accepted, reset, lets_go, withdrawal_of, grant_taken, never}
 use Rattle.arbiter.specs.Marks.{stop}
 use Rattle.arbiter.specs.Witnesses.{number}
 use Rattle.ranges.specs.Names.{Master, Zero, One, Ground, Nobody, Owns, Kind, Pca9641, Tpt29641, Device, Raw, Event, Command, Write, Read, Stop, Pair, Lines}
@@ -75,7 +75,8 @@ unowned_stores m r d v free h =
     elim (met r d) [
       | refuses x ↦ absurd (false≢true (sym (x.none λ e y. writes_at is_rt m e y && eqb (byte_by m e) v) ∙ h))
       | takes e x ↦
-          (let both = (and-eq-true_iff (writes_at is_rt m e d) (eqb (byte_by m e) v)).0 (sym (x.same λ e y. writes_at is_rt m e y && eqb (byte_by m e) v) ∙ h) in
+          (let both = (and-eq-true_iff (writes_at is_rt m e d) (eqb (byte_by m e) v)).0
+          (sym (x.same λ e y. writes_at is_rt m e y && eqb (byte_by m e) v) ∙ h) in
           (x.same λ e y. stores m e y && eqb (byte_by m e) v) ∙ ap₂ ◌&&◌ (ap₂ (λ (a b : Bool). a && not b) both.0 free) both.1)
     ]
 
@@ -214,7 +215,8 @@ starts_again Zero = record { own = refl; others = refl }
 starts_again One = record { own = refl; others = refl }
 
 computed : (k : Kind) → reboot_rows k ≡ true
-unfolding rules_of own_written mail_written drives_written turn_written decode in_sequence acknowledged outcome commanded written lined ticked fresh_side power_up
+unfolding rules_of own_written mail_written drives_written turn_written decode in_sequence acknowledged outcome commanded written lined ticked fresh_side
+    power_up
     effect
     levels lost losses_from losses cut_from cut winner claim granted grant_from grant connect_from connect
     parts taken step_event step_decoded step run_from run control_byte order_events reboot_rows

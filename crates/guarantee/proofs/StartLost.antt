@@ -4,15 +4,13 @@ use mathlib.Core.Path.{◌≡◌, refl, sym, ap, ◌∙◌}
 use mathlib.Core.Bool.{Bool, true, false, not, ◌&&◌, ◌||◌, true≢false, false≢true, or-true}
 use mathlib.Core.List.{List, [], ◌∷◌}
 use Rattle.ranges.specs.Names.{Master, Ground, Zero, One, Nobody, Owns, Kind, Device, Raw, Event}
-use Rattle.arbiter.specs.Words.{if◌then◌else◌}
 use Rattle.arbiter.specs.State.{owns}
 use Rattle.arbiter.specs.Effects.{power_up}
 use Rattle.arbiter.specs.Order.{is_reset, levels}
 use Rattle.arbiter.specs.Steps.{parts, run_from, run}
 use Rattle.arbiter.specs.AuditWords.{next, requests, lets_go, reset, grant_taken, grant_ended, never}
-use Rattle.sheets.specs.declared.Order.{Order}
-use Rattle.guarantee.specs.Starts.{Starts, was_granted, was_ended, RequestLost}
-use Rattle.arbiter.proofs.Choice.{split, if_true, owns_turn_lem, turn_owns}
+use Rattle.guarantee.specs.Starts.{was_granted, was_ended, RequestLost}
+use Rattle.arbiter.proofs.Choice.{split, if_true, owns_turn_lem}
 use Rattle.arbiter.proofs.Effects.{effect_side}
 use Rattle.arbiter.proofs.Order.{still_sides, side_kept, owned}
 use Rattle.arbiter.proofs.Owner.{mid, over_unowned, turn_kept, Stays, stays, ends, fate}

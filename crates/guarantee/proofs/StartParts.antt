@@ -6,10 +6,12 @@ use mathlib.Core.Bool.{Bool, true, false, ◌&&◌, ◌||◌, true≢false, fals
 use lib.Dec.{eqb}
 use Rattle.ranges.specs.Names.{Master, Zero, One, Ground, Turn, Nobody, Claims, Owns, Register, Port, Side, Switch, Clock, Device, Raw, Event}
 use Rattle.arbiter.specs.Rules.{idle_limit}
-use Rattle.arbiter.specs.Words.{if◌then◌else◌, same_master, side}
+use Rattle.std.specs.Prelude.{if◌then◌else◌}
+use Rattle.arbiter.specs.Words.{same_master, side}
 use Rattle.arbiter.specs.State.{owns_turn, owns, at_rest}
 use Rattle.arbiter.specs.Effects.{effect}
-use Rattle.arbiter.specs.Order.{is_reset, is_tick, clock_of, runs_out, levels, lost, losses_from, losses, cut_from, cut, claim_by, new_claim, claim_after, claim}
+use Rattle.arbiter.specs.Order.{is_reset, is_tick, clock_of, runs_out, levels, lost, losses_from, losses, cut_from, cut, claim_by, new_claim, claim_after}
+use Rattle.arbiter.specs.Order.{claim}
 use Rattle.arbiter.specs.Order.{granted, grant_from, grant, connect}
 use Rattle.arbiter.specs.Steps.{parts}
 use Rattle.arbiter.specs.AuditWords.{next, requests}

@@ -42,7 +42,15 @@ so Zero =
       tickless = refl;
       tickless_too = refl;
       first = record { before = until_byte Zero; r = asking_byte Zero; after = then_partner Zero; whole = refl; fifth = refl; own = refl; later = omega arith };
-      first_too = record { before = until_bytes Zero; r = asking_byte Zero; after = after_byte Zero; whole = refl; fifth = refl; own = refl; later = omega arith };
+      first_too = record {
+        before = until_bytes Zero;
+        r = asking_byte Zero;
+        after = after_byte Zero;
+        whole = refl;
+        fifth = refl;
+        own = refl;
+        later = omega arith;
+      };
     }
 so One =
     record {

@@ -1,14 +1,15 @@
 -- What each grade of `wait_of` promises: the guarantee, the idle timer, and the waits that are not over.
 -- Assumes nothing.
-use Prim.Native.Nat.{ℕ, ◌+◌, ◌-◌, ◌≤◌}
-use mathlib.Core.Path.{◌≡◌, refl, sym, ap, ap₂, ◌∙◌, subst}
-use mathlib.Core.Bool.{Bool, true, false, not, ◌&&◌}
-use mathlib.Core.List.{List, [], ◌∷◌, ◌++◌}
+use Prim.Native.Nat.{ℕ, ◌-◌, ◌≤◌}
+use mathlib.Core.Path.{◌≡◌, refl, sym, ap, ◌∙◌, subst}
+use mathlib.Core.Bool.{Bool, true, false, not}
+use mathlib.Core.List.{List, ◌++◌}
 use native.Mathlib.Omega.{arith}
 use lib.Dec.{eqb, ltb}
 use borrow.Author.Tests.{eqb-true, eqb-false, ltb-true, ltb-false}
 use Rattle.arbiter.specs.Rules.{limit_of}
-use Rattle.arbiter.specs.Words.{if◌then◌else◌, partner}
+use Rattle.std.specs.Prelude.{if◌then◌else◌}
+use Rattle.arbiter.specs.Words.{partner}
 use Rattle.arbiter.specs.State.{owns}
 use Rattle.arbiter.specs.Events.{master}
 use Rattle.arbiter.specs.Effects.{power_up}
@@ -27,16 +28,14 @@ use Rattle.sheets.specs.declared.Fault.{Fault}
 use Rattle.sheets.specs.declared.Fault.TheVariants.{TooShort, WrongCount, BadBox, BytesAfterEnd, NoSuchBox, Unticked, NoRoom}
 use Rattle.sheets.specs.declared.Checked.{Checked}
 use Rattle.sheets.specs.declared.Checked.TheVariants.{Sound, Faulty}
-use Rattle.sheets.specs.declared.Setting.{Setting}
 use Rattle.sheets.specs.declared.Order.{Order}
 use Rattle.sheets.specs.declared.Wait.{Wait}
 use Rattle.sheets.specs.Sheets.{check_pair, fault_number}
 use Rattle.sheets.specs.Settings.{is_complete, setting_of, order_of, order_events}
-use Rattle.sheets.specs.Waits.{wait, withheld, wait_behind, wait_on, once_sound_wait, wait_of}
+use Rattle.sheets.specs.Waits.{withheld, wait_behind, wait_on, once_sound_wait, wait_of}
 use Rattle.guarantee.specs.Guarantee.{reserve_in}
-use Rattle.guarantee.specs.Necessary.{waits_from}
-use Rattle.guarantee.specs.Boxes.{setting_in, connects_with}
-use Rattle.guarantee.specs.Waits.{BoundedLive, UnboundedLive, BoundedSilent, UnboundedSilent, Promised, WaitTells}
+use Rattle.guarantee.specs.Boxes.{setting_in}
+use Rattle.guarantee.specs.Waits.{BoundedSilent, UnboundedSilent, Promised, WaitTells}
 use Rattle.arbiter.proofs.Choice.{either, split}
 use Rattle.arbiter.proofs.Runs.{from_append}
 use Rattle.audit.proofs.IdleAnywhere.{idle_timer_to_partner}

@@ -1,9 +1,9 @@
 -- More runs after the events of sheets, for both masters of a part of each kind: where RT is stored anew, behind a silent holder, at the next CONTR byte;
 -- and runs that wait beyond the figure, each with one premise not met. proofs/MoreWitnesses.antt computes them all.
 -- Assumes nothing.
-use Rattle.std.specs.Prelude.{ℕ, ◌+◌, ◌-◌, ◌≡◌, Bool, true, false, not, ◌&&◌, List, [], ◌∷◌, ◌++◌, eqb, ltb}
+use Rattle.std.specs.Prelude.{ℕ, ◌+◌, ◌-◌, ◌≡◌, Bool, true, not, List, [], ◌∷◌, ◌++◌, eqb, ltb}
 use Rattle.arbiter.specs.Rules.{limit_of}
-use Rattle.arbiter.specs.Words.{partner, of, side}
+use Rattle.arbiter.specs.Words.{partner, side}
 use Rattle.arbiter.specs.State.{owns, is_idle}
 use Rattle.arbiter.specs.Steps.{run_from, run}
 use Rattle.arbiter.specs.AuditWords.{next, requests, resting, idle_timer_on, reset, ticks_in, never, throughout}

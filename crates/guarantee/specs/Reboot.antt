@@ -1,7 +1,7 @@
 -- A controller that starts again while it owns: what its reserve then is. proofs/Reboot.antt proves it.
 -- Assumes nothing.
-use Rattle.std.specs.Prelude.{ℕ, ◌≡◌, Bool, true, false, not, ◌&&◌, ◌||◌, List, [], ◌∷◌, ◌++◌, eqb}
-use Rattle.arbiter.specs.Words.{if◌then◌else◌, partner}
+use Rattle.std.specs.Prelude.{ℕ, ◌≡◌, Bool, true, false, not, ◌&&◌, ◌||◌, List, [], ◌∷◌, ◌++◌, eqb, if◌then◌else◌}
+use Rattle.arbiter.specs.Words.{partner}
 use Rattle.arbiter.specs.State.{owns}
 use Rattle.arbiter.specs.Steps.{run_from, run}
 use Rattle.arbiter.specs.AuditWords.{next, requests, resting, reserve_of, accepted, reset, withdrawal_of, grant_taken, never, throughout}

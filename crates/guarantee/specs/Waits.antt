@@ -1,7 +1,7 @@
 -- What each grade of `sheets::wait_of` promises the controller that waits, behind the other one, m, after a start by the events of the sheets.
 -- proofs/Waits.antt proves it.
 -- Assumes nothing.
-use Rattle.std.specs.Prelude.{ℕ, ◌+◌, ◌≤◌, ◌≡◌, Bool, true, ◌&&◌, ◌||◌, eqb, List, [], ◌∷◌, ◌++◌}
+use Rattle.std.specs.Prelude.{ℕ, ◌+◌, ◌≤◌, ◌≡◌, true, ◌&&◌, ◌||◌, eqb, List, ◌++◌}
 use Rattle.arbiter.specs.Words.{partner}
 use Rattle.arbiter.specs.State.{owns}
 use Rattle.arbiter.specs.Events.{master}

@@ -1,5 +1,7 @@
 // The library for Rust and C: traces, captures, listeners, order sheets, images, shelves, orders of scripts, totals of the bus share and straps over numbers
 // and slices. A slice passes as a pointer and then a length. Each call hands on to the crate of its subject, which packs what was found in one number.
+#![tactic(auto)]
+
 ghost use Rattle.std.specs.Prelude.{◌≡◌, length};
 ghost use Rattle.arbiter.specs.Straps.{address_of, straps_of};
 ghost use Rattle.arbiter.specs.Traces.{report, buffer_after};

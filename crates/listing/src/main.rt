@@ -1,32 +1,44 @@
 // Lists the trace on standard input: document 01's text on standard output, and for a refused trace a line on standard error that says why.
+#![tactic(auto)]
+
 mod why;
+
+ghost use Rattle.std.specs.Prelude.{IfSome, OnOk};
+ghost use Rattle.std.specs.Io.KnownBytes.{Appends};
+ghost use Rattle.arbiter.specs.Listing.{listing};
 
 use arbiter::TraceRead;
 use format::{ANSWER_ROOM, MOST_BYTES};
-use libc::STDIN_FILENO;
-use printing::print_listing;
+use printing::{print_listing, read_full};
+use std::io;
 use traces::reading::read_trace;
 
-const NAME: [u8; 7] = [b'l', b'i', b's', b't', b'i', b'n', b'g'];
+const NAME: &str = "listing";
 
-fn say_if_refused(read: TraceRead) {
+fn say_if_refused<W: io::Write>(errors: &mut W, read: TraceRead) -> io::Result<()> {
     if let TraceRead::Refused(r) = read {
-        why::say(r);
+        why::say(errors, r)?;
     }
+    Ok(())
 }
 
-fn main() {
+// Where the bytes of the input are known, what is printed is their listing, however many they are.
+fn run<R: io::Read, W: io::Write, E: io::Write>(
+    from: &mut R,
+    out: &mut W,
+    errors: &mut E,
+) -> io::Result<()>
+    ensures { OnOk result (IfSome (R.remaining from.old) (λ xs. Appends (W.contents out.old) (W.contents out.new) (listing xs))) }
+{
     // One byte more than the longest trace tells a longer input, which lists as this beginning does (text/proofs/Long.antt).
     let mut input = [0u8; MOST_BYTES + 1];
-    let n = io::read_full(STDIN_FILENO, &mut input);
-    // errno is 0 when a program starts, and reads that succeed leave it so.
-    if os::errno() != 0 {
-        os::fail(&NAME);
-        return;
+    let n = read_full(from, &mut input)?;
+    print_listing(out, &input[..n])?;
+    say_if_refused(errors, read_trace(&input[..n], ANSWER_ROOM))
+}
+
+fn main(rt: HostRuntime) {
+    if let Err(e) = run(&mut rt.stdin(), &mut rt.stdout(), &mut rt.stderr()) {
+        let _ = eprintln!(rt; "{NAME}: {e}");
     }
-    if !print_listing(&input[..n]) {
-        os::fail(&NAME);
-        return;
-    }
-    say_if_refused(read_trace(&input[..n], ANSWER_ROOM));
 }

@@ -1,6 +1,6 @@
 // Why a trace was refused, as a line on standard error. Standard output has the number alone.
 use arbiter::Refusal;
-use libc::STDERR_FILENO;
+use std::io;
 
 const REFUSED: [u8; 9] = [b'r', b'e', b'f', b'u', b's', b'e', b'd', b':', b' '];
 
@@ -18,19 +18,19 @@ const COUNT: [u8; 10] = [b'b', b'a', b'd', b' ', b'c', b'o', b'u', b'n', b't', b
 
 const KIND: [u8; 9] = [b'b', b'a', b'd', b' ', b'k', b'i', b'n', b'd', b'\n'];
 
-fn write_reason(why: Refusal) -> bool {
+fn write_reason<W: io::Write>(errors: &mut W, why: Refusal) -> io::Result<()> {
     match why {
-        Refusal::TraceCut => io::write_all(STDERR_FILENO, &CUT),
-        Refusal::TooManyEvents => io::write_all(STDERR_FILENO, &OVER),
-        Refusal::BytesAfterEnd => io::write_all(STDERR_FILENO, &EXTRA),
-        Refusal::BadStraps => io::write_all(STDERR_FILENO, &STRAPS),
-        Refusal::NoRoom => io::write_all(STDERR_FILENO, &ROOM),
-        Refusal::BadCount => io::write_all(STDERR_FILENO, &COUNT),
-        Refusal::UnknownPart => io::write_all(STDERR_FILENO, &KIND),
+        Refusal::TraceCut => errors.write_all(&CUT),
+        Refusal::TooManyEvents => errors.write_all(&OVER),
+        Refusal::BytesAfterEnd => errors.write_all(&EXTRA),
+        Refusal::BadStraps => errors.write_all(&STRAPS),
+        Refusal::NoRoom => errors.write_all(&ROOM),
+        Refusal::BadCount => errors.write_all(&COUNT),
+        Refusal::UnknownPart => errors.write_all(&KIND),
     }
 }
 
-pub fn say(why: Refusal) {
-    io::write_all(STDERR_FILENO, &REFUSED);
-    write_reason(why);
+pub fn say<W: io::Write>(errors: &mut W, why: Refusal) -> io::Result<()> {
+    errors.write_all(&REFUSED)?;
+    write_reason(errors, why)
 }

@@ -8,7 +8,8 @@ use lib.Dec.{eqb, ltb}
 use native.Mathlib.Nat.{le_refl, sub-zero}
 use native.Mathlib.Omega.{arith}
 use borrow.Author.Tests.{eq-eqb, ltb-true, ltb-false}
-use Rattle.arbiter.specs.Words.{if◌then◌else◌, worth, partner}
+use Rattle.std.specs.Prelude.{if◌then◌else◌}
+use Rattle.arbiter.specs.Words.{worth, partner}
 use Rattle.arbiter.specs.State.{owns, is_idle}
 use Rattle.arbiter.specs.Effects.{ticked, effect}
 use Rattle.arbiter.specs.Order.{is_reset, levels, lost, losses_from, losses}

@@ -35,7 +35,8 @@ unfolding rules_of byte_of contr_byte status_byte register_byte is_asserted own_
     decode in_sequence acknowledged outcome commanded written paired was_read lined ticked fresh_side was_reset power_up effect
     levels lost losses_from losses cut_from cut winner claim granted grant_from grant joined clocked kept_joined connect_from connect
     parts owner_byte lines_byte byte_read refused taken step_event step_decoded step never throughout stops_after
-    address_of raws_in read_kind read_counted read_strapped read_trace trace_of larger states_from count front longest shares_in totals_of keeps_asking longest_witnesses
+    address_of raws_in read_kind read_counted read_strapped read_trace trace_of larger states_from count front longest shares_in totals_of keeps_asking
+    longest_witnesses
 longest_witnesses_meet Pca9641 = refl
 longest_witnesses_meet Tpt29641 = refl
 

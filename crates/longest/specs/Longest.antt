@@ -1,8 +1,8 @@
 -- The longest wait that the bus share report of #112 counts, held against the worst wait that is proved of the run.
 -- proofs/Longest.antt proves it.
 -- Assumes nothing.
-use Rattle.std.specs.Prelude.{ℕ, ◌+◌, ◌≤◌, ◌<◌, ◌≡◌, Bool, true, false, not, ◌&&◌, ◌||◌, List, [], ◌∷◌, eqb}
-use Rattle.arbiter.specs.Words.{if◌then◌else◌, partner, of}
+use Rattle.std.specs.Prelude.{ℕ, ◌+◌, ◌≤◌, ◌<◌, ◌≡◌, Bool, true, false, not, ◌&&◌, ◌||◌, List, [], ◌∷◌, eqb, if◌then◌else◌}
+use Rattle.arbiter.specs.Words.{partner, of}
 use Rattle.arbiter.specs.State.{is_idle}
 use Rattle.arbiter.specs.Effects.{power_up}
 use Rattle.arbiter.specs.AuditWords.{next, requests, resting, reset, tick, never, throughout}

@@ -2,9 +2,10 @@
 -- Assumes nothing.
 use mathlib.Core.Path.{◌≡◌, refl, sym, ap, ap₂, ◌∙◌}
 use mathlib.Core.Bool.{true≢false, false≢true}
-use Rattle.mail.specs.Names.{ℕ, Bool, true, false, not, ◌&&◌, Master, Zero, One, Register, Id, Contr, Status, Rt, IntStatus, IntMask, MailLow, MailHigh}
+use Rattle.std.specs.Prelude.{◌&&◌, if◌then◌else◌}
+use Rattle.mail.specs.Names.{ℕ, Bool, true, false, not, Master, Zero, One, Register, Id, Contr, Status, Rt, IntStatus, IntMask, MailLow, MailHigh}
 use Rattle.mail.specs.Names.{Mailbox, Side, Device, Raw, Event, Command, Write, Read, Stop, Pair, Lines, Tick, Pulse, Reset, GeneralCall, Decoded, Reads}
-use Rattle.mail.specs.Names.{if◌then◌else◌, partner, side, decode, is_mail_high, is_reset}
+use Rattle.mail.specs.Names.{partner, side, decode, is_mail_high, is_reset}
 use Rattle.mail.specs.Words.{box, byte_of, is_mail_low, mails_low, mails_high, lowers, fills, takes, empties, fill_of, emptying_of, decoded_byte, byte_by}
 use Rattle.mail.specs.Words.{box_after}
 use Rattle.mail.specs.Mail.{BoxChanges}

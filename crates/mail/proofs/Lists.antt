@@ -4,8 +4,9 @@ use native.Mathlib.Omega.{arith}
 use mathlib.Core.Path.{◌≡◌, refl, sym, ap, ap₂, subst, ◌∙◌}
 use mathlib.Core.Bool.{true≢false, false≢true, and-eq-true_iff}
 use mathlib.Core.List.{append_assoc, append-nil}
-use Rattle.mail.specs.Names.{ℕ, ◌≤◌, Bool, true, false, not, ◌&&◌, List, [], ◌∷◌, ◌++◌, length, drop, Master, Zero, One, MailHigh, Mailbox, Kind, Device}
-use Rattle.mail.specs.Names.{Raw, Pair, Decoded, Reads, if◌then◌else◌, partner, is_mail_high, power_up, run_from, run, next, reset, Word}
+use Rattle.std.specs.Prelude.{◌≤◌, ◌&&◌, ◌∷◌, ◌++◌, if◌then◌else◌}
+use Rattle.mail.specs.Names.{ℕ, Bool, true, false, not, List, [], length, drop, Master, Zero, One, MailHigh, Mailbox, Kind, Device}
+use Rattle.mail.specs.Names.{Raw, Pair, Decoded, Reads, partner, is_mail_high, power_up, run_from, run, next, reset, Word}
 use Rattle.mail.specs.Words.{box, full, word, held, at, fills, low_write_of, fill_of, emptying_of, decoded_byte, byte_by}
 use Rattle.mail.specs.Mail.{listed_from, filled, emptied, low_from, last_low, MailInOrder, PendingHeld, OnePending, LowKept, WordFilled, DropIsNothing}
 use Rattle.mail.specs.Mail.{ResetsEnd, ListsGrow, PairFillsBoth, EmptyingLeaves}

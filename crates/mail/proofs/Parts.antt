@@ -8,7 +8,8 @@ use Rattle.arbiter.specs.declared.Clock.{Clock}
 use Rattle.arbiter.specs.Rules.{idle_limit}
 use Rattle.arbiter.specs.Registers.{lost_int, granted_int, raised}
 use Rattle.arbiter.specs.Effects.{effect}
-use Rattle.arbiter.specs.Order.{is_reset, is_tick, clock_of, runs_out, levels, lost, losses_from, losses, cut_from, cut, claim, granted, grant_from, grant, connect}
+use Rattle.arbiter.specs.Order.{is_reset, is_tick, clock_of, runs_out, levels, lost, losses_from, losses, cut_from, cut, claim, granted, grant_from, grant}
+use Rattle.arbiter.specs.Order.{connect}
 use Rattle.arbiter.specs.Steps.{parts}
 use Rattle.arbiter.proofs.Choice.{either}
 use Rattle.arbiter.proofs.Cases.{cut_cases, grant_cases, connect_cases}

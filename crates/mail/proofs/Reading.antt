@@ -2,7 +2,8 @@
 -- Assumes nothing.
 use mathlib.Core.Path.{◌≡◌, refl, sym, ap, ap₂, ◌∙◌}
 use mathlib.Core.Bool.{true≢false, false≢true, and-eq-true_iff, and-false}
-use Rattle.mail.specs.Names.{ℕ, Bool, true, false, not, ◌&&◌, List, [], ◌∷◌, Master, Zero, One, Register, Id, Contr, Status, Rt, IntStatus, IntMask}
+use Rattle.std.specs.Prelude.{◌&&◌, ◌∷◌}
+use Rattle.mail.specs.Names.{ℕ, Bool, true, false, not, List, [], Master, Zero, One, Register, Id, Contr, Status, Rt, IntStatus, IntMask}
 use Rattle.mail.specs.Names.{MailLow, MailHigh, Mailbox, Side, Device, Raw, Event, Command, Write, Read, Stop, Pair, Lines, Tick, Pulse, Reset}
 use Rattle.mail.specs.Names.{GeneralCall, side, reads_at, is_mail_high, is_reset, step, run_from, run, next, reset, never}
 use Rattle.mail.specs.Words.{box, full, word, at, reads, is_mail_low, takes, empties, emptying_of}

@@ -3,7 +3,8 @@
 use mathlib.Core.Path.{◌≡◌, refl, sym, ap, ◌∙◌}
 use mathlib.Core.Bool.{true≢false, false≢true, and-eq-true_iff, and-false}
 use borrow.Author.Tests.{not-true}
-use Rattle.mail.specs.Names.{Bool, true, false, not, ◌&&◌, ◌||◌, Master, Zero, One, Register, Id, Contr, Status, Rt, IntStatus, IntMask, MailLow}
+use Rattle.std.specs.Prelude.{◌&&◌, ◌||◌}
+use Rattle.mail.specs.Names.{Bool, true, false, not, Master, Zero, One, Register, Id, Contr, Status, Rt, IntStatus, IntMask, MailLow}
 use Rattle.mail.specs.Names.{MailHigh, Device, Raw, Event, Command, Write, Read, Stop, Pair, Lines, Tick, Pulse, Reset, GeneralCall, Decoded, Reads}
 use Rattle.mail.specs.Names.{UnknownKind, BadField, partner, same_master, decode, is_mail_high, is_reset, accepted, reset}
 use Rattle.mail.specs.Words.{full, at, writes, reads, is_mail_low, mails_low, mails_high, drops, lowers, fills, takes, empties, drop_of, low_write_of, fill_of}

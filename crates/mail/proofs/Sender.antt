@@ -3,7 +3,8 @@
 use mathlib.Core.Path.{◌≡◌, refl, ap, ap₂, ◌∙◌}
 use mathlib.Core.Bool.{false≢true, and-eq-true_iff, and-false}
 use mathlib.Core.List.{append_assoc}
-use Rattle.mail.specs.Names.{Bool, true, false, not, ◌&&◌, List, [], ◌∷◌, ◌++◌, Master, Zero, One, Register, Id, Contr, Status, Rt, IntStatus, IntMask}
+use Rattle.std.specs.Prelude.{◌&&◌, ◌∷◌, ◌++◌}
+use Rattle.mail.specs.Names.{Bool, true, false, not, List, [], Master, Zero, One, Register, Id, Contr, Status, Rt, IntStatus, IntMask}
 use Rattle.mail.specs.Names.{MailLow, MailHigh, Device, Raw, Event, bit, partner, power_up, is_reset, is_mail_high, run_from, run, next, reset, never, Word}
 use Rattle.mail.specs.Words.{full, held, at, writes, byte_of, fills, fill_of, emptying_of}
 use Rattle.mail.specs.Mail.{listed_from, filled, emptied}
@@ -61,18 +62,18 @@ status_not_high MailHigh h = absurd (false≢true h)
 
 module _ (r : Raw) (d : Device) where
   -- it is a byte of s's to INT_STATUS
-  byte_of : (s : Master) (e : Event) → clears s e d ≡ true → (writes s e ≡ true) × (is_mail_high (at s d) ≡ false)
-  byte_of s e x =
+  byte_of_lem : (s : Master) (e : Event) → clears s e d ≡ true → (writes s e ≡ true) × (is_mail_high (at s d) ≡ false)
+  byte_of_lem s e x =
       let two = (and-eq-true_iff (writes s e) (is_int_status (at s d) && bit 4 (byte_of s e))).0 x in
       (two.0, status_not_high (at s d) ((and-eq-true_iff (is_int_status (at s d)) (bit 4 (byte_of s e))).0 two.1).0)
 
   clear_no_reset : (s : Master) → clearing_of s r d ≡ true → reset r d ≡ false
-  clear_no_reset s h = not_accepted (clears s) (λ e x. is_reset e) r d h λ e x. (write_only s s e (byte_of s e x).0).0
+  clear_no_reset s h = not_accepted (clears s) (λ e x. is_reset e) r d h λ e x. (write_only s s e (byte_of_lem s e x).0).0
 
   -- so it fills nothing
   no_fill : (s : Master) (e : Event) → clears s e d ≡ true → (writes s e && is_mail_high (at s d)) && not (full (partner s) d) ≡ false
   no_fill s e x =
-      ap (λ (b : Bool). (writes s e && b) && not (full (partner s) d)) (byte_of s e x).1
+      ap (λ (b : Bool). (writes s e && b) && not (full (partner s) d)) (byte_of_lem s e x).1
       ∙ ap (λ (b : Bool). b && not (full (partner s) d)) (and-false (writes s e))
 
   clear_no_fill : (s : Master) → clearing_of s r d ≡ true → fill_of (partner s) r d ≡ false

@@ -3,9 +3,10 @@
 -- Assumes nothing.
 use mathlib.Core.Path.{◌≡◌, refl, sym, ap, ap₂, ◌∙◌}
 use mathlib.Core.Bool.{true≢false, false≢true}
-use Rattle.mail.specs.Names.{ℕ, Bool, true, false, not, ◌&&◌, ◌||◌, Master, Zero, One, Register, Id, Contr, Status, Rt, IntStatus, IntMask, MailLow}
+use Rattle.std.specs.Prelude.{◌&&◌, ◌||◌, if◌then◌else◌}
+use Rattle.mail.specs.Names.{ℕ, Bool, true, false, not, Master, Zero, One, Register, Id, Contr, Status, Rt, IntStatus, IntMask, MailLow}
 use Rattle.mail.specs.Names.{MailHigh, Side, Device, Raw, Event, Command, Write, Read, Stop, Pair, Lines, Tick, Pulse, Reset, GeneralCall, Reads}
-use Rattle.mail.specs.Names.{if◌then◌else◌, bit, partner, side, decode, is_mail_high, is_reset, next, reset}
+use Rattle.mail.specs.Names.{bit, partner, side, decode, is_mail_high, is_reset, next, reset}
 use Rattle.mail.specs.Words.{full, at, empties, emptying_of}
 use Rattle.mail.specs.Using.{sees_emptied, is_int_status, clears, clearing_of}
 use Rattle.arbiter.specs.declared.Port.TheVariants.{Open}

@@ -3,7 +3,8 @@
 use mathlib.Core.Path.{◌≡◌, refl, sym, ap, ap₂, subst, ◌∙◌}
 use mathlib.Core.Bool.{true≢false, and-eq-true_iff}
 use mathlib.Core.List.{append_assoc, append-nil}
-use Rattle.mail.specs.Names.{Bool, true, false, not, ◌&&◌, List, [], ◌∷◌, ◌++◌, Master, Mailbox, Device, Raw, Event, if◌then◌else◌, bit, partner, power_up}
+use Rattle.std.specs.Prelude.{◌&&◌, ◌∷◌, ◌++◌, if◌then◌else◌}
+use Rattle.mail.specs.Names.{Bool, true, false, not, List, [], Master, Mailbox, Device, Raw, Event, bit, partner, power_up}
 use Rattle.mail.specs.Names.{run_from, run, next, is_reset, is_mail_high, reset, never, Word}
 use Rattle.mail.specs.Words.{full, held, at, writes, byte_of, empties, fill_of, emptying_of}
 use Rattle.mail.specs.Mail.{listed_from, filled, emptied}

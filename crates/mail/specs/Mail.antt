@@ -2,7 +2,8 @@
 -- either kind, refused ones included. They hold of both boxes, for m is either master. Those that name a device and no run hold of every
 -- device. proofs/Lists.antt and proofs/Box.antt prove them, under the same names in small letters; Assurance has them all.
 -- Assumes nothing.
-use Rattle.mail.specs.Names.{ℕ, ◌≤◌, ◌≡◌, Bool, true, false, List, [], ◌∷◌, ◌++◌, length, drop, Master, Zero, One, MailHigh, Kind, Device, Raw, Pair, Reads, if◌then◌else◌, partner, decode, power_up, run, next, is_accepted, reset, Word}
+use Rattle.std.specs.Prelude.{◌≤◌, ◌≡◌, ◌∷◌, ◌++◌, if◌then◌else◌}
+use Rattle.mail.specs.Names.{ℕ, Bool, true, false, List, [], length, drop, Master, Zero, One, MailHigh, Kind, Device, Raw, Pair, Reads, partner, decode, power_up, run, next, is_accepted, reset, Word}
 use Rattle.mail.specs.Words.{box, full, word, held, at, drop_of, low_write_of, fill_of, emptying_of, byte_by, box_after}
 
 -- ---- the lists of a run

@@ -1,7 +1,7 @@
 -- Names of `mail`: the arbiter's types and words that the statements use, the word of src/lib.rt, and the library's own booleans, numbers and
 -- lists, passed on under their own names.
 -- Assumes nothing.
-pub use Rattle.std.specs.Prelude.{ℕ, ◌+◌, ◌≤◌, ◌≡◌, Bool, true, false, not, ◌&&◌, ◌||◌, List, [], ◌∷◌, ◌++◌, map, length, drop}
+pub use Rattle.std.specs.Prelude.{ℕ, ◌+◌, ◌≤◌, ◌≡◌, Bool, true, false, not, ◌&&◌, ◌||◌, List, [], ◌∷◌, ◌++◌, map, length, drop, if◌then◌else◌}
 pub use Rattle.arbiter.specs.declared.Master.{Master}
 pub use Rattle.arbiter.specs.declared.Master.TheVariants.{Zero, One}
 pub use Rattle.arbiter.specs.declared.Register.{Register}
@@ -16,7 +16,7 @@ pub use Rattle.arbiter.specs.declared.Event.{Event}
 pub use Rattle.arbiter.specs.declared.Event.TheVariants.{Command, Write, Read, Stop, Pair, Lines, Tick, Pulse, Reset, GeneralCall}
 pub use Rattle.arbiter.specs.declared.Decoded.{Decoded}
 pub use Rattle.arbiter.specs.declared.Decoded.TheVariants.{Reads, UnknownKind, BadField}
-pub use Rattle.arbiter.specs.Words.{if◌then◌else◌, bit, worth, partner, same_master, of, side}
+pub use Rattle.arbiter.specs.Words.{bit, worth, partner, same_master, of, side}
 pub use Rattle.arbiter.specs.Registers.{reads_at}
 unfoldable pub use Rattle.arbiter.specs.Events.{decode}
 pub use Rattle.arbiter.specs.Effects.{is_mail_high}

@@ -1,8 +1,8 @@
 -- Request #111: runs that show what the statements of Mail and Using say, and what fails where a premise of theirs does. Each is run for both
 -- boxes of a part of each kind: m is the reader, p the sender. proofs/Runs.antt computes them all.
 -- Assumes nothing.
-use Rattle.std.specs.Prelude.{eqb}
-use Rattle.mail.specs.Names.{ℕ, ◌≡◌, Bool, true, not, List, [], ◌∷◌, ◌++◌, map, Master, Zero, One, Kind, Device, Raw, partner, of, side, step, run_from, run, next, is_accepted, reset, never, is_mail_high, Word}
+use Rattle.std.specs.Prelude.{eqb, ◌≡◌, ◌∷◌, ◌++◌}
+use Rattle.mail.specs.Names.{ℕ, Bool, true, not, List, [], map, Master, Zero, One, Kind, Device, Raw, partner, of, side, step, run_from, run, next, is_accepted, reset, never, is_mail_high, Word}
 use Rattle.mail.specs.Words.{full, word, at, drop_of, fill_of, emptying_of}
 use Rattle.mail.specs.Mail.{filled, emptied, pending, last_low}
 use Rattle.mail.specs.Using.{sees_emptied, clearing_of, low_read_of, own_of, read_of}

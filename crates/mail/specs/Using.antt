@@ -1,7 +1,8 @@
 -- Request #111, for the controllers' authors: how a sender knows that its word was taken, and how a reader gets the very word that it empties.
 -- Statements over every run, as in Mail. proofs/Using.antt, Sender.antt and Reading.antt prove them. Runs shows what fails where a premise does.
 -- Assumes nothing.
-use Rattle.mail.specs.Names.{◌≡◌, Bool, true, false, not, ◌&&◌, List, ◌∷◌, ◌++◌, Master, Register, Id, Contr, Status, Rt, IntStatus, IntMask, MailLow, MailHigh, Kind, Device, Raw, Event, Command, Write, Read, Stop, Pair, Lines, Tick, Pulse, Reset, GeneralCall, bit, partner, same_master, side, reads_at, step, run_from, run, next, accepted, reset, never, Word}
+use Rattle.std.specs.Prelude.{◌≡◌, ◌&&◌, ◌∷◌, ◌++◌}
+use Rattle.mail.specs.Names.{Bool, true, false, not, List, Master, Register, Id, Contr, Status, Rt, IntStatus, IntMask, MailLow, MailHigh, Kind, Device, Raw, Event, Command, Write, Read, Stop, Pair, Lines, Tick, Pulse, Reset, GeneralCall, bit, partner, same_master, side, reads_at, step, run_from, run, next, accepted, reset, never, Word}
 use Rattle.mail.specs.Words.{full, word, held, at, writes, byte_of, reads, is_mail_low, fill_of, emptying_of}
 use Rattle.mail.specs.Mail.{filled, emptied}
 

@@ -1,7 +1,8 @@
 -- Request #111, its words: what a mailbox holds, and what an event does to it, said of the event in the state that it meets. m's box is the one
 -- that m reads; its sender is m's partner. The quotes are of document 01's line on mail, and of the ruling on #111 where that is said.
 -- Assumes nothing.
-use Rattle.mail.specs.Names.{ℕ, Bool, true, false, not, ◌&&◌, ◌||◌, Master, Register, Id, Contr, Status, Rt, IntStatus, IntMask, MailLow, MailHigh, Mailbox, Device, Raw, Event, Command, Write, Read, Stop, Pair, Lines, Tick, Pulse, Reset, GeneralCall, Decoded, Reads, UnknownKind, BadField, if◌then◌else◌, partner, same_master, of, side, decode, is_mail_high, accepted, reset, Word}
+use Rattle.std.specs.Prelude.{◌&&◌, ◌||◌, if◌then◌else◌}
+use Rattle.mail.specs.Names.{ℕ, Bool, true, false, not, Master, Register, Id, Contr, Status, Rt, IntStatus, IntMask, MailLow, MailHigh, Mailbox, Device, Raw, Event, Command, Write, Read, Stop, Pair, Lines, Tick, Pulse, Reset, GeneralCall, Decoded, Reads, UnknownKind, BadField, partner, same_master, of, side, decode, is_mail_high, accepted, reset, Word}
 
 -- ---- a box in a state
 

@@ -1,17 +1,14 @@
 -- An import answers with few events: those of a capture that is not too long, or none.
 -- Assumes nothing.
 use Prim.Native.Nat.{ℕ, ◌≤◌}
-use mathlib.Core.Path.{◌≡◌, subst, sym}
-use mathlib.Core.Bool.{Bool, true, false}
+use mathlib.Core.Path.{subst, sym}
 use mathlib.Core.List.{List}
 use native.Mathlib.Omega.{arith}
 use lib.Dec.{eqb, ltb}
 use lib.ListN.{length}
 use borrow.Author.Tests.{ltb-false}
 use Rattle.arbiter.specs.Traces.{most_events}
-use Rattle.arbiter.specs.Words.{if◌then◌else◌}
 use Rattle.arbiter.proofs.Choice.{either, split, if_true}
-use Rattle.capture.specs.Events.{captured}
 use Rattle.capture.specs.Import.{most_samples, import_number, imported_by, imported}
 use Rattle.capture.proofs.Bound.{captured_in_range}
 

@@ -1,4 +1,6 @@
 // A device as an image in a lent buffer, for Rust and C: what is answered packed in one number.
+#![tactic(auto)]
+
 ghost use Rattle.std.specs.Prelude.{◌≡◌};
 ghost use Rattle.layout.specs.Images.{image_answer, image_after, fresh_number, fresh_after, shown};
 ghost use Rattle.imaging.specs.Advancing.{image_told, image_advanced};

@@ -1,4 +1,6 @@
 // The orders of two start-up scripts for Rust and C: how many were listed packed in one number, their bytes in a lent buffer.
+#![tactic(auto)]
+
 ghost use Rattle.std.specs.Prelude.{◌≡◌};
 ghost use Rattle.orders.specs.Call.{orders_listed, orders_buffer};
 ghost use Rattle.packed_orders.specs.Packed.{packed_listed};

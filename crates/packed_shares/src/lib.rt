@@ -1,4 +1,6 @@
 // The bus share for Rust and C: 17 totals in a lent buffer, and the number that is told of them.
+#![tactic(auto)]
+
 ghost use Rattle.std.specs.Prelude.{◌≡◌};
 ghost use Rattle.share.specs.Lent.{lent_number, lent_after, join_number, join_after};
 

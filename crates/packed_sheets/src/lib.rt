@@ -1,4 +1,6 @@
 // Order sheets for Rust and C: where a box is taken from, what is ordered and how long a controller can wait, packed in one number.
+#![tactic(auto)]
+
 ghost use Rattle.std.specs.Prelude.{◌≡◌};
 ghost use Rattle.sheets.specs.Sheets.{place_of};
 ghost use Rattle.sheets.specs.Settings.{ordered, ordered_buffer};
@@ -13,6 +15,7 @@ use sheets::sheet::fault_number;
 use sheets::waits::wait_of;
 
 // Where the box of a section and a controller is taken from, of a board sheet and a house sheet.
+#[tactic(auto, using(sheets::proofs::Sound::board_inside, sheets::proofs::Sound::house_inside))]
 pub fn packed_box(board: &[u8], house: &[u8], section: u8, controller: u8) -> u64
     ensures { result ≡ packed_box (place_of section controller board.now house.now) }
 {
@@ -25,6 +28,7 @@ pub fn packed_box(board: &[u8], house: &[u8], section: u8, controller: u8) -> u6
 }
 
 // The twelve events that a board sheet and a house sheet order, into a lent buffer.
+#[tactic(auto, using(sheets::proofs::Complete::ordered_few))]
 pub fn packed_events(board: &[u8], house: &[u8], events: &mut [u8]) -> u64
     ensures { (result ≡ packed_order (ordered board.now house.now events.old)) × (events.new ≡ ordered_buffer board.now house.now events.old) }
 {

@@ -1,4 +1,6 @@
 // A shelf's row in a lent buffer, for Rust and C: what is answered packed in one number.
+#![tactic(auto)]
+
 ghost use Rattle.std.specs.Prelude.{◌≡◌};
 ghost use Rattle.rowimage.specs.Calls.{row_answer, row_buffer, row_shown};
 ghost use Rattle.rowimage.specs.Slots.{fresh_row_number, fresh_row_buffer};

@@ -1,4 +1,6 @@
 // The straps for Rust and C: pins and address packed in one number.
+#![tactic(auto)]
+
 ghost use Rattle.std.specs.Prelude.{◌≡◌};
 ghost use Rattle.arbiter.specs.Straps.{address_of, straps_of};
 ghost use Rattle.arbiter.specs.declared.Strapping.TheVariants.{Straps};

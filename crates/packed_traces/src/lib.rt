@@ -1,4 +1,6 @@
 // Traces for Rust and C: what is reported of one packed in one number, its bytes in a lent buffer.
+#![tactic(auto)]
+
 ghost use Rattle.std.specs.Prelude.{◌≡◌, length};
 ghost use Rattle.arbiter.specs.Traces.{report, buffer_after};
 ghost use Rattle.arbiter.specs.OldTraces.{conversion, buffer_converted};

@@ -1,4 +1,6 @@
 // A listener in a lent buffer, for Rust and C: what a call tells packed in one number.
+#![tactic(auto)]
+
 ghost use Rattle.std.specs.Prelude.{◌≡◌, length};
 ghost use Rattle.watchlayout.specs.Calls.{fresh_number, fresh_after, heeded, heeded_after};
 ghost use Rattle.packed_watches.specs.Packed.{at_once, count_at_once, packed_heeded};

@@ -1,4 +1,6 @@
 // What the crates of the boundary share: a byte as a number of 64 bits, and the four bytes of an answer in one number.
+#![tactic(auto)]
+
 ghost use Rattle.std.specs.Prelude.{◌<◌, ◌≡◌};
 ghost use Rattle.packing.specs.Packed.{packed_answer};
 

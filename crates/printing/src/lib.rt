@@ -1,9 +1,31 @@
-// What the programs share: the listing of a trace on standard output.
-ghost use Rattle.std.specs.Prelude.{◌≡◌, ◌≤◌, length};
-ghost use Rattle.arbiter.specs.Listing.{most_chars};
+// What the programs share: a stream read into a buffer, and the listing of a trace on a stream.
+#![tactic(auto)]
 
-use libc::STDOUT_FILENO;
+ghost use Rattle.std.specs.Prelude.{◌≡◌, ◌≤◌, ◌<◌, length, take, IfOk, IfSome, OnOk};
+ghost use Rattle.std.specs.Io.KnownBytes.{Appends, Consumes, IsAtEnd};
+ghost use Rattle.arbiter.specs.Listing.{most_chars, listing};
+
+use std::io;
 use text::{LISTING_ROOM, list_trace};
+
+// Reads until the buffer is full or the stream ends, and answers how many bytes it put at the buffer's front. Where the stream's bytes are known
+// they are its next ones, and fewer than the buffer has room for only at its end.
+pub fn read_full<R: io::Read>(from: &mut R, buffer: &mut [u8]) -> io::Result<usize>
+    ensures bound { IfOk result (λ n. n ≤ length buffer.new) }
+    ensures bytes { IfOk result (λ n. Consumes (R.remaining from.old) (R.remaining from.new) (take n buffer.new)) }
+    ensures front { IfOk result (λ n. IfSome (R.remaining from.old) (λ xs. take n buffer.new ≡ take (length buffer.new) xs)) }
+    ensures end { IfOk result (λ n. n < length buffer.new → IsAtEnd (R.remaining from.new)) }
+{
+    let mut done = 0;
+    while done < buffer.len() {
+        let n = from.read(&mut buffer[done..])?;
+        if n == 0 {
+            break;
+        }
+        done += n;
+    }
+    Ok(done)
+}
 
 // Room for any listing.
 fn text_room() -> [u8; LISTING_ROOM]
@@ -12,15 +34,18 @@ fn text_room() -> [u8; LISTING_ROOM]
     [0; LISTING_ROOM]
 }
 
-fn print_by(trace: &[u8], text: &mut [u8]) -> bool
+fn print_by<W: io::Write>(out: &mut W, trace: &[u8], text: &mut [u8]) -> io::Result<()>
     requires { most_chars ≤ length text.old }
+    ensures { OnOk result (Appends (W.contents out.old) (W.contents out.new) (listing trace.now)) }
 {
     let n = list_trace(trace, text);
-    io::write_all(STDOUT_FILENO, &text[..n])
+    out.write_all(&text[..n])
 }
 
-// Writes the listing of a trace to standard output, and answers whether all of it was taken. What a program wrote no contract can say.
-pub fn print_listing(trace: &[u8]) -> bool {
+// Writes the listing of a trace to a stream. What the operating system took no contract can say.
+pub fn print_listing<W: io::Write>(out: &mut W, trace: &[u8]) -> io::Result<()>
+    ensures { OnOk result (Appends (W.contents out.old) (W.contents out.new) (listing trace.now)) }
+{
     let mut text = text_room();
-    print_by(trace, &mut text)
+    print_by(out, trace, &mut text)
 }

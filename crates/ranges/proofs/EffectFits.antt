@@ -5,7 +5,8 @@ use mathlib.Core.Path.{refl}
 use mathlib.Core.Bool.{Bool, true, not, ◌&&◌, ◌||◌, and-eq-true_iff}
 use native.Mathlib.Omega.{arith}
 use borrow.Author.Tests.{ltb-true}
-use Rattle.ranges.specs.Names.{ℕ, ◌+◌, ◌-◌, ltb, Master, Zero, One, Rest, Register}
+use Rattle.std.specs.Prelude.{◌+◌, ◌-◌}
+use Rattle.ranges.specs.Names.{ℕ, ltb, Master, Zero, One, Rest, Register}
 use Rattle.ranges.specs.Names.{Id, Contr, Status, Rt, IntStatus, IntMask, MailLow, MailHigh, Side, Bus}
 use Rattle.ranges.specs.Names.{Device, Event, Command, Write, Read, Stop, Pair, Lines, Tick, Pulse, Reset, GeneralCall}
 use Rattle.arbiter.specs.Rules.{idle_limit}
@@ -14,7 +15,8 @@ use Rattle.arbiter.specs.Parts.{with_port, with_turn}
 use Rattle.arbiter.specs.State.{owns, is_idle, scl_high, sda_high, scl_hung_limit, sda_hung_limit}
 use Rattle.arbiter.specs.Registers.{mail_emptied_int, int_in_int, test_int, mail_full_int, withdraws, own_written, mail_written, drives_written}
 use Rattle.arbiter.specs.Events.{good_command, soft_reset}
-use Rattle.arbiter.specs.Effects.{commanded, writer_side, partner_side, written_bus, written_turn, written, paired, empties, reader_side, sender_side, was_read, lined}
+use Rattle.arbiter.specs.Effects.{commanded, writer_side, partner_side, written_bus, written_turn, written, paired, empties, reader_side, sender_side, was_read}
+use Rattle.arbiter.specs.Effects.{lined}
 use Rattle.arbiter.specs.Effects.{counted_to, ticked, fresh_side, was_reset, effect}
 use Rattle.arbiter.proofs.Choice.{either}
 use Rattle.ranges.proofs.Fields.{raised_fits, cleared_fits, BusOk, SideOk, Ok, ok_side, ok_device, ok_with, ok_ints}

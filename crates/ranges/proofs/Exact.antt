@@ -2,9 +2,10 @@
 -- Assumes nothing.
 use mathlib.Core.Path.{◌≡◌, refl, sym, ap, ap₂, ◌∙◌}
 use mathlib.Core.Bool.{false≢true, and-eq-true_iff, or-false}
-use Rattle.ranges.specs.Names.{ℕ, Bool, true, false, ◌&&◌, ◌||◌, Master, Switch, Apart, Initialising, Closed, Bus, Clock, Device, Event, Command, Write}
+use Rattle.std.specs.Prelude.{◌&&◌, ◌||◌, if◌then◌else◌}
+use Rattle.ranges.specs.Names.{ℕ, Bool, true, false, Master, Switch, Apart, Initialising, Closed, Bus, Clock, Device, Event, Command, Write}
 use Rattle.ranges.specs.Names.{Read, Stop, Pair, Lines, Tick, Pulse, Reset, GeneralCall}
-use Rattle.arbiter.specs.Words.{if◌then◌else◌, side}
+use Rattle.arbiter.specs.Words.{side}
 use Rattle.arbiter.specs.State.{closed_for, scl_high, sda_high}
 use Rattle.arbiter.specs.Effects.{fresh_bus, fresh_side, was_reset, hold_asked, power_up, effect}
 use Rattle.arbiter.specs.Order.{is_reset, is_tick, clock_of, scl_changed, settled_bus, levels, losses_from, losses, cut_from, cut, claim, grant_from, grant}

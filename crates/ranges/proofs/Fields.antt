@@ -5,7 +5,8 @@ use mathlib.Core.Path.{◌≡◌, refl, ap₂}
 use mathlib.Core.Bool.{Bool, true, false, ◌&&◌, and-eq-true_iff}
 use native.Mathlib.Omega.{arith}
 use borrow.Author.Tests.{ltb-true, lt-ltb}
-use Rattle.ranges.specs.Names.{ℕ, ◌+◌, ◌-◌, ◌%◌, List, [], ◌∷◌, ltb, bit_and, Master, Zero, One, Mailbox, Side, Bus, Arbitration, Device}
+use Rattle.std.specs.Prelude.{◌+◌, ◌-◌, ◌%◌, ◌∷◌}
+use Rattle.ranges.specs.Names.{ℕ, List, [], ltb, bit_and, Master, Zero, One, Mailbox, Side, Bus, Arbitration, Device}
 use Rattle.arbiter.specs.Rules.{idle_limit}
 use Rattle.arbiter.specs.Words.{partner, side, device}
 use Rattle.arbiter.specs.Parts.{with_side, with_ints}

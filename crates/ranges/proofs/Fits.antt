@@ -3,7 +3,8 @@
 use mathlib.Core.Path.{subst}
 use mathlib.Core.Bool.{Bool, ◌&&◌}
 use native.Mathlib.Omega.{arith}
-use Rattle.ranges.specs.Names.{ℕ, ◌-◌, List, [], ◌∷◌, eqb, Kind, Device, Raw, Event, Command, Write, Read, Stop, Pair, Lines, Tick, Pulse, Reset}
+use Rattle.std.specs.Prelude.{◌-◌, ◌∷◌}
+use Rattle.ranges.specs.Names.{ℕ, List, [], eqb, Kind, Device, Raw, Event, Command, Write, Read, Stop, Pair, Lines, Tick, Pulse, Reset}
 use Rattle.ranges.specs.Names.{GeneralCall, Decoded, Reads, UnknownKind, BadField, Stepped}
 use Rattle.arbiter.specs.Events.{fitting, zero_or_one, unused, master, level, decode}
 use Rattle.arbiter.specs.Effects.{power_up, effect}

@@ -5,11 +5,12 @@ use mathlib.Core.Path.{refl}
 use mathlib.Core.Bool.{Bool, true, false, not, ◌&&◌, ◌||◌}
 use native.Mathlib.Omega.{arith}
 use borrow.Author.Tests.{ltb-true}
-use Rattle.ranges.specs.Names.{ℕ, ◌+◌, eqb, ltb, Master, Ground, Turn, Nobody, Claims}
+use Rattle.std.specs.Prelude.{◌+◌, if◌then◌else◌}
+use Rattle.ranges.specs.Names.{ℕ, eqb, ltb, Master, Ground, Turn, Nobody, Claims}
 use Rattle.ranges.specs.Names.{Owns, Side, Bus, Switch, Apart, Initialising, Closed, Device, Clock}
 use Rattle.ranges.specs.Names.{NoClock, ClockLow, ClockHigh}
 use Rattle.arbiter.specs.Rules.{idle_limit}
-use Rattle.arbiter.specs.Words.{if◌then◌else◌, partner, same_master, side}
+use Rattle.arbiter.specs.Words.{partner, same_master, side}
 use Rattle.arbiter.specs.Parts.{with_side, with_ints, with_idle, with_turn, with_contr, with_bus_init}
 use Rattle.arbiter.specs.State.{scl_high, sda_high, at_rest, scl_hung_limit, sda_hung_limit}
 use Rattle.arbiter.specs.Registers.{granted_int, lost_int, raised, disconnected, released}

@@ -3,8 +3,9 @@
 use Prim.Native.Nat.{◌<◌}
 use mathlib.Core.Path.{◌≡◌, refl, sym, ap, subst, ◌∙◌}
 use mathlib.Core.Bool.{Bool, true, false, not, ◌&&◌, ◌||◌, beq, and-eq-true_iff}
-use Rattle.ranges.specs.Names.{ℕ, ◌+◌, List, [], ◌∷◌, ◌++◌, Master, Zero, One, IntStatus, Kind, Device, Raw, Stepped}
-use Rattle.arbiter.specs.Words.{bit, worth, of, side, device}
+use Rattle.std.specs.Prelude.{◌+◌, ◌∷◌, ◌++◌}
+use Rattle.ranges.specs.Names.{ℕ, List, [], Master, Zero, One, IntStatus, Kind, Device, Raw, Stepped}
+use Rattle.arbiter.specs.Words.{bit, worth, of, side}
 use Rattle.arbiter.specs.State.{scl_high, sda_high, bus_hung}
 use Rattle.arbiter.specs.Registers.{int_status_byte, register_byte, reads_at, is_asserted, output}
 use Rattle.arbiter.specs.Steps.{lines_byte, taken, refused, step, run_from, run}

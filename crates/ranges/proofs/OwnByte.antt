@@ -2,8 +2,9 @@
 -- side can be looked at field by field.
 -- Assumes nothing.
 use mathlib.Core.Path.{◌≡◌, refl, ap, ◌∙◌}
-use Rattle.ranges.specs.Names.{ℕ, ◌%◌, Bool, true, false, Register, Id, Contr, Status, Rt, IntStatus, IntMask, MailLow, MailHigh, Control, Side}
-use Rattle.arbiter.specs.Words.{if◌then◌else◌, bit}
+use Rattle.std.specs.Prelude.{◌%◌, if◌then◌else◌}
+use Rattle.ranges.specs.Names.{ℕ, Bool, true, false, Register, Id, Contr, Status, Rt, IntStatus, IntMask, MailLow, MailHigh, Control, Side}
+use Rattle.arbiter.specs.Words.{bit}
 use Rattle.arbiter.specs.Parts.{with_bus_connect, with_pointer}
 use Rattle.arbiter.specs.Registers.{test_int, raised, cleared, withdraws, control_of, own_written}
 use Rattle.arbiter.specs.Effects.{after_write, write_risen}

@@ -6,10 +6,11 @@ use mathlib.Core.Path.{◌≡◌, refl, sym, ap, ap₂, ◌∙◌}
 use mathlib.Core.Bool.{true≢false, false≢true, and-eq-true_iff}
 use native.Mathlib.Omega.{arith}
 use borrow.Author.Tests.{eqb-true}
-use Rattle.ranges.specs.Names.{ℕ, ◌-◌, ◌/◌, ◌%◌, Bool, true, false, not, ◌&&◌, ◌||◌, eqb, bit_and, Master, Zero, One, Turn, Nobody, Claims, Owns, Register}
+use Rattle.std.specs.Prelude.{◌-◌, ◌/◌, ◌%◌, ◌&&◌, ◌||◌, if◌then◌else◌}
+use Rattle.ranges.specs.Names.{ℕ, Bool, true, false, not, eqb, bit_and, Master, Zero, One, Turn, Nobody, Claims, Owns, Register}
 use Rattle.ranges.specs.Names.{Id, Contr, Status, Rt, IntStatus, IntMask, MailLow, MailHigh, Control, Side, Bus, Device}
 use Rattle.arbiter.specs.Rules.{rolls}
-use Rattle.arbiter.specs.Words.{if◌then◌else◌, bit, partner}
+use Rattle.arbiter.specs.Words.{bit, partner}
 use Rattle.arbiter.specs.Parts.{with_ints, with_mail, with_turn}
 use Rattle.arbiter.specs.State.{owns_turn, owns}
 use Rattle.arbiter.specs.Registers.{register_number, test_int, mail_full_int, raised, withdraws, mail_low, mail_high, own_written, mail_written}

@@ -5,7 +5,8 @@ use mathlib.Core.Path.{◌≡◌, refl, ap, ap₂, ◌∙◌}
 use mathlib.Core.Bool.{and-eq-true_iff, false≢true}
 use native.Mathlib.Omega.{arith}
 use borrow.Author.Tests.{eqb-true, ltb-true, ltb-false}
-use Rattle.ranges.specs.Names.{ℕ, suc, ◌-◌, Bool, true, ◌&&◌, List, [], ◌∷◌, ◌++◌, eqb, ltb, Kind, Pca9641, Tpt29641, Device, Raw}
+use Rattle.std.specs.Prelude.{◌-◌, ◌&&◌, ◌∷◌, ◌++◌}
+use Rattle.ranges.specs.Names.{ℕ, suc, Bool, true, List, [], eqb, ltb, Kind, Pca9641, Tpt29641, Device, Raw}
 use Rattle.arbiter.specs.Rules.{rules_of}
 use Rattle.arbiter.specs.Words.{byte_of}
 use Rattle.arbiter.specs.Registers.{contr_byte, status_byte, register_byte, is_asserted, own_written, mail_written, drives_written, turn_written}

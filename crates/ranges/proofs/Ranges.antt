@@ -5,7 +5,8 @@ use mathlib.Core.Path.{◌≡◌, ap₂}
 use mathlib.Core.Bool.{true, ◌&&◌, and-eq-true_iff}
 use native.Mathlib.Omega.{arith}
 use borrow.Author.Tests.{ltb-true}
-use Rattle.ranges.specs.Names.{ℕ, ◌-◌, List, [], ◌∷◌, ltb, Kind, Device, Raw}
+use Rattle.std.specs.Prelude.{◌-◌, ◌∷◌}
+use Rattle.ranges.specs.Names.{ℕ, List, [], ltb, Kind, Device, Raw}
 use Rattle.arbiter.specs.Steps.{run}
 use Rattle.arbiter.specs.AuditWords.{next}
 use Rattle.ranges.specs.Ranges.{narrow, bytes, all_fit, in_range, is_bytes, are_bytes, InRange, NarrowInRange, StaysInRange}

@@ -1,7 +1,7 @@
 -- Three things said exactly: whose the switch is, what PAIR is to two WRITEs, and what power-up is to a reset. proofs/Exact.antt proves them.
 -- Assumes nothing.
-use Rattle.std.specs.Prelude.{◌≡◌}
-use Rattle.ranges.specs.Names.{ℕ, Bool, true, false, not, ◌&&◌, ◌||◌, List, eqb, Master, Zero, One, Switch, Apart, Initialising, Closed, Kind, Bus, Device, Raw}
+use Rattle.std.specs.Prelude.{◌≡◌, ◌&&◌, ◌||◌}
+use Rattle.ranges.specs.Names.{ℕ, Bool, true, false, not, List, eqb, Master, Zero, One, Switch, Apart, Initialising, Closed, Kind, Bus, Device, Raw}
 use Rattle.arbiter.specs.Words.{bit, partner, same_master, side}
 use Rattle.arbiter.specs.State.{owns, connected}
 use Rattle.arbiter.specs.Registers.{register_number}

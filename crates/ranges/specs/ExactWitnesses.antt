@@ -1,8 +1,8 @@
 -- Runs that meet the premises of the statements of Exact, each for both masters of a part of each kind. proofs/ExactWitnesses.antt computes
 -- them all.
 -- Assumes nothing.
-use Rattle.std.specs.Prelude.{◌≡◌}
-use Rattle.ranges.specs.Names.{ℕ, Bool, true, not, List, [], ◌∷◌, ◌++◌, eqb, Master, Zero, One, Kind, Device, Raw}
+use Rattle.std.specs.Prelude.{◌≡◌, ◌∷◌, ◌++◌}
+use Rattle.ranges.specs.Names.{ℕ, Bool, true, not, List, [], eqb, Master, Zero, One, Kind, Device, Raw}
 use Rattle.arbiter.specs.Words.{bit, partner, of, side}
 use Rattle.arbiter.specs.State.{owns, connected}
 use Rattle.arbiter.specs.Effects.{written, paired}

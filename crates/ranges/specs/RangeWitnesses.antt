@@ -1,10 +1,10 @@
 -- For every field of the device record (Ranges) and each kind of part, a run along which it takes every value of its range: the ranges are
 -- no wider than runs reach. proofs/RangeWitnesses.antt computes them all.
 -- Assumes nothing.
-use Rattle.std.specs.Prelude.{◌≤◌, ◌≡◌}
-use Rattle.ranges.specs.Names.{ℕ, zero, suc, ◌-◌, Bool, true, false, ◌&&◌, List, [], ◌∷◌, ◌++◌, eqb, get_or, Master, Zero, One, Kind, Device, Raw}
+use Rattle.std.specs.Prelude.{◌≤◌, ◌≡◌, ◌-◌, ◌&&◌, ◌∷◌, ◌++◌, if◌then◌else◌}
+use Rattle.ranges.specs.Names.{ℕ, zero, suc, Bool, true, false, List, [], eqb, get_or, Master, Zero, One, Kind, Device, Raw}
 use Rattle.arbiter.specs.Rules.{limit_of}
-use Rattle.arbiter.specs.Words.{if◌then◌else◌, partner}
+use Rattle.arbiter.specs.Words.{partner}
 use Rattle.arbiter.specs.Effects.{power_up}
 use Rattle.arbiter.specs.Steps.{run}
 use Rattle.arbiter.specs.AuditWords.{next}

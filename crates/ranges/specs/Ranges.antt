@@ -1,8 +1,8 @@
 -- The range of every field of the device record, as a run from power-up of a part of either kind can give it: field by field, each range
 -- exact. proofs/Ranges.antt proves that no run leaves them, and RangeWitnesses has runs that reach every value in them.
 -- Assumes nothing.
-use Rattle.std.specs.Prelude.{◌≡◌}
-use Rattle.ranges.specs.Names.{ℕ, ◌+◌, Bool, true, false, not, ◌&&◌, ◌||◌, List, [], ◌∷◌, ◌++◌, ltb, Master, Zero, One, Sole, Priority, LastGranted, Turn, Nobody, Claims, Owns, Last, Never, Was, Port, Rest, Open, Writing, IntStatus, IntMask, Switch, Apart, Initialising, Closed, Kind, Device, Raw}
+use Rattle.std.specs.Prelude.{◌≡◌, ◌+◌, ◌&&◌, ◌||◌, ◌∷◌, ◌++◌}
+use Rattle.ranges.specs.Names.{ℕ, Bool, true, false, not, List, [], ltb, Master, Zero, One, Sole, Priority, LastGranted, Turn, Nobody, Claims, Owns, Last, Never, Was, Port, Rest, Open, Writing, IntStatus, IntMask, Switch, Apart, Initialising, Closed, Kind, Device, Raw}
 use Rattle.arbiter.specs.Rules.{limit_of}
 use Rattle.arbiter.specs.Words.{bit, worth, of, side}
 use Rattle.arbiter.specs.State.{bus_hung}
@@ -16,8 +16,8 @@ pub record Field : Type 0 where
   pub value : Device → ℕ
   pub top : Kind → ℕ
 
-infix 15 ◌upTo◌
-abbrev pub ◌upTo◌ : (Device → ℕ) → ℕ → Field
+infix 15 ◌up_to◌
+abbrev pub ◌up_to◌ : (Device → ℕ) → ℕ → Field
 value up_to top = record { value = value; top = λ (k : Kind). top }
 
 -- ---- the fields that are numbers

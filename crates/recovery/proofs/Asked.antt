@@ -3,7 +3,8 @@
 use mathlib.Core.Path.{◌≡◌, refl, sym, ap, ap₂, ◌∙◌}
 use mathlib.Core.Bool.{true≢false, and-eq-true_iff, and-false}
 use borrow.Author.Tests.{eq-eqb}
-use Rattle.ranges.specs.Names.{ℕ, zero, suc, Bool, true, false, not, ◌&&◌, ◌||◌, List, [], ◌∷◌, ◌++◌, eqb, Master, Zero, One, Contr, Bus, Device, Raw, Event}
+use Rattle.std.specs.Prelude.{◌&&◌, ◌||◌, ◌∷◌, ◌++◌}
+use Rattle.ranges.specs.Names.{ℕ, zero, suc, Bool, true, false, not, List, [], eqb, Master, Zero, One, Contr, Bus, Device, Raw, Event}
 use Rattle.ranges.specs.Names.{Command, Write, Stop, Lines, Decoded, Reads}
 use Rattle.arbiter.specs.State.{owns, scl_high, sda_high, at_rest}
 use Rattle.arbiter.specs.Events.{decode, in_sequence}

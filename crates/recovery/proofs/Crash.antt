@@ -4,11 +4,12 @@ use mathlib.Core.Path.{◌≡◌, refl, sym, ap, ap₂, ◌∙◌, subst}
 use mathlib.Core.Bool.{true≢false, and-eq-true_iff}
 use mathlib.Core.Logic.{◌⊎◌, inl, inr, ⊎_elim}
 use borrow.Author.Tests.{eqb-true, eq-eqb}
-use Rattle.ranges.specs.Names.{ℕ, Bool, true, false, not, ◌&&◌, ◌||◌, List, [], ◌∷◌, eqb, Master, Zero, One, Ground, Turn, Nobody, Claims, Owns, Register, Id}
+use Rattle.std.specs.Prelude.{◌&&◌, ◌||◌, ◌∷◌, if◌then◌else◌}
+use Rattle.ranges.specs.Names.{ℕ, Bool, true, false, not, List, [], eqb, Master, Zero, One, Ground, Turn, Nobody, Claims, Owns, Register, Id}
 use Rattle.ranges.specs.Names.{Contr, Status, Rt, IntStatus, IntMask, MailLow, MailHigh, Bus, Kind, Device, Raw, Event, Command, Write, Read, Stop, Pair, Lines}
 use Rattle.ranges.specs.Names.{Tick, Pulse, Reset, GeneralCall}
 use Rattle.arbiter.specs.Rules.{idle_limit}
-use Rattle.arbiter.specs.Words.{if◌then◌else◌, partner, same_master, side}
+use Rattle.arbiter.specs.Words.{partner, same_master, side}
 use Rattle.arbiter.specs.State.{owns_turn, owns, claims, scl_high, sda_high, is_idle}
 use Rattle.arbiter.specs.Events.{soft_reset}
 use Rattle.arbiter.specs.Registers.{drives_written}

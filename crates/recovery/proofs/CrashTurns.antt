@@ -6,7 +6,8 @@ use mathlib.Core.Path.{◌≡◌, refl, sym, ap, ap₂, ◌∙◌}
 use mathlib.Core.Bool.{true≢false, false≢true}
 use mathlib.Core.Logic.{◌⊎◌, inl, inr}
 use borrow.Author.Tests.{eq-eqb, eqb-false}
-use Rattle.ranges.specs.Names.{ℕ, ◌-◌, Bool, true, false, not, ◌&&◌, ◌||◌, List, [], ◌∷◌, eqb, Master, Zero, One, Ground, Turn, Nobody, Claims, Owns, Kind}
+use Rattle.std.specs.Prelude.{◌-◌, ◌&&◌, ◌||◌, ◌∷◌}
+use Rattle.ranges.specs.Names.{Bool, true, false, not, List, [], eqb, Master, Zero, One, Ground, Turn, Nobody, Claims, Owns, Kind}
 use Rattle.ranges.specs.Names.{Device, Raw}
 use Rattle.arbiter.specs.Words.{worth, partner}
 use Rattle.arbiter.specs.State.{owns, claims, at_rest}

@@ -3,7 +3,8 @@
 use mathlib.Core.Path.{◌≡◌, sym, ap, refl, ◌∙◌}
 use mathlib.Core.Bool.{true≢false, and-true, and-eq-true_iff}
 use borrow.Author.Tests.{eq-eqb, eqb-true}
-use Rattle.ranges.specs.Names.{Bool, true, false, not, ◌&&◌, List, eqb, Master, Zero, One, Turn, Nobody, Claims, Owns, Status, Kind, Device, Raw}
+use Rattle.std.specs.Prelude.{◌&&◌}
+use Rattle.ranges.specs.Names.{Bool, true, false, not, List, eqb, Master, Zero, One, Turn, Nobody, Claims, Owns, Status, Kind, Device, Raw}
 use Rattle.arbiter.specs.Words.{bit, partner}
 use Rattle.arbiter.specs.State.{owns_turn, owns, claims_turn}
 use Rattle.arbiter.specs.Registers.{reads_at}

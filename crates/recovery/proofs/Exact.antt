@@ -5,9 +5,10 @@ use native.Mathlib.Omega.{arith}
 use mathlib.Core.Path.{◌≡◌, refl, sym, ap, ap₂, ◌∙◌}
 use mathlib.Core.Bool.{true≢false, and-eq-true_iff}
 use mathlib.Core.Logic.{⊎_elim}
-use Rattle.ranges.specs.Names.{ℕ, ◌+◌, ◌-◌, Bool, true, false, not, ◌&&◌, ◌||◌, List, eqb, Master, Ground, Claims, Owns, Bus, Kind, Device, Raw}
+use Rattle.std.specs.Prelude.{◌+◌, ◌-◌, ◌&&◌, ◌||◌, if◌then◌else◌}
+use Rattle.ranges.specs.Names.{ℕ, Bool, true, false, not, List, eqb, Master, Ground, Claims, Owns, Bus, Kind, Device, Raw}
 use Rattle.arbiter.specs.Rules.{limit_of}
-use Rattle.arbiter.specs.Words.{if◌then◌else◌, partner}
+use Rattle.arbiter.specs.Words.{partner}
 use Rattle.arbiter.specs.State.{owns_turn, owns, claims_turn, claims, is_idle}
 use Rattle.arbiter.specs.Order.{is_reset}
 use Rattle.arbiter.specs.Steps.{run_from, run}

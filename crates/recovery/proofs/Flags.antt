@@ -5,7 +5,8 @@ use native.Mathlib.Omega.{arith}
 use mathlib.Core.Path.{◌≡◌, refl, sym, ap, ap₂, ◌∙◌}
 use mathlib.Core.Bool.{or-false, and-true, and-false}
 use lib.Bits.{bit_and, bit_or, and_step, or_step}
-use Rattle.ranges.specs.Names.{ℕ, Bool, true, false, ◌&&◌, ◌||◌, eqb}
+use Rattle.std.specs.Prelude.{◌&&◌, ◌||◌}
+use Rattle.ranges.specs.Names.{ℕ, Bool, true, false, eqb}
 use Rattle.arbiter.specs.Words.{bit}
 use Rattle.arbiter.specs.Registers.{hung_int, mail_full_int, mail_emptied_int, test_int, int_in_int, raised}
 use Rattle.arbiter.proofs.Every.{every}

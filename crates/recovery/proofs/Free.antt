@@ -5,7 +5,8 @@ use native.Mathlib.Omega.{arith}
 use mathlib.Core.Path.{◌≡◌, refl, sym, ap, ap₂, ◌∙◌, subst}
 use mathlib.Core.Bool.{true≢false}
 use mathlib.Core.Logic.{inl, inr, ⊎_elim}
-use Rattle.ranges.specs.Names.{ℕ, ◌+◌, ◌-◌, Bool, true, false, not, ◌&&◌, ◌||◌, List, [], ◌∷◌, ◌++◌, Master, Zero, One, Kind, Device, Raw}
+use Rattle.std.specs.Prelude.{◌-◌, ◌&&◌, ◌||◌, ◌∷◌, ◌++◌}
+use Rattle.ranges.specs.Names.{ℕ, Bool, true, false, not, List, [], Master, Zero, One, Kind, Device, Raw}
 use Rattle.arbiter.specs.Words.{worth, partner, same_master}
 use Rattle.arbiter.specs.State.{owns, claims, is_idle}
 use Rattle.arbiter.specs.Effects.{power_up}
@@ -104,7 +105,8 @@ module _ (k : Kind) (m : Master) (rs : List Raw) where
       let n : ℕ = crash_ticks k m (run k all) in
       some_tick p n (run k all) (crash_exact k m all n q rest (omega arith) ∙ ap not h)
 
-  gets_in : (pre : List Raw) → Sent pre → requests p (run_from d pre) ≡ true → resting p (run_from d pre) ≡ true → gets_bus m (run_from d pre) ≡ true → LetsIn d m
+  gets_in : (pre : List Raw) → Sent pre → requests p (run_from d pre) ≡ true → resting p (run_from d pre) ≡ true → gets_bus m (run_from d pre) ≡ true
+      → LetsIn d m
   unfolding run
   gets_in pre s q rest h =
       let same : run k (rs ++ pre) ≡ run_from d pre = from_append rs pre (power_up k) in

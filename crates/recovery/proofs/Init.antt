@@ -7,14 +7,16 @@ use native.Mathlib.Omega.{arith}
 use mathlib.Core.Path.{◌≡◌, refl, sym, ap, ◌∙◌, subst}
 use mathlib.Core.Bool.{true≢false, false≢true, and-false, and-eq-true_iff}
 use borrow.Author.Tests.{lt-ltb}
-use Rattle.ranges.specs.Names.{ℕ, Bool, true, false, not, ◌&&◌, [], ◌∷◌, ltb, Master, Zero, One, Ground, Turn, Nobody, Claims, Owns, Switch, Apart}
+use Rattle.std.specs.Prelude.{◌&&◌, ◌∷◌}
+use Rattle.ranges.specs.Names.{ℕ, Bool, true, false, not, [], ltb, Master, Zero, One, Ground, Turn, Nobody, Claims, Owns, Switch, Apart}
 use Rattle.ranges.specs.Names.{Initialising, Closed, Control, Side, Clock, NoClock, Device, Raw, Event, Command, Write, Read, Stop, Pair, Lines, Tick, Pulse}
 use Rattle.ranges.specs.Names.{Reset, GeneralCall}
 use Rattle.arbiter.specs.Words.{worth, side}
 use Rattle.arbiter.specs.State.{owns_turn, owns}
 use Rattle.arbiter.specs.Events.{soft_reset}
 use Rattle.arbiter.specs.Effects.{written, paired, was_read, lined, ticked, effect}
-use Rattle.arbiter.specs.Order.{is_reset, is_tick, clock_of, levels, lost, losses_from, losses, cut_from, cut, claim, granted, grant_from, grant, switched, joined}
+use Rattle.arbiter.specs.Order.{is_reset, is_tick, clock_of, levels, lost, losses_from, losses, cut_from, cut, claim, granted, grant_from, grant, switched}
+use Rattle.arbiter.specs.Order.{joined}
 use Rattle.arbiter.specs.Order.{initialised, init_failed, clocked, kept_joined, connect_from, connect}
 use Rattle.arbiter.specs.Steps.{parts, run_from}
 use Rattle.arbiter.specs.AuditWords.{next, lets_go, reset}

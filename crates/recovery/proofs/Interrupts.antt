@@ -4,11 +4,12 @@
 use Prim.Native.Nat.{◌-◌, ◌%◌}
 use mathlib.Core.Path.{◌≡◌, refl, sym, ap, ◌∙◌}
 use mathlib.Core.Bool.{or-false, and-true, and-false}
-use Rattle.ranges.specs.Names.{ℕ, Bool, true, false, not, ◌&&◌, ◌||◌, Master, Zero, One, Ground, Turn, Nobody, Claims, Owns, Rest, Register, Id, Contr, Status}
+use Rattle.std.specs.Prelude.{◌&&◌, ◌||◌, if◌then◌else◌}
+use Rattle.ranges.specs.Names.{ℕ, Bool, true, false, not, Master, Zero, One, Ground, Turn, Nobody, Claims, Owns, Rest, Register, Id, Contr, Status}
 use Rattle.ranges.specs.Names.{Rt, IntStatus, IntMask, MailLow, MailHigh, Side, Switch, Clock, Device, Event, Command, Write, Read, Stop, Pair, Lines, Tick}
 use Rattle.ranges.specs.Names.{Pulse, Reset, GeneralCall}
 use Rattle.arbiter.specs.Rules.{rolls}
-use Rattle.arbiter.specs.Words.{if◌then◌else◌, bit, partner, same_master, side}
+use Rattle.arbiter.specs.Words.{bit, partner, same_master, side}
 use Rattle.arbiter.specs.Parts.{with_port}
 use Rattle.arbiter.specs.State.{owns_turn, owns}
 use Rattle.arbiter.specs.Registers.{mail_full_int, mail_emptied_int, test_int, granted_int, lost_int, int_in_int, withdraws, own_written, mail_written}

@@ -6,7 +6,8 @@ use mathlib.Core.Path.{◌≡◌, refl, sym, ap, ap₂, ◌∙◌}
 use mathlib.Core.Bool.{beq, true≢false, and-eq-true_iff}
 use lib.Bits.{bit_and, and_zero_r}
 use borrow.Author.Tests.{eqb-true}
-use Rattle.ranges.specs.Names.{ℕ, Bool, true, false, not, ◌&&◌, List, [], ◌∷◌, eqb, Master, Zero, One, IntStatus, Kind, Device, Raw, Stepped}
+use Rattle.std.specs.Prelude.{◌&&◌, ◌∷◌}
+use Rattle.ranges.specs.Names.{ℕ, Bool, true, false, not, List, [], eqb, Master, Zero, One, IntStatus, Kind, Device, Raw, Stepped}
 use Rattle.arbiter.specs.Words.{bit, worth, of, side}
 use Rattle.arbiter.specs.State.{scl_high, sda_high, bus_hung}
 use Rattle.arbiter.specs.Registers.{int_status_byte, register_byte, reads_at, unmasked, is_asserted, output}

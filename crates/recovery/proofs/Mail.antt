@@ -2,7 +2,8 @@
 -- Assumes nothing.
 use mathlib.Core.Path.{◌≡◌, refl, ap, ap₂, ◌∙◌}
 use mathlib.Core.Bool.{and-false}
-use Rattle.ranges.specs.Names.{ℕ, Bool, true, false, not, ◌&&◌, [], ◌∷◌, Master, Mailbox, Device, Raw, Event}
+use Rattle.std.specs.Prelude.{◌&&◌, ◌∷◌}
+use Rattle.ranges.specs.Names.{ℕ, Bool, true, false, not, [], Master, Mailbox, Device, Raw, Event}
 use Rattle.arbiter.specs.Words.{partner}
 use Rattle.arbiter.specs.Steps.{run_from}
 use Rattle.arbiter.specs.AuditWords.{next, accepted, reset}

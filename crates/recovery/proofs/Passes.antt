@@ -8,9 +8,10 @@ use mathlib.Core.Path.{◌≡◌, refl, sym, ap, ap₂, ◌∙◌, subst}
 use mathlib.Core.Bool.{true≢false, false≢true}
 use mathlib.Core.Logic.{⊎_elim}
 use borrow.Author.Tests.{eq-eqb, eqb-false, eqb-true}
-use Rattle.ranges.specs.Names.{ℕ, ◌+◌, ◌-◌, Bool, true, false, not, ◌&&◌, ◌||◌, List, [], ◌∷◌, eqb, Master, Ground, Claims, Owns, Bus, Kind, Device, Raw}
+use Rattle.std.specs.Prelude.{◌+◌, ◌-◌, ◌&&◌, ◌||◌, ◌∷◌, if◌then◌else◌}
+use Rattle.ranges.specs.Names.{ℕ, Bool, true, false, not, List, [], eqb, Master, Ground, Claims, Owns, Bus, Kind, Device, Raw}
 use Rattle.arbiter.specs.Rules.{limit_of, idle_limit}
-use Rattle.arbiter.specs.Words.{if◌then◌else◌, worth, partner}
+use Rattle.arbiter.specs.Words.{worth, partner}
 use Rattle.arbiter.specs.State.{owns_turn, owns, claims_turn, is_idle}
 use Rattle.arbiter.specs.Steps.{run_from, run}
 use Rattle.arbiter.specs.AuditWords.{next, requests, resting, reserve_of, idle_timer_on, reset, tick, levelled, ticks_in, never, throughout}

@@ -2,10 +2,11 @@
 -- Assumes nothing.
 use mathlib.Core.Path.{◌≡◌, refl, sym, ap, ap₂, ◌∙◌, subst}
 use mathlib.Core.Bool.{true≢false, false≢true, and-false}
-use Rattle.ranges.specs.Names.{ℕ, ◌-◌, Bool, true, false, not, ◌&&◌, ◌||◌, List, [], ◌∷◌, ◌++◌, eqb, Master, Zero, One, Ground, Sole, Turn, Nobody, Claims}
+use Rattle.std.specs.Prelude.{◌-◌, ◌&&◌, ◌||◌, ◌∷◌, ◌++◌, if◌then◌else◌}
+use Rattle.ranges.specs.Names.{ℕ, Bool, true, false, not, List, [], eqb, Master, Zero, One, Ground, Sole, Turn, Nobody, Claims}
 use Rattle.ranges.specs.Names.{Owns, Port, Register, Status, Bus, Kind, Device, Raw, Event, Command, Read, Stop}
 use Rattle.arbiter.specs.Rules.{limit_of}
-use Rattle.arbiter.specs.Words.{if◌then◌else◌, bit, worth, partner, side}
+use Rattle.arbiter.specs.Words.{bit, worth, partner, side}
 use Rattle.arbiter.specs.State.{owns_turn, owns, claims_turn, claims, at_rest, is_idle}
 use Rattle.arbiter.specs.Registers.{reads_at}
 use Rattle.arbiter.specs.Events.{decode, in_sequence}

@@ -4,8 +4,9 @@ use Prim.Native.Nat.{◌-◌}
 use mathlib.Core.Path.{◌≡◌, refl, sym, ap, ap₂, ◌∙◌, subst}
 use mathlib.Core.List.{append-nil}
 use native.Mathlib.Nat.{zero-sub}
-use Rattle.ranges.specs.Names.{ℕ, Bool, true, false, List, [], ◌∷◌, ◌++◌, Master, Device, Raw}
-use Rattle.arbiter.specs.Words.{if◌then◌else◌, worth, side}
+use Rattle.std.specs.Prelude.{◌∷◌, ◌++◌, if◌then◌else◌}
+use Rattle.ranges.specs.Names.{ℕ, Bool, true, false, List, [], Master, Device, Raw}
+use Rattle.arbiter.specs.Words.{worth, side}
 use Rattle.arbiter.specs.State.{at_rest}
 use Rattle.arbiter.specs.Effects.{was_reset, power_up}
 use Rattle.arbiter.specs.Steps.{run_from, run}

@@ -5,7 +5,8 @@ use mathlib.Core.Path.{◌≡◌, refl, sym, ap, ap₂, ◌∙◌}
 use mathlib.Core.Bool.{true≢false, false≢true, or-true}
 use native.Mathlib.Omega.{arith}
 use borrow.Author.Tests.{eqb-true, le-ltb}
-use Rattle.ranges.specs.Names.{ℕ, Bool, true, false, not, ◌&&◌, ◌||◌, List, [], ◌∷◌, eqb, Master, Zero, One, Device, Raw, Event, Decoded, Reads, UnknownKind}
+use Rattle.std.specs.Prelude.{◌&&◌, ◌||◌, ◌∷◌}
+use Rattle.ranges.specs.Names.{ℕ, Bool, true, false, not, List, [], eqb, Master, Zero, One, Device, Raw, Event, Decoded, Reads, UnknownKind}
 use Rattle.ranges.specs.Names.{BadField}
 use Rattle.arbiter.specs.Words.{partner}
 use Rattle.arbiter.specs.Events.{decode}

@@ -2,12 +2,12 @@
 -- Assumes nothing.
 use Prim.Native.Nat.{◌-◌}
 use mathlib.Core.Path.{◌≡◌, refl, sym, ap, ◌∙◌, subst}
-use Rattle.ranges.specs.Names.{ℕ, Bool, true, false, List, [], ◌∷◌, Master, Device, Raw}
-use Rattle.arbiter.specs.Words.{if◌then◌else◌, side}
+use Rattle.std.specs.Prelude.{◌∷◌, if◌then◌else◌}
+use Rattle.ranges.specs.Names.{Bool, List, [], Device, Raw}
+use Rattle.arbiter.specs.Words.{side}
 use Rattle.arbiter.specs.Steps.{run_from}
 use Rattle.arbiter.specs.AuditWords.{next, is_accepted}
 use Rattle.arbiter.specs.Witnesses.{number}
-use Rattle.sheets.specs.declared.Setting.{Setting}
 use Rattle.guarantee.specs.Starts.{kept_if}
 use Rattle.recovery.specs.Recipe.{GetsBus, ticks_since, accepted_of, RefusedLeftOut, RecoveryAmongRefused}
 use Rattle.arbiter.proofs.Choice.{split}
@@ -22,7 +22,8 @@ refused_left_out d (r ∷ rs) =
     let keep : Bool → List Raw = λ (b : Bool). kept_if b r (accepted_of (next d r) rs) in
     split (is_accepted r d)
     (λ yes. more ∙ sym (ap (λ (b : Bool). run_from d (keep b)) yes))
-    (λ none. more ∙ ap (λ (x : Device). run_from x (accepted_of (next d r) rs)) (refused_unchanged d r none) ∙ sym (ap (λ (b : Bool). run_from d (keep b)) none))
+    (λ none. more ∙ ap (λ (x : Device). run_from x (accepted_of (next d r) rs)) (refused_unchanged d r none)
+    ∙ sym (ap (λ (b : Bool). run_from d (keep b)) none))
 
 pub recovery_among_refused : RecoveryAmongRefused
 recovery_among_refused d p s rs h =

@@ -3,7 +3,8 @@
 -- Assumes nothing.
 use mathlib.Core.Path.{◌≡◌, refl, sym, ap, ap₂, ◌∙◌, subst}
 use mathlib.Core.Bool.{false≢true}
-use Rattle.ranges.specs.Names.{ℕ, Bool, true, false, not, ◌&&◌, List, [], ◌∷◌, ◌++◌, eqb, Master, Zero, One, Device, Raw}
+use Rattle.std.specs.Prelude.{◌&&◌, ◌∷◌, ◌++◌}
+use Rattle.ranges.specs.Names.{ℕ, Bool, true, false, not, List, [], eqb, Master, Zero, One, Device, Raw}
 use Rattle.arbiter.specs.Words.{worth, partner, side}
 use Rattle.arbiter.specs.Events.{decode, in_sequence}
 use Rattle.arbiter.specs.Effects.{fresh_side, was_reset}

@@ -1,7 +1,8 @@
 -- The recoveries of specs/RecipeWitnesses.antt are such, and come to what it says: antt computes each.
 -- Assumes nothing.
 use mathlib.Core.Path.{◌≡◌, refl, ap}
-use Rattle.ranges.specs.Names.{ℕ, true, List, [], ◌∷◌, ◌++◌, Master, Zero, One, Kind, Pca9641, Tpt29641, Raw}
+use Rattle.std.specs.Prelude.{◌∷◌, ◌++◌}
+use Rattle.ranges.specs.Names.{ℕ, List, [], Master, Zero, One, Kind, Pca9641, Tpt29641, Raw}
 use Rattle.arbiter.specs.Rules.{rules_of}
 use Rattle.arbiter.specs.Words.{byte_of}
 use Rattle.arbiter.specs.Registers.{contr_byte, status_byte, register_byte, is_asserted, own_written, mail_written, drives_written, turn_written}
@@ -12,7 +13,7 @@ use Rattle.arbiter.specs.Order.{connect_from, connect}
 use Rattle.arbiter.specs.Steps.{parts, owner_byte, lines_byte, byte_read, refused, taken, step_event, step_decoded, step, run_from, run}
 use Rattle.arbiter.specs.AuditWords.{ticks_in, never, throughout}
 use Rattle.arbiter.specs.Marks.{command, write, stop, tick, general_call}
-use Rattle.arbiter.specs.Witnesses.{number, all_met}
+use Rattle.arbiter.specs.Witnesses.{number}
 use Rattle.audit.specs.WorstWait.{stops_after}
 use Rattle.sheets.specs.declared.Setting.{Setting}
 use Rattle.sheets.specs.Settings.{control_byte}

@@ -2,7 +2,8 @@
 -- Assumes nothing.
 use mathlib.Core.Path.{◌≡◌, refl, sym, ap, ap₂, ◌∙◌}
 use mathlib.Core.Bool.{true≢false, false≢true, and-eq-true_iff}
-use Rattle.ranges.specs.Names.{ℕ, Bool, true, false, not, ◌&&◌, List, [], ◌∷◌, Master, Zero, One, Rest, Register, Side, Device, Raw, Event, Command, Write}
+use Rattle.std.specs.Prelude.{◌&&◌, ◌∷◌}
+use Rattle.ranges.specs.Names.{Bool, true, false, not, List, [], Master, Zero, One, Rest, Register, Side, Device, Raw, Event, Command, Write}
 use Rattle.ranges.specs.Names.{Read, Stop, Pair, Lines, Tick, Pulse, Reset, GeneralCall}
 use Rattle.arbiter.specs.Rules.{rolls}
 use Rattle.arbiter.specs.Words.{partner, same_master, side}

@@ -4,7 +4,8 @@ use native.Mathlib.Omega.{arith}
 use mathlib.Core.Path.{◌≡◌, refl, sym, ap, ap₂, ◌∙◌}
 use mathlib.Core.Bool.{true≢false, false≢true, and-true}
 use borrow.Author.Tests.{eq-eqb}
-use Rattle.ranges.specs.Names.{ℕ, zero, suc, ◌+◌, Bool, true, false, not, ◌&&◌, ◌||◌, [], ◌∷◌, eqb, Master, Zero, One, Ground, Turn, Nobody, Claims, Owns, Bus}
+use Rattle.std.specs.Prelude.{◌&&◌, ◌||◌, ◌∷◌}
+use Rattle.ranges.specs.Names.{ℕ, zero, suc, Bool, true, false, not, Master, Zero, One, Ground, Turn, Nobody, Claims, Owns, Bus}
 use Rattle.ranges.specs.Names.{Device, Event, Tick}
 use Rattle.arbiter.specs.Words.{worth, partner, side}
 use Rattle.arbiter.specs.Rules.{idle_limit}

@@ -2,7 +2,8 @@
 -- Assumes nothing.
 use mathlib.Core.Path.{◌≡◌, refl, sym, ap, ap₂, ◌∙◌}
 use mathlib.Core.Bool.{false≢true, or-false, and-not_self}
-use Rattle.ranges.specs.Names.{ℕ, Bool, true, false, not, ◌&&◌, ◌||◌, Master, IntStatus, Device, Event}
+use Rattle.std.specs.Prelude.{◌&&◌, ◌||◌}
+use Rattle.ranges.specs.Names.{ℕ, Bool, true, false, not, Master, IntStatus, Device, Event}
 use Rattle.arbiter.specs.Words.{bit, side}
 use Rattle.arbiter.specs.State.{owns, bus_hung}
 use Rattle.arbiter.specs.Registers.{hung_int, register_byte, reads_at}

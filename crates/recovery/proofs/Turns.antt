@@ -2,8 +2,9 @@
 -- Assumes nothing.
 use mathlib.Core.Path.{◌≡◌, refl, sym, ap, ap₂, ◌∙◌}
 use mathlib.Core.Bool.{true≢false, or-false, and-true, and-false}
-use Rattle.ranges.specs.Names.{Bool, true, false, not, ◌&&◌, ◌||◌, eqb, Master, Zero, One, Ground, Sole, Turn, Nobody, Claims, Owns, Device, Event}
-use Rattle.arbiter.specs.Words.{if◌then◌else◌, partner, same_master, side}
+use Rattle.std.specs.Prelude.{◌&&◌, ◌||◌, if◌then◌else◌}
+use Rattle.ranges.specs.Names.{Bool, true, false, not, eqb, Master, Zero, One, Ground, Sole, Turn, Nobody, Claims, Owns, Device, Event}
+use Rattle.arbiter.specs.Words.{partner, same_master, side}
 use Rattle.arbiter.specs.State.{owns_turn, owns, claims_turn, at_rest}
 use Rattle.arbiter.specs.Effects.{effect}
 use Rattle.arbiter.specs.Order.{is_reset, is_tick, clock_of, levels, lost, losses_from, losses, cut, claim_after, claim, granted, grant_from, grant}

@@ -1,10 +1,10 @@
 -- A controller that crashes: m sends nothing more. When does its partner p get the bus all the same, and by when? proofs/ has Exact.antt, Free.antt
 -- and Passes.antt.
 -- Assumes nothing.
-use Rattle.std.specs.Prelude.{◌≤◌, ◌≡◌}
-use Rattle.ranges.specs.Names.{ℕ, ◌+◌, Bool, true, false, not, ◌&&◌, ◌||◌, List, eqb, Master, Kind, Bus, Device, Raw, Event, Command, Write, Read, Stop, Pair, Lines, Tick, Pulse, Reset, GeneralCall}
+use Rattle.std.specs.Prelude.{◌≤◌, ◌≡◌, ◌+◌, ◌&&◌, ◌||◌, if◌then◌else◌}
+use Rattle.ranges.specs.Names.{ℕ, Bool, true, false, not, List, eqb, Master, Kind, Bus, Device, Raw, Event, Command, Write, Read, Stop, Pair, Lines, Tick, Pulse, Reset, GeneralCall}
 use Rattle.arbiter.specs.Rules.{limit_of}
-use Rattle.arbiter.specs.Words.{if◌then◌else◌, partner, same_master}
+use Rattle.arbiter.specs.Words.{partner, same_master}
 use Rattle.arbiter.specs.State.{owns, claims, is_idle}
 use Rattle.arbiter.specs.Steps.{run_from, run}
 use Rattle.arbiter.specs.AuditWords.{requests, resting, reserve_of, idle_timer_on, accepted, reset, ticks_in, never, throughout}

@@ -1,8 +1,8 @@
 -- Runs that meet the premises of Crash, for both masters of a part of each kind: each way in which p gets the bus, with the tick at which it does and
 -- without it one tick before, each way in which it never does, and each way in which m keeps it out. proofs/CrashWitnesses.antt computes them all.
 -- Assumes nothing.
-use Rattle.std.specs.Prelude.{leb, ◌≡◌}
-use Rattle.ranges.specs.Names.{ℕ, ◌+◌, ◌-◌, Bool, true, not, ◌&&◌, List, [], ◌∷◌, ◌++◌, eqb, Master, Kind, Device, Raw}
+use Rattle.std.specs.Prelude.{leb, ◌≡◌, ◌+◌, ◌-◌, ◌&&◌, ◌∷◌, ◌++◌}
+use Rattle.ranges.specs.Names.{ℕ, Bool, true, not, List, [], eqb, Master, Kind, Device, Raw}
 use Rattle.arbiter.specs.Rules.{limit_of}
 use Rattle.arbiter.specs.Words.{partner}
 use Rattle.arbiter.specs.State.{owns, claims}

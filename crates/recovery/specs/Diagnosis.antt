@@ -1,8 +1,8 @@
 -- What the one that waits can know: why it waits, whether waiting can help, that a word waits for it, how an initialisation ends.
 -- proofs/ has Diagnosis.antt, Reading.antt, Mail.antt and Init.antt.
 -- Assumes nothing.
-use Rattle.std.specs.Prelude.{◌<◌, ◌≡◌}
-use Rattle.ranges.specs.Names.{ℕ, ◌+◌, Bool, true, false, not, ◌&&◌, List, [], ◌∷◌, eqb, Master, Status, Initialising, Closed, Apart, Kind, Device, Raw, Event, Command, Write, Read, Stop, Pair, Lines, Tick, Pulse, Reset, GeneralCall}
+use Rattle.std.specs.Prelude.{◌<◌, ◌≡◌, ◌+◌, ◌&&◌, ◌∷◌}
+use Rattle.ranges.specs.Names.{ℕ, Bool, true, false, not, List, [], eqb, Master, Status, Initialising, Closed, Apart, Kind, Device, Raw, Event, Command, Write, Read, Stop, Pair, Lines, Tick, Pulse, Reset, GeneralCall}
 use Rattle.arbiter.specs.Words.{bit, worth, partner, side}
 use Rattle.arbiter.specs.State.{owns}
 use Rattle.arbiter.specs.Registers.{reads_at}

@@ -1,9 +1,9 @@
 -- The way back: seven events of p's own by which it gets the bus with a reserve, whoever hangs, from any device. proofs/ has
 -- RecipeRaws.antt, RecipeWalk.antt, RecipeEnd.antt and Recipe.antt.
 -- Assumes nothing.
-use Rattle.std.specs.Prelude.{◌-◌, ◌<◌, ◌≡◌}
-use Rattle.ranges.specs.Names.{ℕ, ◌+◌, Bool, true, false, not, ◌&&◌, ◌||◌, List, [], ◌∷◌, ◌++◌, eqb, ltb, Master, Kind, Device, Raw, Decoded, Reads, UnknownKind, BadField}
-use Rattle.arbiter.specs.Words.{if◌then◌else◌, side}
+use Rattle.std.specs.Prelude.{◌-◌, ◌<◌, ◌≡◌, ◌+◌, ◌&&◌, ◌||◌, ◌∷◌, ◌++◌, if◌then◌else◌}
+use Rattle.ranges.specs.Names.{ℕ, Bool, true, false, not, List, [], eqb, ltb, Master, Kind, Device, Raw, Decoded, Reads, UnknownKind, BadField}
+use Rattle.arbiter.specs.Words.{side}
 use Rattle.arbiter.specs.State.{owns, claims}
 use Rattle.arbiter.specs.Events.{decode}
 use Rattle.arbiter.specs.Steps.{run_from, run}

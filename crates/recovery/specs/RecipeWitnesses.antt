@@ -1,8 +1,8 @@
 -- Runs of the way back, for both masters of a part of each kind: behind a partner that hangs, with nothing and with much between, without and with
 -- the hold; and the short way that sets the next trap. proofs/RecipeWitnesses.antt computes them all.
 -- Assumes nothing.
-use Rattle.std.specs.Prelude.{◌≡◌}
-use Rattle.ranges.specs.Names.{ℕ, ◌+◌, ◌-◌, Bool, true, not, ◌&&◌, ◌||◌, List, [], ◌∷◌, ◌++◌, eqb, length, Master, Kind, Device, Raw}
+use Rattle.std.specs.Prelude.{◌≡◌, ◌+◌, ◌-◌, ◌&&◌, ◌||◌, ◌∷◌, ◌++◌}
+use Rattle.ranges.specs.Names.{ℕ, Bool, true, not, List, [], eqb, length, Master, Kind, Device, Raw}
 use Rattle.arbiter.specs.Words.{partner}
 use Rattle.arbiter.specs.State.{owns, claims, is_idle}
 use Rattle.arbiter.specs.Steps.{run_from, run}

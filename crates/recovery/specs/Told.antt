@@ -1,8 +1,8 @@
 -- What INT_STATUS tells a master of its grants: bit 2 of each that begins, bit 1 of each that ends by a loss, and of nothing else.
 -- From any device, one event. proofs/Told.antt proves it.
 -- Assumes nothing.
-use Rattle.std.specs.Prelude.{◌≡◌}
-use Rattle.ranges.specs.Names.{Bool, true, false, not, ◌&&◌, List, IntStatus, Master, Kind, Device, Raw}
+use Rattle.std.specs.Prelude.{◌≡◌, ◌&&◌}
+use Rattle.ranges.specs.Names.{Bool, true, false, not, List, IntStatus, Master, Kind, Device, Raw}
 use Rattle.arbiter.specs.Words.{bit}
 use Rattle.arbiter.specs.Registers.{reads_at, output}
 use Rattle.arbiter.specs.Steps.{step, run_from, run}

@@ -1,8 +1,8 @@
 -- Runs that meet the premises of Told.antt and Diagnosis.antt, for both masters of a part of each kind, each with what the statement says of it and,
 -- where a premise could be thought idle, with a run that lacks it. proofs/ToldWitnesses.antt computes them all.
 -- Assumes nothing.
-use Rattle.std.specs.Prelude.{◌≡◌}
-use Rattle.ranges.specs.Names.{ℕ, ◌+◌, Bool, true, false, not, List, [], ◌∷◌, ◌++◌, eqb, Master, Zero, Status, Mailbox, Kind, Device, Raw}
+use Rattle.std.specs.Prelude.{◌≡◌, ◌+◌, ◌∷◌, ◌++◌}
+use Rattle.ranges.specs.Names.{ℕ, Bool, true, false, not, List, [], eqb, Master, Zero, Status, Mailbox, Kind, Device, Raw}
 use Rattle.ranges.specs.Ranges.{state_number}
 use Rattle.arbiter.specs.Words.{bit, partner, of, side}
 use Rattle.arbiter.specs.Parts.{with_reserve, with_arb}

@@ -1,16 +1,15 @@
 -- A number in decimal: its digits one by one, and what they are worth.
 -- Assumes nothing.
 use Prim.Native.Nat.{ℕ, zero, suc, ◌+◌, ◌-◌, ◌*◌, ◌/◌, ◌%◌, ◌^◌, ◌<◌, ◌≤◌}
-use mathlib.Core.Path.{◌≡◌, refl, sym, ap, subst, ◌∙◌}
-use mathlib.Core.Bool.{Bool, true, false}
+use mathlib.Core.Path.{◌≡◌, refl, sym, ap, ◌∙◌}
 use mathlib.Core.List.{List, [], ◌∷◌, ◌++◌}
 use native.Mathlib.Omega.{arith}
 use lib.Dec.{ltb}
 use lib.ListN.{length, take, length-append}
-use borrow.Author.Tests.{lt-ltb, le-ltb, ltb-true, ltb-false}
-use Rattle.arbiter.specs.Words.{if◌then◌else◌}
+use borrow.Author.Tests.{lt-ltb, le-ltb}
+use Rattle.std.specs.Prelude.{if◌then◌else◌}
 use Rattle.arbiter.proofs.Choice.{if_true, if_false, split}
-use Rattle.report.specs.Report.{digit, digits, most_digits, decimal, value_from, DecimalIsWorth}
+use Rattle.report.specs.Report.{digit, digits, most_digits, value_from, DecimalIsWorth}
 
 -- ---- by their number k
 

@@ -1,18 +1,12 @@
 -- Texts that are put one after the other stand one after the other.
 -- Assumes nothing.
-use Prim.Native.Nat.{ℕ, ◌+◌, ◌<◌}
-use mathlib.Core.Path.{◌≡◌, refl, sym, ap, ◌∙◌}
+use Prim.Native.Nat.{ℕ, ◌+◌}
+use mathlib.Core.Path.{◌≡◌, sym, ap, ◌∙◌}
 use mathlib.Core.List.{List, [], ◌∷◌, ◌++◌, append_assoc, append-nil}
 use mathlib.Core.Bool.{Bool, true, false}
-use Rattle.arbiter.specs.Words.{if◌then◌else◌}
+use Rattle.std.specs.Prelude.{if◌then◌else◌}
 use Rattle.share.specs.declared.Totals.{Totals}
-use native.Mathlib.Numerals.{add-one}
-use lib.ListN.{length, take, set}
-use lib.Seq.{take-suc-set}
 use Rattle.report.specs.Report.{digit, field, space, line_end, line, past_line, report_text}
-
-pub one_put : (l : List ℕ) (at b : ℕ) → at < length l → take (at + 1) (set l at b) ≡ take at l ++ b ∷ []
-one_put l at b h = ap (λ (n : ℕ). take n (set l at b)) (add-one at) ∙ take-suc-set l at b h
 
 -- first p, then q
 pub two_put : (a b c p q : List ℕ) → b ≡ a ++ p → c ≡ b ++ q → c ≡ a ++ (p ++ q)
@@ -28,9 +22,6 @@ line_put m owned connected waited b l0 l1 l2 l3 l4 l5 e e1 e2 e3 e4 e5 =
     (two_put l0 l3 l4 _ (field connected space)
     (two_put l0 l2 l3 (digit m ∷ space ∷ []) (field owned space)
     (two_put l0 l1 l2 (digit m ∷ []) (space ∷ []) (e1 ∙ ap (λ (c : ℕ). l0 ++ c ∷ []) e) e2) e3) e4) e5
-
-pub past_put : (l0 l1 l2 l3 : List ℕ) → l1 ≡ l0 ++ 82 ∷ [] → l2 ≡ l1 ++ 54 ∷ [] → l3 ≡ l2 ++ line_end ∷ [] → l3 ≡ l0 ++ past_line
-past_put l0 l1 l2 l3 e1 e2 e3 = two_put l0 l2 l3 (82 ∷ 54 ∷ []) (line_end ∷ []) (two_put l0 l1 l2 (82 ∷ []) (54 ∷ []) e1 e2) e3
 
 -- the two lines, with R6 after them or without
 module _ (x : Totals) (past : Bool) where

@@ -1,13 +1,17 @@
 // The bus share report (request #112). On standard input each trace follows its length in two bytes, low first. It prints a line a
 // controller: its number, and the ticks that it owned the bus, was connected and waited. Past 65,535 traces a line R6 follows.
-ghost use Rattle.std.specs.Prelude.{◌≡◌, ◌+◌, ◌<◌, ◌≤◌, ◌∷◌, [], ◌++◌, length, take};
+#![tactic(auto)]
+
+ghost use Rattle.std.specs.Prelude.{◌≡◌, ◌+◌, ◌<◌, ◌≤◌, ◌∷◌, [], ◌++◌, length, take, OnOk};
+ghost use Rattle.std.specs.Io.KnownBytes.{Appends};
 ghost use Rattle.report.specs.Input.{length_in};
 ghost use Rattle.report.specs.Report.{digits, field, past_line, line, report_text};
 
-use libc::{STDIN_FILENO, STDOUT_FILENO};
+use printing::read_full;
 use share::{MOST_TRACES, Totals, add_trace, empty_totals};
+use std::io;
 
-const NAME: [u8; 6] = [b'r', b'e', b'p', b'o', b'r', b't'];
+const NAME: &str = "report";
 
 const MOST_DIGITS: u8 = 20;
 
@@ -15,7 +19,7 @@ const MOST_DIGITS: u8 = 20;
 const TEXT_ROOM: usize = 133;
 
 // The totals after what was read so far: is there more to read, and has a trace come past the last that is taken?
-#[derive(Drop)]
+#[derive(Clone, Copy)]
 struct Read {
     totals: Totals,
     more: bool,
@@ -60,47 +64,52 @@ fn add_whole(totals: Totals, trace: &[u8]) -> Read {
 }
 
 // One trace, after its length.
-fn read_body(totals: Totals, input: &mut [u8], wanted: usize) -> Read
+fn read_body<R: io::Read>(
+    from: &mut R,
+    totals: Totals,
+    input: &mut [u8],
+    wanted: usize,
+) -> io::Result<Read>
     requires { (65535 ≤ length input.old) × (wanted < 65536) }
 {
-    let n = io::read_full(STDIN_FILENO, &mut input[..wanted]);
+    let n = read_full(from, &mut input[..wanted])?;
     if n < wanted {
-        return add_cut(totals, input);
+        return Ok(add_cut(totals, input));
     }
-    add_whole(totals, &input[..wanted])
+    Ok(add_whole(totals, &input[..wanted]))
 }
 
 // The next trace, if there is one. Past 65,535 traces nothing is counted, whatever comes: what is left of the input is not read.
-fn read_next(totals: Totals, input: &mut [u8]) -> Read
+fn read_next<R: io::Read>(from: &mut R, totals: Totals, input: &mut [u8]) -> io::Result<Read>
     requires { 65535 ≤ length input.old }
 {
     let mut head = [0u8; 2];
-    let got = io::read_full(STDIN_FILENO, &mut head);
+    let got = read_full(from, &mut head)?;
     if got == 0 {
-        return read_with(totals, false, false);
+        return Ok(read_with(totals, false, false));
     }
     if MOST_TRACES <= totals.traces {
-        return read_with(totals, false, true);
+        return Ok(read_with(totals, false, true));
     }
     if got < 2 {
-        return add_cut(totals, input);
+        return Ok(add_cut(totals, input));
     }
     let wanted = length_of(&head);
-    read_body(totals, input, wanted)
+    read_body(from, totals, input, wanted)
 }
 
 // All traces, one after the other through one buffer.
-fn read_all(input: &mut [u8]) -> Read
+fn read_all<R: io::Read>(from: &mut R, input: &mut [u8]) -> io::Result<Read>
     requires { 65535 ≤ length input.old }
 {
     let mut read = read_with(empty_totals(), true, false);
     // A proved loop has to end, and nothing says that an input does: no run uses up this number of turns.
     let mut turns = u64::MAX;
     while turns > 0 && read.more {
-        read = read_next(read.totals, input);
+        read = read_next(from, read.totals, input)?;
         turns -= 1;
     }
-    read
+    Ok(read)
 }
 
 // ---- the text
@@ -188,27 +197,34 @@ fn text_room() -> [u8; TEXT_ROOM]
     [0; TEXT_ROOM]
 }
 
-fn print_by(totals: Totals, past: bool, text: &mut [u8]) -> bool
+fn print_by<W: io::Write>(
+    out: &mut W,
+    totals: Totals,
+    past: bool,
+    text: &mut [u8],
+) -> io::Result<()>
     requires { 133 ≤ length text.old }
+    ensures { OnOk result (Appends (W.contents out.old) (W.contents out.new) (report_text totals past)) }
 {
     let n = put_report(text, totals, past);
-    io::write_all(STDOUT_FILENO, &text[..n])
+    out.write_all(&text[..n])
 }
 
-fn print_report(totals: Totals, past: bool) -> bool {
+fn print_report<W: io::Write>(out: &mut W, totals: Totals, past: bool) -> io::Result<()>
+    ensures { OnOk result (Appends (W.contents out.old) (W.contents out.new) (report_text totals past)) }
+{
     let mut text = text_room();
-    print_by(totals, past, &mut text)
+    print_by(out, totals, past, &mut text)
 }
 
-fn main() {
+fn run<R: io::Read, W: io::Write>(from: &mut R, out: &mut W) -> io::Result<()> {
     let mut space = room();
-    let read = read_all(&mut space);
-    // errno is 0 when a program starts, and reads that succeed leave it so.
-    if os::errno() != 0 {
-        os::fail(&NAME);
-        return;
-    }
-    if !print_report(read.totals, read.past) {
-        os::fail(&NAME);
+    let read = read_all(from, &mut space)?;
+    print_report(out, read.totals, read.past)
+}
+
+fn main(rt: HostRuntime) {
+    if let Err(e) = run(&mut rt.stdin(), &mut rt.stdout()) {
+        let _ = eprintln!(rt; "{NAME}: {e}");
     }
 }

@@ -3,7 +3,7 @@
 -- Assumes nothing.
 use Rattle.std.specs.Prelude.{◌≡◌, List, [], ◌∷◌, map}
 use Rattle.arbiter.specs.declared.Kind.TheVariants.{Pca9641, Tpt29641}
-use Rattle.arbiter.specs.Marks.{raw, command, write, read, stop, pair, lines, tick, pulse, reset, general_call}
+use Rattle.arbiter.specs.Marks.{command, write, read, stop, pair, lines, tick, pulse, reset, general_call}
 use Rattle.rulebook.specs.Scripts.{Script, part◌does◌, ◌gives◌, ◌ticks◌, found, told}
 
 unfoldable pub rules : List Script

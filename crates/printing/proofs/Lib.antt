@@ -1,0 +1,2 @@
+mod Filled
+pub mod Listed
