@@ -3,7 +3,6 @@ import fcntl
 import functools
 import hashlib
 import os
-import platform
 import re
 import shutil
 import signal
@@ -14,8 +13,8 @@ import time
 from copies import ROOT, text_of
 
 KEPT = f"{ROOT}/build/landings"
-TARGET = f"{KEPT}/target"  # what rt proved, carried from landing to landing and from run to run
 JOBS = 1  # a crate is measured alone
+OLDER = "Rattle·"  # how a file of an older kit's spelling begins the names of its definitions
 
 FOLDERS = {"specs": "antt", "src": "rt", "proofs": "antt"}  # what is proved and its proofs, with the ending of their files
 PROVED_PATHS = ["crates.txt"] + [f":(glob)crates/*/{folder}/**/*.{ending}" for folder, ending in FOLDERS.items()]
@@ -64,7 +63,8 @@ class Tree:
         if "crates.txt" not in self.files:
             raise Stopped(f"{commit} has no crates.txt")
         listed = (line.partition("#")[0].partition(":") for line in git("cat-file", "blob", self.files["crates.txt"]).decode().splitlines())
-        self.below = {crate.strip(): below.split() for crate, _, below in listed if crate.strip()}
+        # A name may have what kind of crate it is after it.
+        self.below = {crate.split()[0]: below.split() for crate, _, below in listed if crate.strip()}
 
     def order(self):
         """The crates, each after those that it stands on."""
@@ -79,6 +79,11 @@ class Tree:
         for crate in self.below:
             place(crate)
         return placed
+
+    def is_older(self):
+        """Whether its definitions are in an older kit's spelling, which this kit does not read."""
+        found = subprocess.run(["git", "grep", "-qF", OLDER, self.name, "--", "crates/arbiter/specs"], cwd=ROOT, capture_output=True)
+        return found.returncode == 0
 
     def content(self, crate):
         """The same for two crates exactly if the check reads the same of both, and of all that they stand on."""
@@ -109,19 +114,22 @@ def tree_of(commit, mend=None):
 
 
 def make_twin(folder, seconds):
-    """A twin of the kit: links to all that it has, but for its prover, which leaves in a file of the crate's name what processor time it took."""
-    kit = os.path.dirname(os.path.dirname(subprocess.run(["rt", "doc"], check=True, capture_output=True, text=True).stdout.strip()))
-    programs = f"on/{platform.machine()}/bin"
-    os.makedirs(f"{folder}/{programs}")
-    for part in (".", "on", os.path.dirname(programs), programs):
+    """A twin of the kit: links to all that it has, but for rt, which takes for the kit where it stands, and its prover, which leaves in a file of
+    the crate's name what processor time it took."""
+    kit = os.path.dirname(subprocess.run(["rt", "doc"], check=True, capture_output=True, text=True).stdout.strip())
+    os.makedirs(f"{folder}/bin")
+    for part in (".", "bin"):
         for entry in os.listdir(f"{kit}/{part}"):
             if not os.path.lexists(f"{folder}/{part}/{entry}"):
                 os.symlink(f"{kit}/{part}/{entry}", f"{folder}/{part}/{entry}")
-    prover = f"{programs}/rattle"
-    os.remove(f"{folder}/{prover}")
+    for own in ("rt", "rtlib.py", "rattle"):
+        os.remove(f"{folder}/bin/{own}")
+    for own in ("rt", "rtlib.py"):
+        shutil.copy(f"{kit}/bin/{own}", f"{folder}/bin/{own}")
+    prover = "bin/rattle"
     with open(f"{folder}/{prover}", "w", encoding="utf-8") as file:
-        # rt calls it with: build --crate-name NAME ...
-        file.write(f'#!/bin/sh\n"{kit}/{prover}" "$@"\nended=$?\ntimes >"{seconds}/$3"\nexit $ended\n')
+        # rt calls it with: check --crate-name NAME ..., and otherwise to ask what it can do.
+        file.write(f'#!/bin/sh\n"{kit}/{prover}" "$@"\nended=$?\nif [ "$2" = --crate-name ]; then times >>"{seconds}/$3"; fi\nexit $ended\n')
     os.chmod(f"{folder}/{prover}", 0o755)
 
 
@@ -140,8 +148,8 @@ class Aside:
         self.room.cleanup()
 
     def begin(self, tree):
-        os.makedirs(TARGET, exist_ok=True)
-        self.lock = open(f"{TARGET}/lock", "w")
+        os.makedirs(KEPT, exist_ok=True)
+        self.lock = open(f"{KEPT}/lock", "w")
         try:
             fcntl.flock(self.lock, fcntl.LOCK_EX | fcntl.LOCK_NB)
         except BlockingIOError:
@@ -149,7 +157,6 @@ class Aside:
         os.makedirs(self.seconds)
         make_twin(self.twin, self.seconds)
         git("worktree", "add", "--detach", "--no-checkout", "--quiet", self.folder, tree.commit)
-        os.symlink(TARGET, f"{self.folder}/target")
 
     def stand_at(self, tree):
         if self.tree is None:
@@ -160,20 +167,21 @@ class Aside:
 
     def prove(self, tree, crate):
         """Whether a crate is proved, and its seconds. rt proves anew what it stands on only if that was not proved last."""
+        if tree.is_older():
+            raise Stopped(f"{tree.commit} is in an older kit's spelling, which this kit does not read; docs/REQUESTS.md has its figures")
         self.stand_at(tree)
-        shutil.rmtree(f"{TARGET}/rlib/{crate}.rlib", ignore_errors=True)
-        for left in (f"{TARGET}/stamp/{crate}", f"{self.seconds}/{crate}"):
-            if os.path.exists(left):
-                os.remove(left)
+        here = f"{self.folder}/crates/{crate}"
+        shutil.rmtree(f"{here}/out", ignore_errors=True)
+        if os.path.exists(f"{self.seconds}/{crate}"):
+            os.remove(f"{self.seconds}/{crate}")
         log = f"{KEPT}/{crate}.log"
-        code, wall = timed(["rt", "check", crate], self.folder, {**os.environ, "RATTLE_HOME": self.twin, "RT_JOBS": str(JOBS)}, log)
+        code, wall = timed([f"{self.twin}/bin/rt", "check", "--jobs", str(JOBS)], here, os.environ, log)
         if code not in (0, 1) or not os.path.exists(f"{self.seconds}/{crate}"):
             raise Stopped(f"rt check {crate} ended with {code} at {tree.commit}; see {os.path.relpath(log, ROOT)}")
-        _, children = text_of(f"{self.seconds}/{crate}").splitlines()  # the shell's own seconds, and those of the prover
+        # Of each run of the prover the shell's own seconds, and then the prover's.
+        children = " ".join(text_of(f"{self.seconds}/{crate}").splitlines()[1::2])
         seconds = sum(60 * int(minutes) + float(rest) for minutes, rest in re.findall(r"(\d+)m([\d.]+)s", children))
-        # A program that is proved is 'built' until it was run, which says nothing of its check.
-        proved = text_of(f"{TARGET}/log/{crate}.res").strip() in ("proved", "built")
-        return {"proved": proved, "seconds": round(seconds, 2), "wall": round(wall, 2)}
+        return {"proved": code == 0, "seconds": round(seconds, 2), "wall": round(wall, 2)}
 
 
 def timed(command, folder, environment, log):

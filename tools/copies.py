@@ -4,7 +4,7 @@ import shutil
 import subprocess
 
 ROOT = os.path.dirname(os.path.dirname(os.path.abspath(__file__)))
-PROVED = ("rlib", "stamp")  # the folders of target/ that keep what is proved already
+KEPT = "out"  # the folder of a crate in which rt keeps what is proved already
 
 
 def text_of(path):
@@ -29,16 +29,16 @@ def copy_files(folder):
 
 def copy_proved(folder):
     """Copies what is proved already, so that it need not be proved again there."""
-    for kept in PROVED:
-        if os.path.isdir(f"{ROOT}/target/{kept}"):
-            shutil.copytree(f"{ROOT}/target/{kept}", f"{folder}/target/{kept}")
+    for crate in os.listdir(f"{ROOT}/crates"):
+        if os.path.isdir(f"{ROOT}/crates/{crate}/{KEPT}"):
+            shutil.copytree(f"{ROOT}/crates/{crate}/{KEPT}", f"{folder}/crates/{crate}/{KEPT}")
 
 
 def applied(folder, edit):
     """Applies an edit to a folder: 'file:' holds for the pairs of 'old:' and 'new:' after it, and each old text occurs once."""
     path = old = ""
     for line in text_of(edit).split("\n"):
-        word, _, rest = line.partition(": ")
+        word, _, rest = (line + " " * (line == "new:")).partition(": ")
         if word == "file":
             path = f"{folder}/{rest}"
         elif word == "old":

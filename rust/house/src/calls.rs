@@ -2,6 +2,9 @@
 
 use crate::tree::Tree;
 
+/// How a clause of a contract begins.
+const CLAUSES: [&str; 2] = ["requires", "ensures"];
+
 /// A public function, or a program's `main`.
 pub struct Call {
     /// As `bus::is_idle`, or `listing::why::say` for a module.
@@ -61,8 +64,10 @@ fn main_name(line: &str) -> Option<&str> {
     line.starts_with("fn main(").then_some("main")
 }
 
-/// The lines up to the one that opens the body.
+/// The lines up to the one that opens the body. A clause may open on a line of its own too.
 fn contract_at(lines: &[&str]) -> String {
-    let end = lines.iter().position(|line| line.trim_end().ends_with('{')).unwrap_or(lines.len());
+    let is_clause = |line: &str| CLAUSES.iter().any(|word| line.trim_start().starts_with(word));
+    let opens = |line: &&str| line.trim_end().ends_with('{') && !is_clause(line);
+    let end = lines.iter().position(opens).unwrap_or(lines.len());
     lines[..end].join("\n")
 }

@@ -147,9 +147,9 @@ fn order_faults(row: &Row, text: &str, after: &[Row]) -> Vec<String> {
     .collect()
 }
 
-/// `quiet/specs/Counts.antt` of `use Rattle·quiet.specs.Counts.{..}`; inside its own crate a file is named by `Rattle·quiet·specs.specs`.
+/// `quiet/specs/Counts.antt` of `use Rattle.quiet.specs.Counts.{..}`.
 fn used_by(line: &str) -> Option<String> {
-    let (of, name) = line.strip_prefix("use Rattle·")?.split_once(".specs.")?;
+    let (of, name) = line.strip_prefix("use Rattle.")?.split_once(".specs.")?;
     let name = name.split('.').next()?;
-    Some(format!("{}/specs/{name}.antt", of.trim_end_matches("·specs")))
+    Some(format!("{of}/specs/{name}.antt"))
 }

@@ -52,7 +52,8 @@ fn apply(tree: &Tree, folder: &str, edit: &str) -> Result<(), String> {
             file = format!("{folder}/{path}");
         } else if let Some(text) = line.strip_prefix("old: ") {
             old = text;
-        } else if let Some(new) = line.strip_prefix("new: ") {
+        } else if let Some(new) = line.strip_prefix("new:") {
+            let new = new.strip_prefix(' ').unwrap_or(new);
             let Some(text) = edited.get(&file).map(String::as_str).or(tree.text(&file)) else {
                 return Err(format!("there is no {file}."));
             };

@@ -39,8 +39,9 @@ fn group_of(block: &str) -> Option<Group> {
 
 fn crate_of(line: &str) -> Option<Crate> {
     let (name, on) = line.split_once(':').filter(|_| !line.starts_with('#'))?;
+    // `gunwaleish staticlib: ..` says how it is built.
     Some(Crate {
-        name: name.trim().to_string(),
+        name: name.split_whitespace().next()?.to_string(),
         on: on.split_whitespace().map(str::to_string).collect(),
     })
 }

@@ -35,9 +35,9 @@ pub fn image_faults(tree: &Tree) -> Vec<String> {
         }
     }
     let length = defined.last().map_or(0, |row| row.offset + row.bytes);
-    if defined.is_empty() || !layout.contains(&format!("\nimageLength = {length}\n")) {
+    if defined.is_empty() || !layout.contains(&format!("\nimage_length = {length}\n")) {
         found.push(format!(
-            "The rows of {LAYOUT} have {length} bytes, and its imageLength is another."
+            "The rows of {LAYOUT} have {length} bytes, and its image_length is another."
         ));
     }
     if !page.contains(&format!(" {length} bytes")) {
@@ -69,13 +69,13 @@ fn rows_of_page(page: &str) -> Vec<Row> {
     rows
 }
 
-/// The rows of the groups, in the order in which `imageOf` lays them out.
+/// The rows of the groups, in the order in which `image_of` lays them out.
 fn rows_of_layout(layout: &str, limits: &[&str]) -> Vec<Row> {
-    let image = layout.split_once("\nimageOf d =").map_or("", |(_, rest)| rest);
+    let image = layout.split_once("\nimage_of d =").map_or("", |(_, rest)| rest);
     let image = image.split_once("\n\n").map_or(image, |(first, _)| first);
     let mut rows = Vec::new();
     let mut offset = 0;
-    for group in image.split("laidOut ").skip(1) {
+    for group in image.split("laid_out ").skip(1) {
         let mut words = group.split(|c: char| !c.is_alphanumeric()).filter(|word| !word.is_empty());
         let name = words.next().unwrap_or_default();
         let side = if words.next() == Some("One") { "side1" } else { "side0" };
@@ -106,24 +106,24 @@ fn group_lines<'a>(layout: &'a str, name: &str) -> Vec<&'a str> {
         .collect()
 }
 
-/// `side0.mail.low` of `(side m d) .mail .low`, and `bus.hold` of `d .bus .hold`.
+/// `side0.mail.low` of `(side m d).mail.low`, and `bus.hold` of `d.bus.hold`.
 fn record_of(line: &str, side: &str) -> String {
     if line.starts_with("contr ") {
         return format!("{side}.contr");
     }
-    let (side, path) = match line.split_once("(side m d) .") {
+    let (side, path) = match line.split_once("(side m d).") {
         Some((_, path)) => (format!("{side}."), path),
-        None => (String::new(), line.split_once("d .").map_or("", |(_, path)| path)),
+        None => (String::new(), line.split_once(" d.").map_or("", |(_, path)| path)),
     };
     let path = path.split([')', ';']).next().unwrap_or_default().trim();
-    format!("{side}{}", path.replace(" .", "."))
+    format!("{side}{path}")
 }
 
 fn range_of(line: &str, limits: &[&str]) -> String {
     if line.starts_with("contr ") {
         return "bit 1 clear".to_string();
     }
-    if line.contains("top = limitOf") {
+    if line.contains("top = limit_of") {
         return match limits {
             [first, second] => format!("0 to {first}, or to {second} for kind 1"),
             _ => "no limits".to_string(),
@@ -132,15 +132,15 @@ fn range_of(line: &str, limits: &[&str]) -> String {
     let top = if line.contains("(flag ") {
         "1"
     } else {
-        line.split_once("upTo ").map_or("", |(_, top)| top.trim_end_matches(')'))
+        line.split_once("up_to ").map_or("", |(_, top)| top.trim_end_matches(')'))
     };
     format!("0 to {top}")
 }
 
-/// The idle limits of the two kinds, as `rulesOf` has them.
+/// The idle limits of the two kinds, as `rules_of` has them.
 fn idle_limits(rules: &str) -> Vec<&str> {
     rules
-        .split("idleLimit = ")
+        .split("idle_limit = ")
         .skip(1)
         .filter_map(|rest| rest.split(';').next())
         .filter(|n| n.parse::<u32>().is_ok())

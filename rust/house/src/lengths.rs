@@ -15,8 +15,10 @@ pub const LONGEST_FILE: usize = 300;
 
 /// The files that may be longer: the file, and the ground.
 const LONGER_FILES: &[(&str, &str)] = &[
-    ("crates/rows/proofs/carry_out/Proof.antt", "one walk of a loop, by hand"),
-    ("crates/rows/proofs/route_event/Proof.antt", "one walk of a loop, by hand"),
+    (
+        "crates/traces/proofs/playing/play/Answers.antt",
+        "the answers of one loop, which is one function because it has to be fast",
+    ),
     (
         "crates/traces/proofs/Arms.antt",
         "the arms of one loop, each over the same parts of a device",

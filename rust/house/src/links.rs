@@ -16,8 +16,9 @@ const KEPT: [&str; 19] = [
 /// What is made by a build, or by who uses it.
 const MADE: [&str; 2] = ["build", "target"];
 
-/// What stands elsewhere: the papers, what is installed, and fields of a record that look like files.
-const ELSEWHERE: [&str; 7] = [
+/// What stands elsewhere: the papers, what is installed, the kit's own, and fields of a record that look like files.
+const ELSEWHERE: [&str; 8] = [
+    "port.py",
     "01-scope.md",
     "02-change-requests.md",
     "include/gunwaleish.h",

@@ -127,20 +127,18 @@ fn is_level(of: &str) -> bool {
     of.strip_prefix("Type ").is_some_and(|level| level.chars().all(|c| c.is_ascii_digit()))
 }
 
-/// The file of each name that this one takes from a crate: `use Rattle·share·specs.specs.Laws.{AddUp}`, or `Rattle·share.specs.Laws` from
-/// another crate.
+/// The file of each name that this one takes from a crate: `use Rattle.share.specs.Laws.{AddUp}`.
 fn sources(text: &str) -> BTreeMap<&str, String> {
     let mut from = BTreeMap::new();
     for line in text.lines() {
         let Some((path, names)) =
-            line.strip_prefix("use Rattle·").and_then(|rest| rest.split_once(".{"))
+            line.strip_prefix("use Rattle.").and_then(|rest| rest.split_once(".{"))
         else {
             continue;
         };
         let Some((owner, file)) = path.split_once('.') else {
             continue;
         };
-        let owner = owner.split('·').next().unwrap_or(owner);
         let file = format!("crates/{owner}/{}.antt", file.replace('.', "/"));
         for name in names.trim_end_matches('}').split(", ") {
             from.insert(name, file.clone());

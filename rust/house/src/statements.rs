@@ -1,6 +1,7 @@
 //! Holds each statement to a field of a record, each record to the one term that fills it, and `docs/STATEMENTS.md` to all of them: a proof
 //! that is in no record could be deleted, and the check would still pass.
 
+use crate::code::is_letter;
 use crate::stated::{stated, Defined, Record, Stated, Theorem};
 use crate::tables::quoted;
 use crate::tree::Tree;
@@ -18,7 +19,7 @@ pub fn statement_faults(tree: &Tree) -> Vec<String> {
     let mut found = Vec::new();
     for statement in &stated.statements {
         found.extend(field_fault(&stated, statement));
-        found.extend(name_faults(&stated, statement));
+        found.extend(name_faults(tree, &stated, statement));
         found.extend(listing_fault(&lines, statement));
     }
     for record in &stated.records {
@@ -41,18 +42,18 @@ fn field_fault(stated: &Stated, statement: &Defined) -> Option<String> {
     }
 }
 
-/// A theorem has its statement's name in small letters: `add-up` for `AddUp`.
-fn name_faults(stated: &Stated, statement: &Defined) -> Vec<String> {
+/// A theorem has its statement's name in small letters: `add_up` for `AddUp`. Where its file has another thing of that name, it is `add_up_lem`.
+fn name_faults(tree: &Tree, stated: &Stated, statement: &Defined) -> Vec<String> {
     let mut wanted = String::new();
     for letter in statement.name.chars() {
         if letter.is_uppercase() && !wanted.is_empty() {
-            wanted.push('-');
+            wanted.push('_');
         }
         wanted.extend(letter.to_lowercase());
     }
     let theorems = stated.theorems.iter().filter(|theorem| theorem.of == *statement);
     theorems
-        .filter(|theorem| theorem.is.name != wanted)
+        .filter(|theorem| theorem.is.name != wanted && !is_second(tree, &theorem.is, &wanted))
         .map(|theorem| {
             format!(
                 "The theorem `{}` of {} proves `{}`, so its name has to be `{wanted}`.",
@@ -60,6 +61,14 @@ fn name_faults(stated: &Stated, statement: &Defined) -> Vec<String> {
             )
         })
         .collect()
+}
+
+/// True of `add_up_lem` in a file that takes a definition `add_up` from elsewhere.
+fn is_second(tree: &Tree, theorem: &Defined, wanted: &str) -> bool {
+    let text = tree.text(&theorem.file).unwrap_or_default();
+    let uses = text.lines().filter(|line| line.starts_with("use "));
+    let mut words = uses.flat_map(|line| line.split(|c: char| !is_letter(c)));
+    theorem.name == format!("{wanted}_lem") && words.any(|word| word == wanted)
 }
 
 /// A record has statements only, one term fills it, and the page says where both are.

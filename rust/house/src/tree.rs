@@ -24,7 +24,7 @@ const READ: [&str; 12] = [
 const BESIDE: [&str; 2] = ["VERSION", "crates.txt"];
 
 /// The folders that git does not keep.
-const NOT_KEPT: [&str; 4] = [".git", "build", "target", "__pycache__"];
+const NOT_KEPT: [&str; 5] = [".git", "build", "target", "out", "__pycache__"];
 
 /// Texts by their path from the repository's root, and the paths of all files, read or not.
 #[derive(Clone, Default)]
@@ -118,7 +118,11 @@ impl Tree {
             .unwrap_or_else(|e| panic!("cannot read {}: {e}", folder.display()));
         for entry in entries {
             let entry = entry.unwrap_or_else(|e| panic!("cannot read {}: {e}", folder.display()));
-            let name = format!("{path}/{}", entry.file_name().to_string_lossy());
+            let last = entry.file_name().to_string_lossy().into_owned();
+            let name = format!("{path}/{last}");
+            if NOT_KEPT.contains(&&*last) {
+                continue;
+            }
             if entry.path().is_dir() {
                 self.add(root, &name);
             } else if READ.iter().any(|end| name.ends_with(end)) {

@@ -20,11 +20,11 @@ fn small() -> Tree {
     tree.put(LAMP, "-- Document 01, \"Straps\": a lamp.\npub lamp : Lamp\n");
     tree.put(
         "crates/lamp/specs/Laws.antt",
-        "-- Request 104, what holds of lamps.\nuse Rattle·lamp·specs.specs.Lamp.{lamp}\npub Lit : Type 0\n",
+        "-- Request 104, what holds of lamps.\nuse Rattle.lamp.specs.Lamp.{lamp}\npub Lit : Type 0\n",
     );
     tree.put("crates/lamp/specs/Lib.antt", "-- The files.\n");
     tree.put("crates/lamp/proofs/Laws.antt", "pub lit : Lit\n");
-    tree.put("crates/eye/specs/Eye.antt", "-- An eye.\nuse Rattle·lamp.specs.Laws.{Lit}\n");
+    tree.put("crates/eye/specs/Eye.antt", "-- An eye.\nuse Rattle.lamp.specs.Laws.{Lit}\n");
     let head = "# Definitions\n\n| file | of | what it has | lines |\n|---|---|---|---|\n";
     tree.put(DEFINITIONS, &format!("{head}{LAMP_ROW}{LAWS_ROW}{EYE_ROW}"));
     tree

@@ -68,10 +68,10 @@ fn an_edit_refused_at_a_place_that_is_not_there() {
     let told = |place: &str| {
         format!("{RULE}: it is said to be refused at `{place}`, and its crate has no such place.")
     };
-    for place in ["Dark all-lit", "Light all-dark", "dims returns"] {
-        assert_eq!(fault_after(RULE, "Light all-lit", place), told(place));
+    for place in ["Dark all_lit", "Light all_dark", "dims returns"] {
+        assert_eq!(fault_after(RULE, "Light all_lit", place), told(place));
     }
-    let mut tree = small().replaced(RULE, "Light all-lit", "rest returns-2");
+    let mut tree = small().replaced(RULE, "Light all_lit", "rest returns-2");
     let page = promises_page(&tree);
     tree.put(LIST, &page);
     assert_eq!(faults(&tree), Vec::<String>::new());

@@ -49,17 +49,30 @@ fn write_program(path: &Path, text: &str) {
     fs::set_permissions(path, fs::Permissions::from_mode(0o755)).unwrap();
 }
 
+/// What `rt ci` says before its verdict where every edit was tried, and where one was bad.
+const OK: &str = "rt: ok; handles allowed: none; must-fail edits: 32 refused; every proof and must-fail edit was done in this run";
+const BAD: &str = "rt: ok; handles allowed: none; must-fail edits: 31 refused, 1 of them only by a limit, 1 bad; done in this run: 1 of the 98";
+
 /// Runs the gate where `rt ci` prints `verdict` last, and the command at `falls` ends with 1.
 fn run_gate(name: &str, verdict: &str, falls: Option<&str>) -> Ended {
+    run_gate_after(OK, name, verdict, falls)
+}
+
+/// The same where `rt ci` says this before.
+fn run_gate_after(before: &str, name: &str, verdict: &str, falls: Option<&str>) -> Ended {
     let room = Room::new(name);
     let script = room.0.join(".ci/run");
     fs::create_dir_all(script.parent().unwrap()).unwrap();
     fs::copy(SCRIPT, &script).unwrap();
     let ran = room.0.join("ran");
     for (path, part) in PARTS {
-        let said = if part == "rt ci" { verdict } else { "done" };
+        // The words that rt is called with are noted too: nothing else than `rt ci` is the gate.
+        let (part, said) = match part {
+            "rt ci" => ("rt $*", format!("echo '{before}'\necho '{verdict}'")),
+            _ => (part, "echo done".to_string()),
+        };
         let status = i32::from(falls == Some(path));
-        let text = format!("echo '{part}' >>'{}'\necho '{said}'\nexit {status}", ran.display());
+        let text = format!("echo \"{part}\" >>'{}'\n{said}\nexit {status}", ran.display());
         write_program(&room.0.join(path), &text);
     }
     let path = format!("{}:{}", room.0.join("bin").display(), std::env::var("PATH").unwrap());
@@ -110,4 +123,26 @@ fn the_verdict_and_the_status_of_rt_ci_are_both_asked() {
         assert!(!is_verdict(&ended.last_line), "{name}: {}", ended.last_line);
         assert_eq!(ended.ran, ["rt ci"], "{name}");
     }
+}
+
+/// `rt ci` passes with an edit that it cannot apply or read; the gate does not.
+#[test]
+fn a_bad_edit_ends_the_gate() {
+    for (name, said) in [
+        ("bad", BAD),
+        ("bad-alone", "rt: ok; handles allowed: none; must-fail edits: 0 refused, 12 bad; every"),
+        ("not-ok", "rt: nothing is said of edits"),
+    ] {
+        let ended = run_gate_after(said, name, "98 passed, 0 failed", None);
+        assert_ne!(ended.status, 0, "{name}");
+        assert!(ended.last_line.starts_with("The gate fell at "), "{name}: {}", ended.last_line);
+        assert_eq!(ended.ran, ["rt ci"], "{name}");
+    }
+    let ended = run_gate_after(
+        &OK.replace("32 refused", "32 refused, 0 bad"),
+        "none-bad",
+        "9 passed, 0 failed",
+        None,
+    );
+    assert_eq!((ended.status, ended.last_line.as_str()), (0, "9 passed, 0 failed"));
 }

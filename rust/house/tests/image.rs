@@ -26,8 +26,8 @@ fn another_range_on_the_page_is_told() {
 
 #[test]
 fn another_range_in_the_definition_is_told() {
-    assert_eq!(told(LAYOUT, ".lowsda) upTo 501", ".lowsda) upTo 500").len(), 1);
-    assert_eq!(told(LAYOUT, "imageLength = 38", "imageLength = 39").len(), 1);
+    assert_eq!(told(LAYOUT, ".lowsda) up_to 501", ".lowsda) up_to 500").len(), 1);
+    assert_eq!(told(LAYOUT, "image_length = 38", "image_length = 39").len(), 1);
 }
 
 #[test]
@@ -37,8 +37,8 @@ fn another_order_is_told() {
     assert!(
         told(
             LAYOUT,
-            "laidOut (registers Zero) d ++ laidOut (registers One) d",
-            "laidOut (registers One) d ++ laidOut (registers Zero) d"
+            "laid_out (registers Zero) d ++ laid_out (registers One) d",
+            "laid_out (registers One) d ++ laid_out (registers Zero) d"
         )
         .len()
             > 1

@@ -102,6 +102,13 @@ fn a_page_tool_or_folder_that_is_not_on_the_map() {
     assert_eq!(told, "docs/README.md does not name `LAMP.md`.");
 }
 
+/// A line may say of what kind a crate is, which is no part of its name.
+#[test]
+fn a_crate_of_another_kind() {
+    let tree = small().replaced(CRATES, "roof: door lamp", "roof staticlib: door lamp");
+    assert_eq!(map_faults(&tree), Vec::<String>::new());
+}
+
 #[test]
 fn a_picture_of_other_crates() {
     let told = map_fault_after(CRATES, "roof: door lamp", "roof: door wall");

@@ -23,10 +23,10 @@ fn a_repository_in_order() {
         | 4 | is four | wrong four | `lamp/four` | `glows` |\n\
         | 5 | is five | wrong five | `lamp/five` | `glows` |\n\n\
         | crate | refused at: wrong rules and statements |\n|---|---|\n\
-        | `lamp` | `Light.all-lit`: `lit_when_off` |\n\n\
+        | `lamp` | `Light.all_lit`: `lit_when_off` |\n\n\
         ### Lamps\n\n| call | promises | wrong answers refused |\n|---|---|---|\n\
         | `lamp::is_lit` | `lit`, `lamp/specs/Light.antt` | ★`never_lit`, `always_lit` |\n\
-        | `lamp::glows` | `r ≡ now (off .lit)` | ★`five`, ★`four`, ★`never_lit`, ★`one`, ★`three`, ★`two` |\n\n\
+        | `lamp::glows` | `result ≡ now off.lit` | ★`five`, ★`four`, ★`never_lit`, ★`one`, ★`three`, ★`two` |\n\n\
         ## Exceptions\n\n| call | grounds | edits |\n|---|---|---|\n\
         | `show::main` | a program | none |\n| `show::words::say` | no result | none |\n";
     assert_eq!(promises_page(&small()), expected);
@@ -104,7 +104,7 @@ fn a_public_call_with_a_requires() {
     let told = fault_after(
         SOURCE,
         "pub fn is_lit(on: bool) -> bool",
-        "pub fn is_lit(on: bool) -> bool\n    requires { ⌜ on ⌝ }",
+        "pub fn is_lit(on: bool) -> bool\n    requires { on }",
     );
     let expected = "`lamp::is_lit` of crates/lamp/src/lib.rt has a `requires`: a public call answers any input, or is listed as an exception \
                     with grounds.";
@@ -113,7 +113,7 @@ fn a_public_call_with_a_requires() {
 
 #[test]
 fn a_public_call_with_no_promise() {
-    let told = fault_after(SOURCE, "-> bool\n    ensures { λ r. ⌜ r ≡ lit on ⌝ }\n{", "-> bool {");
+    let told = fault_after(SOURCE, "-> bool\n    ensures { result ≡ lit on }\n{", "-> bool {");
     assert_eq!(
         told,
         "`lamp::is_lit` of crates/lamp/src/lib.rt has no `ensures`, so it promises nothing, and it is no exception of \
@@ -138,7 +138,9 @@ fn an_exception_without_grounds_or_with_a_promise() {
     let expected =
         "The exception `show::main` has no cell {edits} in rust/house/src/promises/page.md.";
     assert_eq!(told, expected);
-    let told = fault_after(SAY, "pub fn say() {", "pub fn say()\n    ensures { λ _. ⌜ ⊤ ⌝ }\n{");
+    let of_a_stream = "pub fn say() -> io::Result<()>\n    ensures { IfOk result lit }\n{";
+    assert_eq!(faults(&small().replaced(SAY, "pub fn say() {", of_a_stream)), Vec::<String>::new());
+    let told = fault_after(SAY, "pub fn say() {", "pub fn say()\n    ensures { ⊤ }\n{");
     let expected =
         "`show::words::say` has a promise in crates/show/src/words.rt, and rust/house/src/promises/page.md lists it as an exception.";
     assert_eq!(told, expected);
@@ -150,7 +152,7 @@ fn a_definition_that_is_not_there_or_not_cited() {
     assert_eq!(told, "`lamp::is_lit` promises by `lit` of crates/lamp/specs/Light.antt, and it is not defined there.");
     let told = fault_after(SOURCE, "specs.Light.{lit, off}", "specs.Dark.{lit, off}");
     assert_eq!(told, "`lamp::is_lit` promises by `lit` of crates/lamp/specs/Dark.antt, and it is not defined there.");
-    let told = fault_after(SOURCE, "r ≡ lit on", "r ≡ on");
+    let told = fault_after(SOURCE, "result ≡ lit on", "result ≡ on");
     assert!(
         told.starts_with("docs/PROMISES.md is not what contracts and edits give now."),
         "{told}"
@@ -162,31 +164,48 @@ fn a_definition_that_is_not_there_or_not_cited() {
 fn definitions_cited_in_other_ways() {
     let cited = |imports: &str, promise: &str| {
         let tree = small()
-            .replaced(SOURCE, "ghost use Rattle·lamp·specs.specs.Light.{lit, off};", imports)
-            .replaced(SOURCE, "r ≡ lit on", promise);
+            .replaced(SOURCE, "ghost use Rattle.lamp.specs.Light.{lit, off};", imports)
+            .replaced(SOURCE, "result ≡ lit on", promise);
         let page = promises_page(&tree);
         let row = page.lines().find(|line| line.starts_with("| `lamp::is_lit` |"));
         row.expect("a row").split(" | ").nth(1).expect("a cell").to_string()
     };
-    let words = "ghost use Rattle·lamp.specs.Words.{if_then_else_, lit};";
+    let words = "ghost use Rattle.lamp.specs.Words.{if◌then◌else◌, lit};";
     assert_eq!(
-        cited(words, "r ≡ (if on then x else y)"),
-        "`if_then_else_`, `lamp/specs/Words.antt`"
+        cited(words, "result ≡ (if on then x else y)"),
+        "`if◌then◌else◌`, `lamp/specs/Words.antt`"
     );
-    assert_eq!(cited(words, "r ≡ (if on then x)"), "`r ≡ (if on then x)`");
-    let calls = "ghost use Rattle·lamp.specs.Light.{lit};\nghost use Rattle·ear.specs.Calls.{loud};\nghost use Rattle·eye.specs.Calls;";
-    assert_eq!(cited(calls, "r ≡ Calls.lit on"), "`lit`, `eye/specs/Calls.antt`");
+    assert_eq!(cited(words, "result ≡ (if on then x)"), "`result ≡ (if on then x)`");
+    let calls = "ghost use Rattle.lamp.specs.Light.{lit};\nghost use Rattle.ear.specs.Calls.{loud};\nghost use Rattle.eye.specs.Calls;";
+    assert_eq!(cited(calls, "result ≡ Calls.lit on"), "`lit`, `eye/specs/Calls.antt`");
     assert_eq!(
-        cited(calls, "(r ≡ lit on) × (s ≡ Calls.lit on)"),
+        cited(calls, "(result ≡ lit on) × (s ≡ Calls.lit on)"),
         "`lit`, `lamp/specs/Light.antt`; `lit`, `eye/specs/Calls.antt`"
     );
 }
 
+/// A promise in several clauses, each with a name, which cites nothing; and the fields of what is cited.
+#[test]
+fn a_promise_in_several_clauses() {
+    let cited = |promise: &str| {
+        let tree = small().replaced(SOURCE, "    ensures { result ≡ lit on }\n", promise);
+        let page = promises_page(&tree);
+        let row = page.lines().find(|line| line.starts_with("| `lamp::is_lit` |"));
+        row.expect("a row").split(" | ").nth(1).expect("a cell").to_string()
+    };
+    let two = "    ensures off { result ≡ on }\n    ensures lit { on ≡ result }\n";
+    assert_eq!(cited(two), "`result ≡ on`");
+    let two = "    ensures value { record { a = result } ≡ x }\n    ensures again {\n        result ≡ lit.level\n    }\n";
+    assert_eq!(cited(two), "`lit`, `lamp/specs/Light.antt`");
+    assert_eq!(cited("    ensures { result ≡ on.lit }\n"), "`result ≡ on.lit`");
+    assert_eq!(cited("    ensures { result ≡ (off on).lit }\n"), "`off`, `lamp/specs/Light.antt`");
+}
+
 #[test]
 fn a_call_with_no_law_of_uniqueness() {
-    let fault = fault_after(UNIQUE, "pub glows-once", "pub grows-once");
+    let fault = fault_after(UNIQUE, "pub glows_once", "pub grows_once");
     assert_eq!(
         fault,
-        "No `glows-once` in crates/lamp/proofs/Unique.antt says that the promise of `lamp::glows` leaves room for one result."
+        "No `glows_once` in crates/lamp/proofs/Unique.antt says that the promise of `lamp::glows` leaves room for one result."
     );
 }

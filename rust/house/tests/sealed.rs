@@ -18,19 +18,19 @@ fn told(path: &str, clause: &str) -> Vec<String> {
     unsealed(&tree)
 }
 
-const FAULT: &str = "the proof `lost` unfolds `rulesOf`, so it is not one for both kinds of part; only those that rust/house/src/sealed.rs lists may.";
+const FAULT: &str = "the proof `lost` unfolds `rules_of`, so it is not one for both kinds of part; only those that rust/house/src/sealed.rs lists may.";
 
 #[test]
 fn a_proof_that_opens_them_in_any_crate() {
     for path in [
         "crates/arbiter/proofs/Timer.antt",
         "crates/audit/proofs/Blocking.antt",
-        "crates/bus/proofs/idle/Proof.antt",
+        "crates/bus/proofs/idle/Answers.antt",
     ] {
         for clause in [
-            "unfolding rulesOf",
-            "unfolding losses rulesOf lost",
-            "unfolding losses\n    lost rulesOf",
+            "unfolding rules_of",
+            "unfolding losses rules_of lost",
+            "unfolding losses\n    lost rules_of",
         ] {
             assert_eq!(told(path, clause), [format!("{path}, line 5: {FAULT}")], "{clause}");
         }
@@ -42,9 +42,9 @@ fn a_proof_that_opens_them_in_any_crate() {
 fn the_proof_is_told_by_its_name() {
     let path = "crates/audit/proofs/Blocking.antt";
     let mut tree = Tree::default();
-    tree.put(path, "pub lost : (k : Kind)\n    → Lost k\nunfolding rulesOf\nlost k = refl\n");
+    tree.put(path, "pub lost : (k : Kind)\n    → Lost k\nunfolding rules_of\nlost k = refl\n");
     assert_eq!(unsealed(&tree), [format!("{path}, line 3: {FAULT}")]);
-    tree.put(path, "module _ (k : Kind) where\n  other : Other\n  other = refl\n\n  lost : Lost\n  unfolding rulesOf\n  lost = refl\n");
+    tree.put(path, "module _ (k : Kind) where\n  other : Other\n  other = refl\n\n  lost : Lost\n  unfolding rules_of\n  lost = refl\n");
     assert_eq!(unsealed(&tree), [format!("{path}, line 6: {FAULT}")]);
 }
 
@@ -53,28 +53,52 @@ fn the_proof_is_told_by_its_name() {
 fn what_may_open_them() {
     let path = "crates/sheets/proofs/InTime.antt";
     let mut tree = Tree::default();
-    let met = "pub premises-met : PremisesMet\nunfolding levels\n    never rulesOf\npremises-met = refl\n";
+    let met = "pub premises_met : PremisesMet\nunfolding levels\n    never rules_of\npremises_met = refl\n";
     tree.put(path, met);
     assert!(unsealed(&tree).is_empty());
-    tree.put(path, &format!("{met}\npub lost : Lost\nunfolding rulesOf\nlost = refl\n"));
+    tree.put(path, &format!("{met}\npub lost : Lost\nunfolding rules_of\nlost = refl\n"));
     assert_eq!(unsealed(&tree), [format!("{path}, line 7: {FAULT}")]);
 }
 
 #[test]
 fn one_that_may_and_does_not() {
     let told = told("crates/arbiter/proofs/KindKept.antt", "unfolding losses");
-    assert_eq!(told, ["rust/house/src/sealed.rs lets `limit-some` of crates/arbiter/proofs/KindKept.antt unfold `rulesOf`, and it does not."]);
+    assert_eq!(told, ["rust/house/src/sealed.rs lets `limit_some` of crates/arbiter/proofs/KindKept.antt unfold `rules_of`, and it does not."]);
+}
+
+/// What the check unfolds for a function, or for a whole crate, stands in its code.
+#[test]
+fn code_that_opens_them() {
+    let told = |text: &str| {
+        let mut tree = Tree::default();
+        tree.put("crates/bus/src/lib.rt", text);
+        unsealed(&tree)
+    };
+    let fault = FAULT.replace("`lost`", "`idle`");
+    let function = "pub fn idle(d: Device) -> bool";
+    for (attribute, line) in [
+        ("#[tactic(auto, unfolding(arbiter::specs::Rules::rules_of))]", 2),
+        ("#[tactic(auto, unfolding(arbiter::specs::Rules::rolls, arbiter::specs::Rules::rules_of))]", 2),
+        ("#[tactic(\n    auto,\n    unfolding(\n        arbiter::specs::Rules::rules_of,\n    )\n)]", 4),
+    ] {
+        let told = told(&format!("// A bus.\n{attribute}\n{function}\n"));
+        assert_eq!(told, [format!("crates/bus/src/lib.rt, line {line}: {fault}")]);
+    }
+    let whole = told("#![tactic(auto, unfolding(arbiter::specs::Rules::rules_of))]\n");
+    assert!(whole[0].starts_with("crates/bus/src/lib.rt, line 1: the proof `tactic` unfolds"));
+    let other = format!("#[tactic(auto, unfolding(arbiter::specs::Rules::rolls))]\n{function}\n");
+    assert!(told(&other).is_empty());
 }
 
 #[test]
 fn other_names_and_other_places() {
     for clause in [
         "unfolding losses",
-        "unfolding rulesOfAll",
-        "-- not unfolding rulesOf",
-        "rulesOf = unfolding",
+        "unfolding rules_of_all",
+        "-- not unfolding rules_of",
+        "rules_of = unfolding",
     ] {
         assert!(told("crates/arbiter/proofs/Timer.antt", clause).is_empty(), "{clause}");
     }
-    assert!(told("crates/arbiter/specs/Rules.antt", "unfolding rulesOf").is_empty());
+    assert!(told("crates/arbiter/specs/Rules.antt", "unfolding rules_of").is_empty());
 }

@@ -18,13 +18,13 @@ fn put_code(tree: &mut Tree) {
     tree.put(
         SPECS,
         "abbrev pub lit : Bool → Bool\nlit on = on\n\npub record Lamp : Type 0 where\n  pub on : Bool\n\n\
-         abbrev pub AllLit : Type 0\nAllLit = (l : Lamp) → lit (l .on) ≡ true\n\n\
+         abbrev pub AllLit : Type 0\nAllLit = (l : Lamp) → lit l.on ≡ true\n\n\
          unfoldable pub rows : List Row\nrows =\n    -- one lamp\n    (first is bright)\n    -- and another\n    ∷ (second is dark)\n    ∷ []\n",
     );
     tree.put(
         SOURCE,
-        "pub struct Lamp {\n}\n\nconst MOST: u8 = 3;\n\npub fn is_lit(on: bool) -> bool\n    ensures { λ r. ⌜ r ≡ lit on ⌝ }\n{\n    on\n}\n\n\
-         pub fn say() {\n}\n\nfn rest(on: bool) -> bool\n    ensures { λ r. ⌜ r ≡ on ⌝ }\n{\n    on\n}\n",
+        "pub struct Lamp {\n}\n\nconst MOST: u8 = 3;\n\npub fn is_lit(on: bool) -> bool\n    ensures { result ≡ lit on }\n{\n    on\n}\n\n\
+         pub fn say() {\n}\n\nfn rest(on: bool) -> bool\n    ensures { result ≡ on }\n{\n    on\n}\n",
     );
     tree.put(
         MARKS,
@@ -33,7 +33,7 @@ fn put_code(tree: &mut Tree) {
     tree.put(TEST, "#[test]\nfn it_is_lit() {\n}\n\nfn helper() {\n}\n");
     tree.put(
         "crates/lamp/must-fail/never_lit.edit",
-        "file: src/lib.rt\nold: ensures { λ r. ⌜ r ≡ lit on ⌝ }\nnew: ensures { λ r. ⌜ r ≡ off ⌝ }\n",
+        "file: src/lib.rt\nold: ensures { result ≡ lit on }\nnew: ensures { result ≡ off }\n",
     );
     tree.put("crates/show/stdout", "lit\n");
 }

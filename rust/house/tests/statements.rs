@@ -18,7 +18,7 @@ const TERM: &str = "crates/lamp/proofs/Answers.antt";
 fn put_lamp(tree: &mut Tree) {
     tree.put(
         LAWS,
-        "abbrev pub Lit : Lamp → Type 0\nLit l = l .on ≡ true\n\n\
+        "abbrev pub Lit : Lamp → Type 0\nLit l = l.on ≡ true\n\n\
          abbrev pub AllLit : Type 0\nAllLit = (l : Lamp) → Lit l\n\n\
          abbrev pub NoneDark : Type 0\nNoneDark = Lit lamp\n\n\
          pub record OneBright : Type 0 where\n  pub lamp : Lamp\n  pub bright : Lit lamp\n\n\
@@ -30,20 +30,20 @@ fn put_lamp(tree: &mut Tree) {
     );
     tree.put(
         RECORD,
-        "use Rattle·lamp·specs.specs.Laws.{AllLit, NoneDark, OneBright}\n\n\
-         pub record Answers : Type 0 where\n  -- Is it lit?\n  pub allLit : AllLit\n  pub noneDark : NoneDark\n  pub oneBright : OneBright\n",
+        "use Rattle.lamp.specs.Laws.{AllLit, NoneDark, OneBright}\n\n\
+         pub record Answers : Type 0 where\n  -- Is it lit?\n  pub all_lit : AllLit\n  pub none_dark : NoneDark\n  pub one_bright : OneBright\n",
     );
     tree.put(
         PROOFS,
-        "use Rattle·lamp·specs.specs.Laws.{Lit, AllLit, NoneDark, OneBright}\n\n\
+        "use Rattle.lamp.specs.Laws.{Lit, AllLit, NoneDark, OneBright}\n\n\
          pub lemma : (l : Lamp) → Lit l\nlemma l = refl\n\n\
-         pub all-lit : AllLit\nall-lit = lemma\n\npub none-dark : NoneDark\nnone-dark = refl\n\n\
-         pub one-bright : OneBright\none-bright = record { lamp = it; bright = refl }\n",
+         pub all_lit : AllLit\nall_lit = lemma\n\npub none_dark : NoneDark\nnone_dark = refl\n\n\
+         pub one_bright : OneBright\none_bright = record { lamp = it; bright = refl }\n",
     );
     tree.put(
         TERM,
-        "use Rattle·lamp·specs.specs.Answers.{Answers}\n\n\
-         pub answers : Answers\nanswers =\n    record {\n      allLit = all-lit;\n      noneDark = none-dark;\n      oneBright = one-bright;\n    }\n",
+        "use Rattle.lamp.specs.Answers.{Answers}\n\n\
+         pub answers : Answers\nanswers =\n    record {\n      all_lit = all_lit;\n      none_dark = none_dark;\n      one_bright = one_bright;\n    }\n",
     );
 }
 
@@ -51,11 +51,11 @@ fn put_lamp(tree: &mut Tree) {
 fn put_eye(tree: &mut Tree) {
     tree.put(
         "crates/eye/specs/Answers.antt",
-        "use Rattle·lamp.specs.Far.{Seen}\n\npub record Sight : Type 1 where\n  pub seen : Seen\n",
+        "use Rattle.lamp.specs.Far.{Seen}\n\npub record Sight : Type 1 where\n  pub seen : Seen\n",
     );
     tree.put(
         "crates/eye/proofs/Sight.antt",
-        "use Rattle·eye·specs.specs.Answers.{Sight}\nuse Rattle·lamp.specs.Far.{Seen}\n\n\
+        "use Rattle.eye.specs.Answers.{Sight}\nuse Rattle.lamp.specs.Far.{Seen}\n\n\
          pub seen : Seen\nseen A x = x\n\npub sight : Sight\nsight = record { seen = seen }\n",
     );
 }
@@ -96,7 +96,7 @@ fn a_repository_in_order() {
 
 #[test]
 fn a_statement_without_a_field() {
-    let told = fault_after(RECORD, "  pub allLit : AllLit\n", "");
+    let told = fault_after(RECORD, "  pub all_lit : AllLit\n", "");
     assert_eq!(told, "`AllLit` of crates/lamp/specs/Laws.antt is a statement and a field of no record, so its proof could be lost unseen.");
     let told = faults_after(LAWS, "abbrev pub Lit : Lamp → Type 0", "pub Lit : Type 0");
     let expected = [
@@ -108,11 +108,11 @@ fn a_statement_without_a_field() {
 
 #[test]
 fn a_record_as_a_statement() {
-    let told = fault_after(RECORD, "  pub oneBright : OneBright\n", "");
+    let told = fault_after(RECORD, "  pub one_bright : OneBright\n", "");
     assert_eq!(told, "`OneBright` of crates/lamp/specs/Laws.antt is a statement and a field of no record, so its proof could be lost unseen.");
-    let told = faults_after(PROOFS, "pub one-bright : OneBright", "one-bright : OneBright");
+    let told = faults_after(PROOFS, "pub one_bright : OneBright", "one_bright : OneBright");
     let expected = [
-        "The field `oneBright` of the record `Answers` in crates/lamp/specs/Answers.antt has no statement of specs/ for its type.",
+        "The field `one_bright` of the record `Answers` in crates/lamp/specs/Answers.antt has no statement of specs/ for its type.",
         "docs/STATEMENTS.md says that the statement `OneBright` is stated in `lamp/specs/Laws.antt`; it is not.",
     ];
     assert_eq!(told, expected);
@@ -120,16 +120,26 @@ fn a_record_as_a_statement() {
 
 #[test]
 fn a_theorem_with_another_name() {
-    let told = fault_after(PROOFS, "pub none-dark :", "pub not-dark :");
-    assert_eq!(told, "The theorem `not-dark` of crates/lamp/proofs/Laws.antt proves `NoneDark`, so its name has to be `none-dark`.");
+    let told = fault_after(PROOFS, "pub none_dark :", "pub not_dark :");
+    assert_eq!(told, "The theorem `not_dark` of crates/lamp/proofs/Laws.antt proves `NoneDark`, so its name has to be `none_dark`.");
+}
+
+/// Where its file takes a definition of that name from elsewhere, the theorem has `_lem` behind it.
+#[test]
+fn a_theorem_beside_a_definition_of_its_name() {
+    let told = fault_after(PROOFS, "pub none_dark :", "pub none_dark_lem :");
+    assert_eq!(told, "The theorem `none_dark_lem` of crates/lamp/proofs/Laws.antt proves `NoneDark`, so its name has to be `none_dark`.");
+    let takes = "use Rattle.lamp.specs.Dark.{none_dark}\n\npub lemma";
+    let tree = small().replaced(PROOFS, "pub none_dark :", "pub none_dark_lem :");
+    assert!(statement_faults(&tree.replaced(PROOFS, "pub lemma", takes)).is_empty());
 }
 
 #[test]
 fn a_statement_in_two_fields() {
     let told = faults_after(
         RECORD,
-        "  pub allLit : AllLit\n",
-        "  pub allLit : AllLit\n  pub again : AllLit\n",
+        "  pub all_lit : AllLit\n",
+        "  pub all_lit : AllLit\n  pub again : AllLit\n",
     );
     assert_eq!(told[0], "`AllLit` of crates/lamp/specs/Laws.antt is a field of records 2 times.");
     assert_eq!(told[1], "The term `answers` of crates/lamp/proofs/Answers.antt does not fill the field `again` of `Answers`.");
@@ -137,8 +147,11 @@ fn a_statement_in_two_fields() {
 
 #[test]
 fn a_field_that_is_no_statement() {
-    let told =
-        faults_after(RECORD, "  pub allLit : AllLit\n", "  pub allLit : AllLit\n  pub row : Row\n");
+    let told = faults_after(
+        RECORD,
+        "  pub all_lit : AllLit\n",
+        "  pub all_lit : AllLit\n  pub row : Row\n",
+    );
     let expected = [
         "The field `row` of the record `Answers` in crates/lamp/specs/Answers.antt has no statement of specs/ for its type.",
         "The term `answers` of crates/lamp/proofs/Answers.antt does not fill the field `row` of `Answers`.",
@@ -160,8 +173,8 @@ fn a_record_that_no_term_fills_or_two() {
 
 #[test]
 fn a_term_that_lacks_a_field() {
-    let told = fault_after(TERM, "      allLit = all-lit;\n", "");
-    assert_eq!(told, "The term `answers` of crates/lamp/proofs/Answers.antt does not fill the field `allLit` of `Answers`.");
+    let told = fault_after(TERM, "      all_lit = all_lit;\n", "");
+    assert_eq!(told, "The term `answers` of crates/lamp/proofs/Answers.antt does not fill the field `all_lit` of `Answers`.");
 }
 
 #[test]

@@ -12,11 +12,10 @@ const HEAD: &str = "\
 -- The scripts of traces/rules/, each with the answers of its listing, in one table that proofs/Rows.antt proves. It is written from them
 -- by the commands of docs/RULES.md, and a test tells when it is stale.
 -- Assumes nothing.
-use mathlib.Core.Path.{_≡_}
-use mathlib.Core.List.{List, [], _∷_, map}
-use Rattle·arbiter.specs.declared.Kind.the-variants.{Pca9641, Tpt29641}
-use Rattle·arbiter.specs.Marks.{raw, command, write, read, stop, pair, lines, tick, pulse, reset, generalCall}
-use Rattle·rulebook·specs.specs.Scripts.{Script, part_does_, _gives_, _ticks_, found, told}
+use Rattle.std.specs.Prelude.{◌≡◌, List, [], ◌∷◌, map}
+use Rattle.arbiter.specs.declared.Kind.TheVariants.{Pca9641, Tpt29641}
+use Rattle.arbiter.specs.Marks.{EVENTS}
+use Rattle.rulebook.specs.Scripts.{Script, part◌does◌, ◌gives◌, ◌ticks◌, found, told}
 
 unfoldable pub rules : List Script
 rules =
@@ -29,12 +28,27 @@ abbrev pub RuleRowsHold : Type 0
 RuleRowsHold = map found rules ≡ map told rules
 ";
 
+/// The events by their names of the marked examples, of which the table takes those that it has.
+const EVENTS: [&str; 11] = [
+    "raw",
+    "command",
+    "write",
+    "read",
+    "stop",
+    "pair",
+    "lines",
+    "tick",
+    "pulse",
+    "reset",
+    "general_call",
+];
+
 /// The letters of a line of the table.
 const WIDE: usize = 140;
 
 /// The table of a folder's scripts, or why there is none.
 pub fn table(folder: &Path) -> Result<String, String> {
-    let mut text = HEAD.to_string();
+    let mut text = String::new();
     for (place, name) in names(folder)?.iter().enumerate() {
         let file = |ending: &str| {
             let path = folder.join(format!("{name}.{ending}"));
@@ -45,7 +59,11 @@ pub fn table(folder: &Path) -> Result<String, String> {
             row(&file("script")?, &file("listing")?).map_err(|why| format!("{name}: {why}"))?;
         text += &format!("    -- {name}\n    {joint}{row}");
     }
-    Ok(text + FOOT)
+    let code = text.lines().filter(|line| !line.trim_start().starts_with("-- "));
+    let words: BTreeSet<&str> =
+        code.flat_map(|line| line.split(|c: char| !c.is_alphanumeric() && c != '_')).collect();
+    let events: Vec<&str> = EVENTS.into_iter().filter(|event| words.contains(event)).collect();
+    Ok(HEAD.replace("EVENTS", &events.join(", ")) + &text + FOOT)
 }
 
 /// The names of the scripts in their order.
@@ -95,7 +113,7 @@ fn term(event: Event) -> String {
         Event::Tick => "tick".to_string(),
         Event::Pulse { sda } => format!("pulse {}", level(sda)),
         Event::Reset => "reset".to_string(),
-        Event::GeneralCall { master, code } => format!("generalCall {master} 0x{code:02X}"),
+        Event::GeneralCall { master, code } => format!("general_call {master} 0x{code:02X}"),
         Event::Raw([kind, x, y, z]) => format!("raw {kind} {x} {y} {z}"),
     }
 }

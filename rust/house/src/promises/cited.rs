@@ -3,6 +3,9 @@
 use crate::calls::Call;
 use crate::tree::Tree;
 
+/// The kit's own library, whose definitions no page of this repository explains.
+const KIT: &str = "std";
+
 /// A definition, with its file under `crates/`.
 #[derive(Clone, PartialEq)]
 pub struct Cited {
@@ -13,23 +16,23 @@ pub struct Cited {
 /// The definitions that a call's promise cites, in the order in which they stand there. What the code itself declares is left out: types and
 /// the cases of an enum.
 pub fn cited(tree: &Tree, call: &Call) -> Vec<Cited> {
-    let (head, promise) = call.contract.split_once("ensures").unwrap_or((&call.contract, ""));
-    let (taken, words) = (parameters(head), words_of(promise));
+    let head = call.contract.split("ensures").next().unwrap_or_default();
+    let words: Vec<&str> = promises_of(call).into_iter().flat_map(words_of).collect();
+    let taken = parameters(head);
     let mut found: Vec<(usize, Cited)> = Vec::new();
     for (path, names) in used(tree.text(&call.file).unwrap_or_default()) {
         let Some((krate, file)) = path.split_once(".specs.") else {
             continue;
         };
-        let place =
-            format!("{}/specs/{}.antt", krate.trim_end_matches("·specs"), file.replace('.', "/"));
-        if file.starts_with("declared.") {
+        let place = format!("{krate}/specs/{}.antt", file.replace('.', "/"));
+        if file.starts_with("declared.") || krate == KIT {
             continue;
         }
-        // A file that is used whole is named before each of its definitions: `Calls.freshNumber`.
+        // A file that is used whole is named before each of its definitions: `Calls.fresh_number`.
         let start = names.is_empty().then(|| format!("{file}."));
         let by_file = words.iter().enumerate().filter_map(|(at, word)| {
             let name = word.strip_prefix(start.as_deref()?)?;
-            Some((at, name))
+            Some((at, head_of(name)))
         });
         let known = names.into_iter().filter(|name| !taken.contains(name));
         let by_name = known.filter_map(|name| Some((position(&words, name)?, name)));
@@ -47,18 +50,42 @@ pub fn cited(tree: &Tree, call: &Call) -> Vec<Cited> {
     once
 }
 
-/// Where a name stands first. One such as `if_then_else_` has its words around what it is given.
+/// Where a name stands first. One such as `if◌then◌else◌` has its words around what it is given.
 fn position(words: &[&str], name: &str) -> Option<usize> {
-    let mut parts = name.split('_').filter(|part| !part.is_empty());
-    let first = parts.next().and_then(|part| words.iter().position(|word| *word == part));
-    first.filter(|_| parts.all(|part| words.contains(&part)))
+    let mut parts = name.split('◌').filter(|part| !part.is_empty());
+    let is_at = |part: &str| words.iter().position(|word| head_of(word) == part);
+    let first = parts.next().and_then(is_at);
+    first.filter(|_| parts.all(|part| is_at(part).is_some()))
 }
 
-/// The promise itself, as it stands: what is between the corners of its first `ensures`.
+/// `lamp` of `lamp.on.level`: what the fields after it are of.
+fn head_of(word: &str) -> &str {
+    word.split('.').next().unwrap_or_default()
+}
+
+/// The promise itself, as it stands, or the first of several.
 pub fn promise_of(call: &Call) -> &str {
-    let promise = call.contract.split_once("ensures").map_or("", |(_, promise)| promise);
-    let inside = promise.split_once('⌜').and_then(|(_, rest)| rest.split_once('⌝'));
-    inside.map_or("", |(promise, _)| promise.trim())
+    promises_of(call).first().map_or("", |promise| promise.trim())
+}
+
+/// What is between the braces of each `ensures`, which may have a name before them: `ensures value { .. }`.
+fn promises_of(call: &Call) -> Vec<&str> {
+    let clauses = call.contract.split("ensures").skip(1);
+    clauses.filter_map(|clause| clause.split_once('{')).map(|(_, rest)| up_to_brace(rest)).collect()
+}
+
+/// A text up to the brace that closes the one before it.
+fn up_to_brace(text: &str) -> &str {
+    let mut depth = 1;
+    let end = text.find(|c| {
+        depth += match c {
+            '{' => 1,
+            '}' => -1,
+            _ => 0,
+        };
+        depth == 0
+    });
+    &text[..end.unwrap_or(text.len())]
 }
 
 /// True if the file that is said to define a name does.
@@ -73,7 +100,7 @@ pub fn is_defined(tree: &Tree, definition: &Cited) -> bool {
 
 /// The words of a promise. A field keeps the dot before it, so that it is not taken for a definition of the same name.
 fn words_of(promise: &str) -> Vec<&str> {
-    promise.split(|c: char| c.is_whitespace() || "(){}⌜⌝,;".contains(c)).collect()
+    promise.split(|c: char| c.is_whitespace() || "(){},;".contains(c)).collect()
 }
 
 /// The names before a colon in the head of a function.
@@ -85,7 +112,7 @@ fn parameters(head: &str) -> Vec<&str> {
 
 /// What a source uses of the crates' own definitions: a path, and the names that it takes from there; none where it takes a file whole.
 fn used(source: &str) -> Vec<(&str, Vec<&str>)> {
-    let uses = source.split("ghost use Rattle·").skip(1).filter_map(|rest| rest.split_once(';'));
+    let uses = source.split("ghost use Rattle.").skip(1).filter_map(|rest| rest.split_once(';'));
     uses.map(|(line, _)| match line.split_once(".{") {
         Some((path, names)) => {
             (path, names.trim_end_matches('}').split(',').map(str::trim).collect())

@@ -119,10 +119,10 @@ fn call_faults(tree: &Tree, call: &Call, edits: &[Noted]) -> Vec<String> {
     found
 }
 
-/// `address-of-once` of `straps::address_of`: the law that two results that meet the promise are equal.
+/// `address_of_once` of `straps::address_of`: the law that two results that meet the promise are equal.
 fn once_of(call: &str) -> String {
     let function = call.rsplit("::").next().unwrap_or(call);
-    format!("{}-once", function.replace('_', "-"))
+    format!("{function}_once")
 }
 
 fn is_unique(tree: &Tree, call: &Call) -> bool {
@@ -181,7 +181,7 @@ fn note_faults(edit: &Noted) -> Vec<String> {
     told
 }
 
-/// True of `is_lit` and `is_lit returns`, if the crate has this function, and of `Light all-lit`, if a file of its proofs of this name has this fact.
+/// True of `is_lit` and `is_lit returns`, if the crate has this function, and of `Light all_lit`, if a file of its proofs of this name has this fact.
 fn is_place(tree: &Tree, krate: &str, place: &str) -> bool {
     let (name, fact) = place.split_once(' ').unwrap_or((place, ""));
     if let Some(text) = tree.text(&format!("crates/{krate}/proofs/{name}.antt")) {

@@ -2,7 +2,7 @@
 //!
 //! - `# call: lamp::is_lit, show::lit`: the public calls that it gives a wrong answer, each; none where it is a definition that is wrong.
 //! - `# wrong: a lamp that is never lit`: the wrong answer, in a few words.
-//! - `# refused: is_lit returns, Light all-lit`: the function or file of proofs, and the fact, at which the prover refuses it; any of these.
+//! - `# refused: is_lit returns, Light all_lit`: the function or file of proofs, and the fact, at which the prover refuses it; any of these.
 //! - `# device: 1 refuses every event`: of the five wrong devices, which.
 
 use crate::edits::{edits_in, path_in, GATE, TRIED};

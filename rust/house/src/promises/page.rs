@@ -48,7 +48,7 @@ fn devices(edits: &[Noted]) -> String {
     )
 }
 
-/// `Cases.grant-cases` of `Cases grant-cases`.
+/// `Cases.grant_cases` of `Cases grant_cases`.
 fn shown(place: &str) -> String {
     format!("`{}`", place.replace(' ', "."))
 }

@@ -19,15 +19,16 @@ fn put_code(tree: &mut Tree) {
         "crates.txt",
         "# What this file is.\n\n# Lamps: one alone.\nlamp:\n\n# Programs.\nshow: lamp\n",
     );
-    let source = "ghost use Rattle·lamp·specs.specs.Light.{lit, off};\n\
-                  ghost use Rattle·lamp.specs.declared.Lamp.{on};\n\n\
-                  pub fn is_lit(on: bool) -> bool\n    ensures { λ r. ⌜ r ≡ lit on ⌝ }\n{\n    on\n}\n\n\
-                  pub fn glows(\n    off: bool,\n) -> bool\n    ensures { λ r. ⌜ r ≡ now (off .lit) ⌝ }\n{\n    (off)\n}\n\n\
-                  fn rest(on: bool) -> bool\n    requires { ⌜ on ⌝ }\n{\n    on\n}\n";
+    let source = "ghost use Rattle.std.specs.Prelude.{◌≡◌};\n\
+                  ghost use Rattle.lamp.specs.Light.{lit, off};\n\
+                  ghost use Rattle.lamp.specs.declared.Lamp.{on};\n\n\
+                  pub fn is_lit(on: bool) -> bool\n    ensures { result ≡ lit on }\n{\n    on\n}\n\n\
+                  pub fn glows(\n    off: bool,\n) -> bool\n    ensures { result ≡ now off.lit }\n{\n    (off)\n}\n\n\
+                  fn rest(on: bool) -> bool\n    requires { on }\n{\n    on\n}\n";
     tree.put(SOURCE, source);
     tree.put(LIGHT, "abbrev pub lit : Bool → Bool\nlit on = on\n\npub off : Bool\n");
-    tree.put("crates/lamp/proofs/Light.antt", "pub all-lit : AllLit\n");
-    tree.put(UNIQUE, "pub is-lit-once : OneResult\n\npub glows-once : OneResult\n");
+    tree.put("crates/lamp/proofs/Light.antt", "pub all_lit : AllLit\n");
+    tree.put(UNIQUE, "pub is_lit_once : OneResult\n\npub glows_once : OneResult\n");
     tree.put("crates/show/src/main.rt", "mod words;\n\nfn main() {\n}\n");
     tree.put(SAY, "pub fn say() {\n}\n");
 }
@@ -38,9 +39,9 @@ fn put_edits(tree: &mut Tree) {
     tree.put(GATE, &format!("# call: lamp::glows, lamp::is_lit\n# wrong: dark\n{code}false\n"));
     tree.put(
         TRIED,
-        &format!("# call: lamp::is_lit\n# wrong: light\n# refused: is_lit returns, Light all-lit\n{code}(true)\nold: (true)\nnew: true\n"),
+        &format!("# call: lamp::is_lit\n# wrong: light\n# refused: is_lit returns, Light all_lit\n{code}(true)\nold: (true)\nnew: true\n"),
     );
-    tree.put(RULE, "# wrong: lit when off\n# refused: Light all-lit\nfile: specs/Light.antt\nold: lit on = on\nnew: lit on = off\n");
+    tree.put(RULE, "# wrong: lit when off\n# refused: Light all_lit\nfile: specs/Light.antt\nold: lit on = on\nnew: lit on = off\n");
     for (number, name) in ["one", "two", "three", "four", "five"].into_iter().enumerate() {
         tree.put(
             &format!("crates/lamp/must-fail/{name}.edit"),
