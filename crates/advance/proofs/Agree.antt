@@ -12,8 +12,8 @@ use Rattle.arbiter.specs.declared.Ground.{Ground}
 use Rattle.arbiter.specs.declared.Ground.TheVariants.{Sole, Priority, LastGranted}
 use Rattle.arbiter.specs.declared.Turn.{Turn}
 use Rattle.arbiter.specs.declared.Turn.TheVariants.{Nobody, Claims, Owns}
-use Rattle.arbiter.specs.declared.Last.{Last}
-use Rattle.arbiter.specs.declared.Last.TheVariants.{Never, Was}
+use Rattle.std.specs.Prelude.{Option, Some, None}
+use Rattle.arbiter.specs.declared.Master.{Master}
 use Rattle.arbiter.specs.declared.Switch.{Switch}
 use Rattle.arbiter.specs.declared.Switch.TheVariants.{Apart, Initialising, Closed}
 use Rattle.arbiter.specs.declared.Port.{Port}
@@ -102,11 +102,11 @@ turn_eq (Owns m g) Nobody e = absurd (false≢true e)
 turn_eq (Owns m g) (Claims k h) e = absurd (false≢true e)
 turn_eq (Owns m g) (Owns k h) e = let p = both (same_master m k) (same_ground g h) e in ap₂ Owns (same_eq m k p.0) (ground_eq g h p.1)
 
-last_eq : (l n : Last) → same_last l n ≡ true → n ≡ l
-last_eq Never Never e = refl
-last_eq Never (Was k) e = absurd (false≢true e)
-last_eq (Was m) Never e = absurd (false≢true e)
-last_eq (Was m) (Was k) e = ap Was (same_eq m k e)
+last_eq : (l n : Option Master) → same_last l n ≡ true → n ≡ l
+last_eq None None e = refl
+last_eq None (Some k) e = absurd (false≢true e)
+last_eq (Some m) None e = absurd (false≢true e)
+last_eq (Some m) (Some k) e = ap Some (same_eq m k e)
 
 switch_eq : (v w : Switch) → same_switch v w ≡ true → w ≡ v
 switch_eq Apart Apart e = refl

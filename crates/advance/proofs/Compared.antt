@@ -12,8 +12,8 @@ use Rattle.arbiter.specs.Steps.{ground_number}
 use Rattle.arbiter.specs.Traces.{kind_number}
 use Rattle.arbiter.specs.declared.Turn.{Turn}
 use Rattle.arbiter.specs.declared.Turn.TheVariants.{Nobody, Claims, Owns}
-use Rattle.arbiter.specs.declared.Last.{Last}
-use Rattle.arbiter.specs.declared.Last.TheVariants.{Never, Was}
+use Rattle.std.specs.Prelude.{Option, Some, None}
+use Rattle.arbiter.specs.declared.Master.{Master}
 use Rattle.arbiter.specs.declared.Switch.{Switch}
 use Rattle.arbiter.specs.declared.Switch.TheVariants.{Apart, Initialising, Closed}
 use Rattle.arbiter.specs.declared.Control.{Control}
@@ -45,9 +45,9 @@ turn_self Nobody = refl
 turn_self (Claims m g) = and (same_self m) (number_self (ground_number g))
 turn_self (Owns m g) = and (same_self m) (number_self (ground_number g))
 
-last_self : (l : Last) → same_last l l ≡ true
-last_self Never = refl
-last_self (Was m) = same_self m
+last_self : (l : Option Master) → same_last l l ≡ true
+last_self None = refl
+last_self (Some m) = same_self m
 
 switch_self : (w : Switch) → same_switch w w ≡ true
 switch_self Apart = refl

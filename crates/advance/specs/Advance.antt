@@ -1,6 +1,6 @@
 -- Request #113: "Add an advance by up to 65,535 ticks, equal in its end state to as many TICK events."
 -- Assumes nothing.
-use Rattle.std.specs.Prelude.{ℕ, zero, suc, ◌+◌, ◌-◌, ◌≤◌, List, eqb, ltb, if◌then◌else◌}
+use Rattle.std.specs.Prelude.{ℕ, zero, suc, ◌+◌, ◌-◌, ◌≤◌, List, eqb, ltb, Option, Some, None, if◌then◌else◌}
 use Rattle.arbiter.specs.Words.{worth}
 use Rattle.arbiter.specs.Steps.{step, run}
 use Rattle.arbiter.specs.declared.Kind.{Kind}
@@ -8,7 +8,7 @@ use Rattle.arbiter.specs.declared.Device.{Device}
 use Rattle.arbiter.specs.declared.Raw.{Raw}
 use Rattle.quiet.specs.Counts.{least, after_ticks}
 use Rattle.quiet.specs.Quiet.{quiet_ticks, tick, ticks}
-use Rattle.advance.specs.declared.Advanced.{Advanced}
+use Rattle.advance.specs.declared.Moved.{Moved}
 use Rattle.advance.specs.declared.Way.{Way}
 use Rattle.advance.specs.Changes.{changes}
 
@@ -20,12 +20,26 @@ changing (suc n) d = worth 1 (changes d (step d tick).device) + changing n (step
 abbrev pub most_ticks : ℕ
 most_ticks = 65535
 
+-- what an advance tells: its number, the device after it, and how many of its ticks changed anything but counts
+pub record Advanced : Type 0 where
+  pub number : ℕ
+  pub device : Device
+  pub reported : ℕ
+
 abbrev pub advanced_with : ℕ → Device → ℕ → Advanced
 advanced_with number device reported = record { number = number; device = device; reported = reported }
 
 -- "Past 65,535: refusal 3, device unchanged, 0 reported."
 unfoldable pub advanced : ℕ → Device → Advanced
 advanced n d = if ltb most_ticks n then advanced_with 3 d 0 else advanced_with 0 (ticks n d) (changing n d)
+
+-- the code's answer as it is told: what is moved has number 0, and an advance that is refused leaves the device
+abbrev pub moved_told : Moved → Advanced
+moved_told m = advanced_with 0 m.device m.reported
+
+abbrev pub told : Device → Option Moved → Advanced
+told d (Some m) = moved_told m
+told d None = advanced_with 3 d 0
 
 -- ---- what is never exceeded
 

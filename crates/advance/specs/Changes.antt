@@ -9,8 +9,8 @@ use Rattle.arbiter.specs.Steps.{ground_number}
 use Rattle.arbiter.specs.Traces.{kind_number}
 use Rattle.arbiter.specs.declared.Turn.{Turn}
 use Rattle.arbiter.specs.declared.Turn.TheVariants.{Nobody, Claims, Owns}
-use Rattle.arbiter.specs.declared.Last.{Last}
-use Rattle.arbiter.specs.declared.Last.TheVariants.{Never, Was}
+use Rattle.std.specs.Prelude.{Option, Some, None}
+use Rattle.arbiter.specs.declared.Master.{Master}
 use Rattle.arbiter.specs.declared.Switch.{Switch}
 use Rattle.arbiter.specs.declared.Switch.TheVariants.{Apart, Initialising, Closed}
 use Rattle.arbiter.specs.declared.Port.{Port}
@@ -51,11 +51,11 @@ same_turn (Owns m g) Nobody = false
 same_turn (Owns m g) (Claims k h) = false
 same_turn (Owns m g) (Owns k h) = same_master m k && same_ground g h
 
-abbrev pub same_last : Last → Last → Bool
-same_last Never Never = true
-same_last Never (Was k) = false
-same_last (Was m) Never = false
-same_last (Was m) (Was k) = same_master m k
+abbrev pub same_last : Option Master → Option Master → Bool
+same_last None None = true
+same_last None (Some k) = false
+same_last (Some m) None = false
+same_last (Some m) (Some k) = same_master m k
 
 abbrev pub same_switch : Switch → Switch → Bool
 same_switch Apart Apart = true

@@ -1,147 +1,20 @@
 // Two devices compared in everything but counts, and in what the counts show.
 ghost use Rattle.std.specs.Prelude.{◌≡◌};
-ghost use Rattle.arbiter.specs.Steps.{ground_number};
-ghost use Rattle.arbiter.specs.declared.Last.TheVariants.{Never, Was};
-ghost use Rattle.arbiter.specs.declared.Switch.TheVariants.{Initialising};
-ghost use Rattle.arbiter.specs.declared.Turn.TheVariants.{Nobody, Claims, Owns};
-ghost use Rattle.advance.specs.Changes.{agree, same_port, same_register, same_ground, same_turn, same_last, same_switch, same_control, same_mail, same_side, same_lines, same_arb, same_kind, same_but_counts, same_shown, changes};
+ghost use Rattle.advance.specs.Changes.{agree, same_port, same_register, same_turn, same_last, same_switch, same_control, same_mail, same_side, same_lines, same_arb, same_kind, same_but_counts, same_shown, changes};
 
 use arbiter::{
-    Arbitration, Bus, Control, Device, Ground, Kind, Last, Mailbox, Master, Port, Register, Side,
-    Switch, Turn,
+    Arbitration, Bus, Control, Device, Kind, Mailbox, Master, Port, Register, Side, Switch, Turn,
 };
 use bus::{bus_hung, scl_high, sda_high};
-use fields::{
-    closed_for, is_apart, last_of, pointer_of, port_of, register_number, same_master, switch_of,
-    turn_of,
-};
-use format::kind_number;
-use ports::{is_at_rest, is_for_writing};
 
-// ---- flags and choices
+// ---- field by field
 
+// The flags are compared one by one here and below, and so is a side: the derive's `==` over seven flags at once finds no proof.
 fn agrees(x: bool, y: bool) -> bool
     ensures { result ≡ agree x y }
 {
-    x & y | !x & !y
+    x == y
 }
-
-fn same_port(p: Port, q: Port) -> bool
-    ensures { result ≡ same_port p q }
-{
-    agrees(is_at_rest(p), is_at_rest(q)) & agrees(is_for_writing(p), is_for_writing(q))
-}
-
-fn same_register(r: Register, s: Register) -> bool
-    ensures { result ≡ same_register r s }
-{
-    register_number(r) == register_number(s)
-}
-
-fn ground_number(g: Ground) -> u8
-    ensures { result ≡ ground_number g }
-{
-    match g {
-        Ground::Sole => 1,
-        Ground::Priority => 2,
-        Ground::LastGranted => 3,
-    }
-}
-
-fn same_ground(g: Ground, h: Ground) -> bool
-    ensures { result ≡ same_ground g h }
-{
-    ground_number(g) == ground_number(h)
-}
-
-fn is_nobody(u: Turn) -> bool
-    ensures { result ≡ same_turn Nobody u }
-{
-    match u {
-        Turn::Nobody => true,
-        Turn::Claims(_, _) => false,
-        Turn::Owns(_, _) => false,
-    }
-}
-
-fn is_claim(m: Master, g: Ground, u: Turn) -> bool
-    ensures { result ≡ same_turn (Claims m g) u }
-{
-    match u {
-        Turn::Nobody => false,
-        Turn::Claims(k, h) => same_master(m, k) & same_ground(g, h),
-        Turn::Owns(_, _) => false,
-    }
-}
-
-fn is_grant(m: Master, g: Ground, u: Turn) -> bool
-    ensures { result ≡ same_turn (Owns m g) u }
-{
-    match u {
-        Turn::Nobody => false,
-        Turn::Claims(_, _) => false,
-        Turn::Owns(k, h) => same_master(m, k) & same_ground(g, h),
-    }
-}
-
-fn same_turn(t: Turn, u: Turn) -> bool
-    ensures { result ≡ same_turn t u }
-{
-    match t {
-        Turn::Nobody => is_nobody(u),
-        Turn::Claims(m, g) => is_claim(m, g, u),
-        Turn::Owns(m, g) => is_grant(m, g, u),
-    }
-}
-
-fn is_never(l: Last) -> bool
-    ensures { result ≡ same_last Never l }
-{
-    match l {
-        Last::Never => true,
-        Last::Was(_) => false,
-    }
-}
-
-fn was_last(m: Master, l: Last) -> bool
-    ensures { result ≡ same_last (Was m) l }
-{
-    match l {
-        Last::Never => false,
-        Last::Was(k) => same_master(m, k),
-    }
-}
-
-fn same_last(l: Last, n: Last) -> bool
-    ensures { result ≡ same_last l n }
-{
-    match l {
-        Last::Never => is_never(n),
-        Last::Was(m) => was_last(m, n),
-    }
-}
-
-fn is_initialising(m: Master, n: u8, w: Switch) -> bool
-    ensures { result ≡ same_switch (Initialising m n) w }
-{
-    match w {
-        Switch::Apart => false,
-        Switch::Initialising(k, p) => same_master(m, k) & (n == p),
-        Switch::Closed(_) => false,
-    }
-}
-
-fn same_switch(v: Switch, w: Switch) -> bool
-    ensures { result ≡ same_switch v w }
-{
-    match v {
-        Switch::Apart => is_apart(w),
-        Switch::Initialising(m, n) => is_initialising(m, n, w),
-        Switch::Closed(m) => closed_for(m, w),
-    }
-}
-
-// ---- field by field
 
 fn same_control(c: Control, e: Control) -> bool
     ensures { result ≡ same_control c e }
@@ -158,20 +31,56 @@ fn same_control(c: Control, e: Control) -> bool
 fn same_mail(m: Mailbox, n: Mailbox) -> bool
     ensures { result ≡ same_mail m n }
 {
-    (m.low == n.low) & (m.high == n.high) & agrees(m.full, n.full)
+    m == n
+}
+
+fn same_port(p: Port, q: Port) -> bool
+    ensures { result ≡ same_port p q }
+{
+    p == q
+}
+
+fn same_register(r: Register, s: Register) -> bool
+    ensures { result ≡ same_register r s }
+{
+    (r as u8) == (s as u8)
 }
 
 fn same_side(s: Side, t: Side) -> bool
     ensures { result ≡ same_side s t }
 {
-    same_register(pointer_of(s), pointer_of(t))
+    same_register(s.pointer, t.pointer)
         & (s.rt == t.rt)
         & same_control(s.contr, t.contr)
         & (s.ints == t.ints)
         & same_mail(s.mail, t.mail)
         & agrees(s.auto, t.auto)
-        & same_port(port_of(s), port_of(t))
+        & same_port(s.port, t.port)
         & (s.mask == t.mask)
+}
+
+fn same_turn(t: Turn, u: Turn) -> bool
+    ensures { result ≡ same_turn t u }
+{
+    t == u
+}
+
+fn same_last(l: Option<Master>, n: Option<Master>) -> bool
+    ensures { result ≡ same_last l n }
+{
+    l == n
+}
+
+fn same_switch(v: Switch, w: Switch) -> bool
+    ensures { result ≡ same_switch v w }
+{
+    v == w
+}
+
+fn same_kind(k: Kind, l: Kind) -> bool
+    ensures { result ≡ same_kind k l }
+{
+    k == l
 }
 
 // All of the bus but its counts.
@@ -190,24 +99,17 @@ fn same_lines(b: Bus, c: Bus) -> bool
 fn same_arb(a: Arbitration, c: Arbitration) -> bool
     ensures { result ≡ same_arb a c }
 {
-    same_last(last_of(a), last_of(c))
+    same_last(a.last, c.last)
         & agrees(a.initfail, c.initfail)
-        & same_switch(switch_of(a), switch_of(c))
-        & same_turn(turn_of(a), turn_of(c))
+        & same_switch(a.switch, c.switch)
+        & same_turn(a.turn, c.turn)
 }
 
-fn same_kind(d: Device, e: Device) -> bool
-    ensures { result ≡ same_kind d.kind e.kind }
-{
-    let k = d.kind;
-    let l = e.kind;
-    kind_number(k) == kind_number(l)
-}
-
+#[tactic(auto, unfolding(crate::specs::Changes::same_but_counts))]
 fn same_but_counts(d: Device, e: Device) -> bool
     ensures { result ≡ same_but_counts d e }
 {
-    same_kind(d, e)
+    same_kind(d.kind, e.kind)
         & same_side(d.side0, e.side0)
         & same_side(d.side1, e.side1)
         & same_lines(d.bus, e.bus)
@@ -215,6 +117,7 @@ fn same_but_counts(d: Device, e: Device) -> bool
 }
 
 // The levels and BUS_HUNG, which the lines and the counts show.
+#[tactic(auto, unfolding(crate::specs::Changes::same_shown))]
 pub fn same_shown(b: Bus, c: Bus) -> bool
     ensures { result ≡ same_shown b c }
 {

@@ -5,10 +5,9 @@ ghost use Rattle.std.specs.Prelude.{◌+◌, ◌≤◌, ◌<◌, ◌≡◌};
 ghost use Rattle.quiet.specs.Quiet.{tick, ticks};
 ghost use Rattle.arbiter.specs.Steps.{step};
 ghost use Rattle.advance.specs.Changes.{changes};
-ghost use Rattle.advance.specs.Advance.{changing, most_ticks, advanced_with, advanced, way_with, tick_on, jump_on, onward};
+ghost use Rattle.advance.specs.Advance.{changing, most_ticks, advanced_with, advanced, moved_told, told, way_with, tick_on, jump_on, onward};
 
 use arbiter::{Device, Raw};
-use bits::{least_u16, one_if_u32};
 use changes::is_changed;
 use quiet::{after_ticks, quiet_ticks};
 use step::step_device;
@@ -18,10 +17,9 @@ pub mod changes;
 // An advance goes so many ticks at most: most_ticks in specs/Advance.
 pub const MOST_TICKS: u32 = 65535;
 
-// What an advance reports: its number, the device after it, and how many of its ticks changed anything but counts.
+// What an advance leaves: the device after it, and how many of its ticks changed anything but counts.
 #[derive(Clone, Copy)]
-pub struct Advanced {
-    pub number: u8,
+pub struct Moved {
     pub device: Device,
     pub reported: u32,
 }
@@ -32,16 +30,6 @@ pub struct Way {
     pub device: Device,
     pub left: u16,
     pub reported: u32,
-}
-
-fn advanced_with(number: u8, device: Device, reported: u32) -> Advanced
-    ensures { result ≡ advanced_with number device reported }
-{
-    Advanced {
-        number,
-        device,
-        reported,
-    }
 }
 
 fn way_with(device: Device, left: u16, reported: u32) -> Way
@@ -59,7 +47,7 @@ fn way_with(device: Device, left: u16, reported: u32) -> Way
 fn ticked_once(d: Device) -> Device
     ensures { result ≡ (step d tick).device }
 {
-    let s = step_device(
+    step_device(
         d,
         Raw {
             kind: 6,
@@ -67,9 +55,8 @@ fn ticked_once(d: Device) -> Device
             y: 0,
             z: 0,
         },
-    );
-    let device = s.device;
-    device
+    )
+    .device
 }
 
 // One tick, taken and compared.
@@ -78,7 +65,7 @@ fn tick_on(w: Way) -> Way
     ensures { result ≡ tick_on w }
 {
     let next = ticked_once(w.device);
-    let one = one_if_u32(is_changed(w.device, next));
+    let one = u32::from(is_changed(w.device, next));
     way_with(next, w.left - 1, w.reported + one)
 }
 
@@ -90,34 +77,39 @@ fn jump_on(j: u16, w: Way) -> Way
     way_with(after_ticks(j, w.device), w.left - j, w.reported)
 }
 
+#[tactic(auto, unfolding(crate::specs::Advance::onward))]
 fn go_on(w: Way) -> Way
     requires { (0 < w.left) × (w.reported + w.left ≤ most_ticks) }
     ensures { result ≡ onward w }
 {
-    let j = least_u16(quiet_ticks(w.device), w.left);
+    let j = quiet_ticks(w.device).min(w.left);
     if j == 0 { tick_on(w) } else { jump_on(j, w) }
 }
 
-fn leap(from: Device, n: u16) -> Advanced
-    ensures { result ≡ advanced_with 0 (ticks n from) (changing n from) }
+fn leap(from: Device, n: u16) -> Moved
+    ensures { moved_told result ≡ advanced_with 0 (ticks n from) (changing n from) }
 {
     let mut w = way_with(from, n, 0);
+    // A turn takes one tick or many quiet ones, so no iterator gives the turns.
     while 0 < w.left {
         w = go_on(w);
     }
-    advanced_with(0, w.device, w.reported)
+    Moved {
+        device: w.device,
+        reported: w.reported,
+    }
 }
 
 // ---- the call
 
 // The device after n ticks, and how many of them changed anything but counts: the same as by n TICK events, and as fast for many as for few.
-// More than 65,535 are refused with 3; the device stays.
-pub fn advance(d: Device, n: u32) -> Advanced
-    ensures { result ≡ advanced n d }
+// More than 65,535 are refused, which is number 3; the device stays.
+pub fn advance(d: Device, n: u32) -> Option<Moved>
+    ensures { told d result ≡ advanced n d }
 {
     if MOST_TICKS < n {
-        advanced_with(3, d, 0)
+        None
     } else {
-        leap(d, n as u16)
+        Some(leap(d, n as u16))
     }
 }

@@ -4,7 +4,7 @@ use mathlib.Core.Path.{◌≡◌, refl, sym, ap, subst, ◌∙◌}
 use mathlib.Core.Bool.{Bool, true, false, ◌&&◌}
 use Rattle.std.specs.Prelude.{◌∷◌}
 use Rattle.arbiter.specs.Types.{ℕ, List, [], eqb, ltb, Master, Zero, One, Ground, Sole, Turn, Nobody, Claims, Owns, Switch, Apart, Initialising}
-use Rattle.arbiter.specs.Types.{Closed, Clock, NoClock, ClockLow, ClockHigh, Device, Raw, Event, Decoded, Reads, UnknownKind, BadField, OutOfSequence}
+use Rattle.arbiter.specs.Types.{Closed, Clock, NoClock, ClockLow, ClockHigh, Device, Raw, Event, OutOfSequence, Result, Unread, Ok, Err, UnknownKind, BadField}
 use Rattle.arbiter.specs.Types.{Stepped}
 use Rattle.arbiter.specs.Words.{same_master, side}
 use Rattle.arbiter.specs.Parts.{with_bus_connect, with_bus_init, with_contr, with_switch, with_init_fail, with_side, with_arb}
@@ -104,26 +104,26 @@ module _ (P : Device → Type 0) (d : Device) (plain : (w : Switch) (fail : Bool
 abbrev pub Unsaid : Raw → Device → Type 0
 Unsaid r d = ((such : Event → Device → Bool) → accepted such r d ≡ false) × (levelled r d ≡ d)
 
-unsaid : (x : Decoded) (r : Raw) (d : Device) → decode r ≡ x → ((such : Event → Device → Bool) → accepted_as such x d ≡ false) → levelled_by x d ≡ d
+unsaid : (x : Result Event Unread) (r : Raw) (d : Device) → decode r ≡ x → ((such : Event → Device → Bool) → accepted_as such x d ≡ false) → levelled_by x d ≡ d
     → Unsaid r d
-unsaid x r d h a l = ((λ such. ap (λ (y : Decoded). accepted_as such y d) h ∙ a such), ap (λ (y : Decoded). levelled_by y d) h ∙ l)
+unsaid x r d h a l = ((λ such. ap (λ (y : Result Event Unread). accepted_as such y d) h ∙ a such), ap (λ (y : Result Event Unread). levelled_by y d) h ∙ l)
 
 -- what holds of every event taken in sequence and of every refusal holds of the step
 module _ (Q : Stepped → Type 0) (d : Device) (r : Raw)
-    (takes : (e : Event) → decode r ≡ Reads e → in_sequence e d ≡ true → Q (taken e d)) (refuses : (n : ℕ) → Unsaid r d → Q (refused n d)) where
+    (takes : (e : Event) → decode r ≡ Ok e → in_sequence e d ≡ true → Q (taken e d)) (refuses : (n : ℕ) → Unsaid r d → Q (refused n d)) where
   -- an event, in sequence or not
-  event_cases : (e : Event) → decode r ≡ Reads e → Q (step_event e d)
+  event_cases : (e : Event) → decode r ≡ Ok e → Q (step_event e d)
   unfolding step_event
   event_cases e h =
       either Q (in_sequence e d) (λ s. takes e h s)
-      (λ s. refuses (outcome_number OutOfSequence) (unsaid (Reads e) r d h (λ such. ap (λ (b : Bool). b && such e d) s) (if_false _ d s)))
+      (λ s. refuses (outcome_number OutOfSequence) (unsaid (Ok e) r d h (λ such. ap (λ (b : Bool). b && such e d) s) (if_false _ d s)))
 
   -- four bytes that read as one, or do not
-  decoded_cases : (x : Decoded) → decode r ≡ x → Q (step_decoded x d)
+  decoded_cases : (x : Result Event Unread) → decode r ≡ x → Q (step_decoded x d)
   unfolding step_decoded
-  decoded_cases (Reads e) h = event_cases e h
-  decoded_cases UnknownKind h = refuses (decoded_number UnknownKind) (unsaid UnknownKind r d h (λ such. refl) refl)
-  decoded_cases BadField h = refuses (decoded_number BadField) (unsaid BadField r d h (λ such. refl) refl)
+  decoded_cases (Ok e) h = event_cases e h
+  decoded_cases (Err UnknownKind) h = refuses (decoded_number (Err UnknownKind)) (unsaid (Err UnknownKind) r d h (λ such. refl) refl)
+  decoded_cases (Err BadField) h = refuses (decoded_number (Err BadField)) (unsaid (Err BadField) r d h (λ such. refl) refl)
 
   pub step_cases : Q (step d r)
   unfolding step

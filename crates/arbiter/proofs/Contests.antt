@@ -3,7 +3,7 @@
 use mathlib.Core.Path.{◌≡◌, refl, sym, ap, ◌∙◌, subst}
 use mathlib.Core.Bool.{true≢false, false≢true, and-eq-true_iff}
 use Rattle.arbiter.specs.Types.{ℕ, true, false, not, eqb, Master, Zero, One, Turn}
-use Rattle.arbiter.specs.Types.{Nobody, Claims, Owns, Device, Event, Command, Write, Read, Stop, Pair, Lines, Tick, Pulse, Reset, GeneralCall, Reads}
+use Rattle.arbiter.specs.Types.{Nobody, Claims, Owns, Device, Event, Command, Write, Read, Stop, Pair, Lines, Tick, Pulse, Reset, GeneralCall, Ok}
 use Rattle.arbiter.specs.Types.{Stepped}
 use Rattle.arbiter.specs.Words.{partner}
 use Rattle.arbiter.specs.Events.{decode, soft_reset}
@@ -113,8 +113,8 @@ contest_is_pair k m rs r h other =
     split (requests (partner m) n) (λ q. q)
     (λ q. absurd (true≢false (sym (ap (λ (x : ℕ). eqb x 1) (ground_shown_lem d r ∙ made.ground ∙ if_false _ 1 q)) ∙ other)))
     in
-    step_cases (λ (s : Stepped). s.device ≡ n → (v0 : ℕ) × (v1 : ℕ) × (decode r ≡ Reads (Pair v0 v1))) d r
+    step_cases (λ (s : Stepped). s.device ≡ n → (v0 : ℕ) × (v1 : ℕ) × (decode r ≡ Ok (Pair v0 v1))) d r
     (λ e dec seq same. let found = contest m e d (all_ready k rs) b (subst (λ (x : Device). has_claim m x ≡ true) (sym same) both.1)
     (subst (λ (x : Device). requests m x ≡ true) (sym same) made.request) (subst (λ (x : Device). requests (partner m) x ≡ true) (sym same) theirs) in
-    (found.0, found.1, dec ∙ ap Reads found.2))
+    (found.0, found.1, dec ∙ ap Ok found.2))
     (λ c u same. absurd (true≢false (sym both.1 ∙ ap (has_claim m) (sym same) ∙ b))) refl

@@ -2,7 +2,7 @@
 -- Assumes nothing.
 use mathlib.Core.Path.{◌≡◌, refl, ◌∙◌}
 use Rattle.arbiter.specs.Types.{Bool, false, eqb, Turn, Nobody, Claims, Owns, Kind, Pca9641, Tpt29641, Clock, Device, Raw, Event, Command}
-use Rattle.arbiter.specs.Types.{Write, Read, Stop, Pair, Lines, Tick, Pulse, Reset, GeneralCall, Decoded, Reads, UnknownKind, BadField}
+use Rattle.arbiter.specs.Types.{Write, Read, Stop, Pair, Lines, Tick, Pulse, Reset, GeneralCall, Result, Event, Unread, Ok, Err, UnknownKind, BadField}
 use Rattle.arbiter.specs.Rules.{rules_of, limit_of, idle_limit}
 use Rattle.arbiter.specs.Words.{side}
 use Rattle.arbiter.specs.Events.{decode, in_sequence, soft_reset}
@@ -89,7 +89,7 @@ pub levelled_kind : (r : Raw) (d : Device) → Alike d (levelled r d)
 unfolding levels
 levelled_kind r d = go (decode r)
   where
-    go : (x : Decoded) → Alike d (levelled_by x d)
-    go (Reads e) = either (Alike d) (in_sequence e d) (λ h. effect_kind e d) (λ h. refl)
-    go UnknownKind = refl
-    go BadField = refl
+    go : (x : Result Event Unread) → Alike d (levelled_by x d)
+    go (Ok e) = either (Alike d) (in_sequence e d) (λ h. effect_kind e d) (λ h. refl)
+    go (Err UnknownKind) = refl
+    go (Err BadField) = refl

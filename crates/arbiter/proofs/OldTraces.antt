@@ -8,12 +8,13 @@ use lib.Seq.{drop-append-le, get_or-append-add, get_or-append_seam}
 use borrow.Author.Tests.{eqb-true, not-false, ltb-false, lt-ltb}
 use Prim.Native.Nat.{◌≤◌, ◌<◌}
 use Rattle.std.specs.Prelude.{◌+◌, ◌*◌, ◌∷◌, ◌++◌}
-use Rattle.arbiter.specs.Types.{ℕ, not, List, [], eqb, ltb, length, drop, Pca9641, Raw, Strapped, Address, Unlisted, TraceCut}
-use Rattle.arbiter.specs.Types.{Accepted, Refused}
+use Rattle.arbiter.specs.Types.{ℕ, not, List, [], eqb, ltb, length, drop, Pca9641, Raw, TraceCut, Option, Some, None}
+use Rattle.arbiter.specs.Types.{Err}
 use Rattle.arbiter.specs.Straps.{address_of}
 use Rattle.arbiter.specs.Effects.{power_up}
 use Rattle.arbiter.specs.Steps.{answers_from}
-use Rattle.arbiter.specs.Traces.{pin_count, pin_bytes, head_bytes, event_bytes, most_events, events_end, whole_bytes, kind_count, kind_number, kind_section}
+use Rattle.arbiter.specs.Traces.{pin_count, pin_bytes, head_bytes, event_bytes, most_events}
+use Rattle.arbiter.specs.Traces.{events_end, whole_bytes, kind_count, kind_number, kind_section, accepted_with}
 use Rattle.arbiter.specs.Traces.{kind_at}
 use Rattle.arbiter.specs.Traces.{byte_at, pins_in, count_in, raws_in, events_in, read_kind, read_trace}
 use Rattle.arbiter.specs.OldTraces.{old_counted, old_strapped, old_number, converted, ConvertedAccepted, OldRefused}
@@ -23,8 +24,8 @@ use Rattle.arbiter.proofs.Traces.{reads_on, accepts, raws_before}
 -- ---- an old trace that document 01's rules accept has passed every test
 
 -- its pins have an address,
-abbrev Listed : Strapped → Type 0
-Listed s = (a : ℕ) × (s ≡ Address a)
+abbrev Listed : Option ℕ → Type 0
+Listed s = (a : ℕ) × (s ≡ Some a)
 
 -- and it ends with its events
 abbrev pub Whole : List ℕ → Type 0
@@ -40,9 +41,9 @@ counted_whole t h =
     let short : length t ≤ events_end (count_in t) = ltb-false _ _ p4.0 in
     (ltb-false _ _ p2.0, omega arith)
 
-strapped_passed : (s : Strapped) (t : List ℕ) → old_strapped s t ≡ 0 → (old_counted t ≡ 0) × Listed s
-strapped_passed (Address a) t h = (h, (a, refl))
-strapped_passed Unlisted t h = absurd (omega arith)
+strapped_passed : (s : Option ℕ) (t : List ℕ) → old_strapped s t ≡ 0 → (old_counted t ≡ 0) × Listed s
+strapped_passed (Some a) t h = (h, (a, refl))
+strapped_passed None t h = absurd (omega arith)
 
 old_passed : (t : List ℕ) → old_number t ≡ 0 → (byte_at 0 t ≡ pin_count) × (old_strapped (address_of (pins_in t)) t ≡ 0)
 unfolding old_number
@@ -61,14 +62,14 @@ old_whole t h =
     let counted = counted_whole t (strapped_passed (address_of (pins_in t)) t tests.1).0 in
     (tests.0, counted.0, counted.1)
 
-module _ (t : List ℕ) (a : ℕ) (old : old_number t ≡ 0) (listed : address_of (pins_in t) ≡ Address a) where
+module _ (t : List ℕ) (a : ℕ) (old : old_number t ≡ 0) (listed : address_of (pins_in t) ≡ Some a) where
   abbrev n : ℕ
   n = count_in t
 
   fits : Whole t
   fits = old_whole t old
 
-  refused : (room : ℕ) → read_trace t room ≡ Refused TraceCut
+  refused : (room : ℕ) → read_trace t room ≡ Err TraceCut
   unfolding read_kind
   refused room =
       reads_on t room a n fits.0 listed refl fits.1 (omega (arith, fits.2))
@@ -97,7 +98,7 @@ module _ (t : List ℕ) (a : ℕ) (old : old_number t ≡ 0) (listed : address_o
   kind : kind_at n new ≡ kind_number Pca9641
   kind = ap (λ (i : ℕ). byte_at (i + 1) new) (sym fits.2) ∙ get_or-append-add t (kind_section Pca9641) 1 0
 
-  taken : (room : ℕ) → event_bytes * n ≤ room → read_trace new room ≡ Accepted a n Pca9641
+  taken : (room : ℕ) → event_bytes * n ≤ room → read_trace new room ≡ accepted_with a n Pca9641
   taken room answers =
       accepts new room a n (kept 0 (lit< tt) ∙ fits.0) (ap address_of same_pins_lem ∙ listed) same_count fits.1 Pca9641 longer section kind answers
 

@@ -4,7 +4,7 @@ use mathlib.Core.Path.{◌≡◌, refl, sym, ap, ◌∙◌, subst}
 use mathlib.Core.Bool.{false≢true}
 use Rattle.std.specs.Prelude.{◌&&◌, if◌then◌else◌}
 use Rattle.arbiter.specs.Types.{Bool, true, false, Device, Raw, Event, Command, Write, Read, Stop, Pair, Lines, Tick, Pulse, Reset, GeneralCall}
-use Rattle.arbiter.specs.Types.{Decoded, Reads, Stepped}
+use Rattle.arbiter.specs.Types.{Stepped, Result, Event, Unread, Ok}
 use Rattle.arbiter.specs.Events.{decode, in_sequence}
 use Rattle.arbiter.specs.Order.{is_reset, is_tick}
 use Rattle.arbiter.specs.Steps.{parts, refused, taken, step_event, step_decoded, step}
@@ -30,13 +30,13 @@ pub data Met (r : Raw) (d : Device) : Type 0 where
   takes : (e : Event) → Takes e r d → Met r d
 
 -- An event that reads as e and is in sequence is taken as e.
-pub taken_as : (e : Event) (r : Raw) (d : Device) → decode r ≡ Reads e → in_sequence e d ≡ true → Takes e r d
+pub taken_as : (e : Event) (r : Raw) (d : Device) → decode r ≡ Ok e → in_sequence e d ≡ true → Takes e r d
 unfolding step step_decoded step_event taken
 taken_as e r d h s =
     record {
-      after = ap (λ (x : Decoded). (step_decoded x d).device) h ∙ ap (λ (b : Bool). (if b then taken e d else refused 4 d).device) s;
-      middle = ap (λ (x : Decoded). levelled_by x d) h ∙ if_true (mid e d) d s;
-      same = λ such. ap (λ (x : Decoded). accepted_as such x d) h ∙ ap (λ (b : Bool). b && such e d) s;
+      after = ap (λ (x : Result Event Unread). (step_decoded x d).device) h ∙ ap (λ (b : Bool). (if b then taken e d else refused 4 d).device) s;
+      middle = ap (λ (x : Result Event Unread). levelled_by x d) h ∙ if_true (mid e d) d s;
+      same = λ such. ap (λ (x : Result Event Unread). accepted_as such x d) h ∙ ap (λ (b : Bool). b && such e d) s;
     }
 
 -- One or the other holds of every four bytes.

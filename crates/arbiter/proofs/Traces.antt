@@ -5,9 +5,10 @@ use native.Mathlib.Omega.{arith}
 use borrow.Author.Tests.{le-ltb, eq-eqb}
 use Prim.Native.Nat.{◌≤◌}
 use Rattle.std.specs.Prelude.{◌+◌, ◌*◌, ◌∷◌, ◌++◌}
-use Rattle.arbiter.specs.Types.{ℕ, zero, suc, List, [], true, length, Kind, Pca9641, Tpt29641, Raw, Address, Accepted}
+use Rattle.arbiter.specs.Types.{ℕ, zero, suc, List, [], true, length, Kind, Pca9641, Tpt29641, Raw, Some}
 use Rattle.arbiter.specs.Straps.{address_of}
-use Rattle.arbiter.specs.Traces.{pin_count, pin_bytes, head_bytes, event_bytes, most_events, events_end, whole_bytes, kind_count, kind_number, is_kind, kind_of}
+use Rattle.arbiter.specs.Traces.{pin_count, pin_bytes, head_bytes, event_bytes, most_events, events_end}
+use Rattle.arbiter.specs.Traces.{whole_bytes, kind_count, kind_number, is_kind, kind_of, accepted_with}
 use Rattle.arbiter.specs.Traces.{kind_at, byte_at, pins_in, count_in, raws_in, read_kind, read_counted, read_strapped, read_trace}
 
 -- ---- a trace is accepted if all its sections are there
@@ -22,7 +23,7 @@ kind_back Pca9641 = refl
 kind_back Tpt29641 = refl
 
 read_as : (address n : ℕ) (t : List ℕ) (room : ℕ) (k : Kind) → length t ≡ whole_bytes n → byte_at (events_end n) t ≡ kind_count → kind_at n t ≡ kind_number k
-    → event_bytes * n ≤ room → read_kind address n t room ≡ Accepted address n k
+    → event_bytes * n ≤ room → read_kind address n t room ≡ accepted_with address n k
 unfolding read_kind
 read_as address n t room k whole count kind fits =
     simp (
@@ -36,7 +37,7 @@ read_as address n t room k whole count kind fits =
       kind_back k,
     )
 
-module _ (t : List ℕ) (room address n : ℕ) (first : byte_at 0 t ≡ pin_count) (listed : address_of (pins_in t) ≡ Address address) (count : count_in t ≡ n)
+module _ (t : List ℕ) (room address n : ℕ) (first : byte_at 0 t ≡ pin_count) (listed : address_of (pins_in t) ≡ Some address) (count : count_in t ≡ n)
     (few : n ≤ most_events) where
   -- up to its events
   pub reads_on : events_end n ≤ length t → read_trace t room ≡ read_kind address n t room
@@ -55,7 +56,7 @@ module _ (t : List ℕ) (room address n : ℕ) (first : byte_at 0 t ≡ pin_coun
 
   pub accepts : (k : Kind) → length t ≡ whole_bytes n → byte_at (events_end n) t ≡ kind_count → kind_at n t ≡ kind_number k → event_bytes * n ≤ room
       → read_trace t room
-      ≡ Accepted address n k
+      ≡ accepted_with address n k
   accepts k whole counted kind fits = reads_on (omega arith) ∙ read_as address n t room k whole counted kind fits
 
 -- ---- events are what they were, whatever follows them

@@ -3,7 +3,7 @@
 use mathlib.Core.Path.{◌≡◌, refl, sym, ap, ◌∙◌, subst}
 use mathlib.Core.Bool.{true≢false, and-eq-true_iff}
 use Rattle.std.specs.Prelude.{◌∷◌}
-use Rattle.arbiter.specs.Types.{Bool, true, false, not, List, [], Master, Zero, One, Ground, Sole, Claims, Owns, Device, Raw, Stop, Reads}
+use Rattle.arbiter.specs.Types.{Bool, true, false, not, List, [], Master, Zero, One, Ground, Sole, Claims, Owns, Device, Raw, Stop, Ok}
 use Rattle.arbiter.specs.Words.{partner}
 use Rattle.arbiter.specs.State.{owns, claims_turn, claims}
 use Rattle.arbiter.specs.Events.{decode, in_sequence}
@@ -54,7 +54,7 @@ stop_rests Zero d = refl
 stop_rests One d = refl
 
 -- and makes it the owner.
-stop_owns : (p : Master) (r : Raw) (d : Device) → Waiting p d → decode r ≡ Reads (Stop p) → owns p (next d r) ≡ true
+stop_owns : (p : Master) (r : Raw) (d : Device) → Waiting p d → decode r ≡ Ok (Stop p) → owns p (next d r) ≡ true
 unfolding in_sequence
 stop_owns p r d w h =
     ap (owns p) (taken_as (Stop p) r d h (ap not w.port)).after
@@ -65,7 +65,7 @@ stop_owns p r d w h =
 -- So over any events, from any device in which it waits.
 until_stop : (p : Master) (rs : List Raw) (d : Device) → Waiting p d → never reset d rs ≡ true → never (withdrawal_of p) d rs ≡ true
     → never (stop_of p) d rs ≡ true
-    → (claims p (run_from d rs) ≡ true) × ((r : Raw) → decode r ≡ Reads (Stop p) → owns p (next (run_from d rs) r) ≡ true)
+    → (claims p (run_from d rs) ≡ true) × ((r : Raw) → decode r ≡ Ok (Stop p) → owns p (next (run_from d rs) r) ≡ true)
 unfolding run_from
 until_stop p [] d w nr nw ns = (ap (claims_turn p) w.turn ∙ same_self p, λ r. stop_owns p r d w)
 until_stop p (r ∷ rs) d w nr nw ns =

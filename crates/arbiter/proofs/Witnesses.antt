@@ -6,7 +6,7 @@ use mathlib.Core.Bool.{Bool, true, false, not, ◌&&◌, false≢true, and-eq-tr
 use borrow.Author.Tests.{ltb-true, leb-true, eqb-true, not-true}
 use Rattle.std.specs.Prelude.{◌+◌, ◌∷◌, ◌++◌}
 use Rattle.arbiter.specs.Types.{ℕ, List, [], eqb, Master, Zero, One, Apart, Kind, Pca9641, Tpt29641, Device, Raw, Event, Command}
-use Rattle.arbiter.specs.Types.{Write, Read, Stop, Pair, Lines, Tick, Pulse, Reset, GeneralCall, Decoded, Reads, UnknownKind, BadField}
+use Rattle.arbiter.specs.Types.{Write, Read, Stop, Pair, Lines, Tick, Pulse, Reset, GeneralCall, Result, Event, Unread, Ok, Err, UnknownKind, BadField}
 use Rattle.arbiter.specs.Rules.{rules_of, limit_of}
 use Rattle.arbiter.specs.Words.{byte_of, partner, same_master}
 use Rattle.arbiter.specs.Registers.{contr_byte, status_byte, register_byte, is_asserted, own_written, mail_written, drives_written, turn_written}
@@ -113,10 +113,10 @@ event_stop p (Pulse sda) h = absurd (false≢true h)
 event_stop p Reset h = absurd (false≢true h)
 event_stop p (GeneralCall k b) h = absurd (false≢true h)
 
-decoded_stop : (p : Master) (x : Decoded) (d : Device) → accepted_as (λ (e : Event) (y : Device). is_stop_of p e) x d ≡ true → x ≡ Reads (Stop p)
-decoded_stop p (Reads e) d h = ap Reads (event_stop p e ((and-eq-true_iff (in_sequence e d) (is_stop_of p e)).0 h).1)
-decoded_stop p UnknownKind d h = absurd (false≢true h)
-decoded_stop p BadField d h = absurd (false≢true h)
+decoded_stop : (p : Master) (x : Result Event Unread) (d : Device) → accepted_as (λ (e : Event) (y : Device). is_stop_of p e) x d ≡ true → x ≡ Ok (Stop p)
+decoded_stop p (Ok e) d h = ap Ok (event_stop p e ((and-eq-true_iff (in_sequence e d) (is_stop_of p e)).0 h).1)
+decoded_stop p (Err UnknownKind) d h = absurd (false≢true h)
+decoded_stop p (Err BadField) d h = absurd (false≢true h)
 
 pub next_at_stop_met : PartnerNext → (k : Kind) (m : Master) (rs : List Raw) (r : Raw) (later : List Raw) (t : Raw) → Holds (next_at_stop k m rs r later t)
     → let w : Device = run_from (next (run k rs) r) later in (claims (partner m) w ≡ true) × (owns (partner m) (next w t) ≡ true)

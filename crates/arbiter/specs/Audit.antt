@@ -3,7 +3,7 @@
 -- letters; Answers has them all.
 -- Assumes nothing.
 use Rattle.std.specs.Prelude.{◌<◌, ◌≤◌, ◌≡◌, ◌+◌, ◌/◌, ◌%◌, ◌&&◌, ◌||◌, ◌∷◌, ◌++◌}
-use Rattle.arbiter.specs.Types.{ℕ, true, false, not, List, [], eqb, ltb, Master, Contr, Status, Apart, NoClock, Kind, Device, Raw, Stop, Reads}
+use Rattle.arbiter.specs.Types.{ℕ, true, false, not, List, [], eqb, ltb, Master, Contr, Status, Apart, NoClock, Kind, Device, Raw, Stop, Ok}
 use Rattle.arbiter.specs.Rules.{limit_of}
 use Rattle.arbiter.specs.Words.{bit, partner, side}
 use Rattle.arbiter.specs.State.{owns, claims, connected, is_initialising, is_idle}
@@ -111,7 +111,7 @@ abbrev pub IsNext : Master → Device → Type 0
 IsNext p d =
     (resting p d ≡ true → owns p d ≡ true)
     × (resting p d ≡ false → (later : List Raw) → never reset d later ≡ true → never (withdrawal_of p) d later ≡ true → never (stop_of p) d later ≡ true
-    → (claims p (run_from d later) ≡ true) × ((r : Raw) → decode r ≡ Reads (Stop p) → owns p (next (run_from d later) r) ≡ true))
+    → (claims p (run_from d later) ≡ true) × ((r : Raw) → decode r ≡ Ok (Stop p) → owns p (next (run_from d later) r) ≡ true))
 
 -- r, no reset, ends m's grant, and the partner's request stands after it: the partner is next.
 abbrev pub PartnerNext : Type 0

@@ -1,7 +1,7 @@
 -- The words of the auditor's statements: what is said of an event in a state, and of the events of a run.
 -- Assumes nothing.
 use Rattle.std.specs.Prelude.{◌+◌, ◌&&◌, ◌∷◌, if◌then◌else◌}
-use Rattle.arbiter.specs.Types.{ℕ, Bool, true, false, not, List, [], Master, Register, Id, Contr, Status, Rt, IntStatus, IntMask, MailLow, MailHigh, Side, Device, Raw, Event, Command, Write, Read, Stop, Pair, Lines, Tick, Pulse, Reset, GeneralCall, Decoded, Reads, UnknownKind, BadField}
+use Rattle.arbiter.specs.Types.{ℕ, Bool, true, false, not, List, [], Master, Register, Id, Contr, Status, Rt, IntStatus, IntMask, MailLow, MailHigh, Side, Device, Raw, Event, Command, Write, Read, Stop, Pair, Lines, Tick, Pulse, Reset, GeneralCall, Result, Unread, Ok, Err, UnknownKind, BadField}
 use Rattle.arbiter.specs.Words.{bit, worth, same_master, of, side}
 use Rattle.arbiter.specs.State.{owns, at_rest}
 use Rattle.arbiter.specs.Events.{decode, in_sequence}
@@ -34,10 +34,9 @@ idle_timer_on m d = (side m d).contr.idletimer
 -- ---- of an event in a state
 
 -- four bytes that read as an event, are in sequence in d, and are such a one
-abbrev pub accepted_as : (Event → Device → Bool) → Decoded → Device → Bool
-accepted_as such (Reads e) d = in_sequence e d && such e d
-accepted_as such UnknownKind d = false
-accepted_as such BadField d = false
+abbrev pub accepted_as : (Event → Device → Bool) → Result Event Unread → Device → Bool
+accepted_as such (Ok e) d = in_sequence e d && such e d
+accepted_as such (Err u) d = false
 
 abbrev pub accepted : (Event → Device → Bool) → Raw → Device → Bool
 accepted such r d = accepted_as such (decode r) d
@@ -105,10 +104,9 @@ abbrev pub grant_ended : Master → Raw → Device → Bool
 grant_ended m r d = owns m d && not (owns m (next d r))
 
 -- the device after parts 1 and 2 of the event's step, where part 3 looks for a loss; a refused event has no parts
-abbrev pub levelled_by : Decoded → Device → Device
-levelled_by (Reads e) d = if in_sequence e d then levels (is_reset e) d.bus (effect e d) else d
-levelled_by UnknownKind d = d
-levelled_by BadField d = d
+abbrev pub levelled_by : Result Event Unread → Device → Device
+levelled_by (Ok e) d = if in_sequence e d then levels (is_reset e) d.bus (effect e d) else d
+levelled_by (Err u) d = d
 
 abbrev pub levelled : Raw → Device → Device
 levelled r d = levelled_by (decode r) d

@@ -1,7 +1,7 @@
 -- Document 01, "Events", the table's last column, and part 1 of a step: the event's own effect.
 -- Assumes nothing.
 use Rattle.std.specs.Prelude.{◌+◌, ◌-◌, ◌%◌, ◌&&◌, if◌then◌else◌}
-use Rattle.arbiter.specs.Types.{ℕ, Bool, true, false, not, eqb, ltb, Master, Zero, One, Turn, Nobody, Never, Rest, Open, Writing, Register, Id, Contr, Status, Rt, IntStatus, IntMask, MailLow, MailHigh, Side, Bus, Apart, Arbitration, Kind, Device, Event, Command, Write, Read, Stop, Pair, Lines, Tick, Pulse, Reset, GeneralCall}
+use Rattle.arbiter.specs.Types.{ℕ, Bool, true, false, not, eqb, ltb, Master, Zero, One, Turn, Nobody, Rest, Open, Writing, Register, Id, Contr, Status, Rt, IntStatus, IntMask, MailLow, MailHigh, Side, Bus, Apart, Arbitration, Kind, Device, Event, Command, Write, Read, Stop, Pair, Lines, Tick, Pulse, Reset, GeneralCall, None}
 use Rattle.arbiter.specs.Rules.{idle_limit, rolls}
 use Rattle.arbiter.specs.Words.{bit, partner, side, device}
 use Rattle.arbiter.specs.Parts.{with_port, with_auto, with_pointer, with_ints, with_mail, with_turn, with_reserve, with_side}
@@ -178,7 +178,7 @@ fresh_bus hold b =
     record { outscl = b.outscl; outsda = b.outsda; intin = b.intin; drivescl = true; drivesda = true; busy = false; hold = hold; idle = 0; lowscl = 0; lowsda = 0 }
 
 abbrev pub fresh_arb : Arbitration
-fresh_arb = record { last = Never; initfail = false; switch = Apart; reserve = 0; turn = Nobody }
+fresh_arb = record { last = None; initfail = false; switch = Apart; reserve = 0; turn = Nobody }
 
 unfoldable pub was_reset : ℕ → Device → Device
 was_reset hold d = record { side0 = fresh_side; side1 = fresh_side; bus = fresh_bus hold d.bus; arb = fresh_arb; kind = d.kind }

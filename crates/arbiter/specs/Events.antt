@@ -1,7 +1,7 @@
 -- Document 01, "Events": how four bytes read as an event, with refusals 2 and 3, and which events a device takes, with refusal 4.
 -- Assumes nothing.
 use Rattle.std.specs.Prelude.{◌/◌, ◌%◌, ◌&&◌, ◌||◌, if◌then◌else◌}
-use Rattle.arbiter.specs.Types.{ℕ, Bool, true, false, not, eqb, ltb, Master, Zero, One, Register, Id, Contr, Status, Rt, IntStatus, IntMask, MailLow, MailHigh, Raw, Event, Command, Write, Read, Stop, Pair, Lines, Tick, Pulse, Reset, GeneralCall, Decoded, Reads, UnknownKind, BadField, Outcome, Done, NotAcknowledged, OutOfSequence, Device}
+use Rattle.arbiter.specs.Types.{ℕ, Bool, true, false, not, eqb, ltb, Master, Zero, One, Register, Id, Contr, Status, Rt, IntStatus, IntMask, MailLow, MailHigh, Raw, Event, Command, Write, Read, Stop, Pair, Lines, Tick, Pulse, Reset, GeneralCall, Outcome, Done, NotAcknowledged, OutOfSequence, Device, Result, Unread, Ok, Err, UnknownKind, BadField}
 use Rattle.arbiter.specs.Words.{side}
 use Rattle.arbiter.specs.State.{at_rest, for_writing, is_initialising}
 
@@ -21,11 +21,11 @@ abbrev pub level : ℕ → Bool
 level x = eqb x 1
 
 -- the event if its fields are in range and its unused fields 0, else refusal 3
-abbrev pub fitting : Bool → Event → Decoded
-fitting ok e = if ok then Reads e else BadField
+abbrev pub fitting : Bool → Event → Result Event Unread
+fitting ok e = if ok then Ok e else Err BadField
 
 -- the table of kinds; "Event order: 2, 3, 4"
-unfoldable pub decode : Raw → Decoded
+unfoldable pub decode : Raw → Result Event Unread
 decode r =
     if eqb r.kind 0 then fitting (zero_or_one r.x && unused r.z) (Command (master r.x) r.y)
     else if eqb r.kind 1 then fitting (zero_or_one r.x && unused r.z) (Write (master r.x) r.y)
@@ -37,7 +37,7 @@ decode r =
     else if eqb r.kind 7 then fitting (zero_or_one r.x && unused r.y && unused r.z) (Pulse (level r.x))
     else if eqb r.kind 8 then fitting (unused r.x && unused r.y && unused r.z) Reset
     else if eqb r.kind 9 then fitting (zero_or_one r.x && unused r.z) (GeneralCall (master r.x) r.y)
-    else UnknownKind
+    else Err UnknownKind
 
 -- ---- which events a device takes
 
@@ -90,10 +90,10 @@ outcome e d = if in_sequence e d then (if acknowledged e d then Done else NotAck
 
 -- ---- the paper's numbers: "0 / 1 done / not acknowledged", "2 / 3 / 4 unknown kind / field out of range or unused not 0 / out of sequence"
 
-abbrev pub decoded_number : Decoded → ℕ
-decoded_number (Reads e) = 0
-decoded_number UnknownKind = 2
-decoded_number BadField = 3
+abbrev pub decoded_number : Result Event Unread → ℕ
+decoded_number (Ok e) = 0
+decoded_number (Err UnknownKind) = 2
+decoded_number (Err BadField) = 3
 
 abbrev pub outcome_number : Outcome → ℕ
 outcome_number Done = 0

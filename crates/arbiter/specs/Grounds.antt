@@ -1,7 +1,7 @@
 -- Request #107: what is shown of the ground on which a claim was won, as statements over every run. proofs/Grounds.antt and proofs/Contests.antt prove them.
 -- Assumes nothing.
 use Rattle.std.specs.Prelude.{◌≡◌, ◌/◌, ◌%◌, ◌&&◌, ◌||◌, if◌then◌else◌}
-use Rattle.arbiter.specs.Types.{ℕ, Bool, true, false, not, List, eqb, Master, Zero, One, Kind, Device, Raw, Pair, Reads}
+use Rattle.arbiter.specs.Types.{ℕ, Bool, true, false, not, List, eqb, Master, Zero, One, Kind, Device, Raw, Pair, Ok}
 use Rattle.arbiter.specs.Words.{partner, side}
 use Rattle.arbiter.specs.State.{owns, claims}
 use Rattle.arbiter.specs.Events.{decode}
@@ -61,4 +61,4 @@ GroundStays =
 abbrev pub ContestIsPair : Type 0
 ContestIsPair =
     (k : Kind) (m : Master) (rs : List Raw) (r : Raw) → claim_made m r (run k rs) ≡ true → eqb (ground_shown r (run k rs)) 1 ≡ false
-    → (v0 : ℕ) × (v1 : ℕ) × (decode r ≡ Reads (Pair v0 v1))
+    → (v0 : ℕ) × (v1 : ℕ) × (decode r ≡ Ok (Pair v0 v1))

@@ -1,7 +1,7 @@
 -- Document 01, M1: the listing's text, as the codes of its characters.
 -- Assumes nothing.
 use Rattle.std.specs.Prelude.{◌+◌, ◌*◌, ◌/◌, ◌%◌, ◌∷◌, ◌++◌, if◌then◌else◌}
-use Rattle.arbiter.specs.Types.{ℕ, List, [], ltb, Answer, TraceRead, Accepted, Refused}
+use Rattle.arbiter.specs.Types.{ℕ, List, [], ltb, Answer, Result, Accepted, Refusal, Err, Ok}
 use Rattle.arbiter.specs.Traces.{most_events, answer_room, refusal_number, read_trace, answers_in}
 
 -- ---- numbers as text
@@ -49,9 +49,9 @@ abbrev pub most_chars : ℕ
 most_chars = head_chars + line_chars * most_events
 
 -- "A refused trace prints one line only, R and its number"; R is 52h
-unfoldable pub listing_of : TraceRead → List ℕ → List ℕ
-listing_of (Accepted address n k) t = head_line address n ++ answer_lines (answers_in k n t)
-listing_of (Refused r) t = 0x52 ∷ decimal (refusal_number r) ++ newline
+unfoldable pub listing_of : Result Accepted Refusal → List ℕ → List ℕ
+listing_of (Ok a) t = head_line a.address a.events ++ answer_lines (answers_in a.kind a.events t)
+listing_of (Err r) t = 0x52 ∷ decimal (refusal_number r) ++ newline
 
 -- the listing program has room for the answers of any trace
 unfoldable pub listing : List ℕ → List ℕ

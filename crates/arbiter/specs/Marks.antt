@@ -4,7 +4,7 @@
 use Rattle.std.specs.Prelude.{◌≡◌, take, ◌∷◌, ◌++◌}
 use Prim.Native.Char.{code}
 use Prim.Native.String.{String, [] as empty, ◌∷◌ as ◌then◌}
-use Rattle.arbiter.specs.Types.{ℕ, zero, suc, List, [], map, Zero, One, LastGranted, Turn, Claims, Kind, Pca9641, Tpt29641, Raw, Answer, Strapped, Address, Unlisted}
+use Rattle.arbiter.specs.Types.{ℕ, zero, suc, List, [], map, Zero, One, LastGranted, Turn, Claims, Kind, Pca9641, Tpt29641, Raw, Answer, Option, Some, None}
 use Rattle.arbiter.specs.Straps.{pins, address_of}
 use Rattle.arbiter.specs.Steps.{step, run}
 use Rattle.arbiter.specs.Traces.{events_in}
@@ -18,7 +18,7 @@ pub data Shown : Type 0 where
   text : List ℕ → Shown
   answers : Answer → Shown
   turn : Turn → Shown
-  strapped : Strapped → Shown
+  strapped : Option ℕ → Shown
 
 infix 15 ◌is◌
 pub record Row : Type 0 where
@@ -144,9 +144,9 @@ marked =
     ∷ (after initialising ++ times 8 (pulse 0) on pulse 0 is bytes 0 0 0x21 0x0C)
     ∷ (after initialising ++ times 9 (pulse 0) ++ command 0 2 ∷ [] on read 0 is bytes 0 0xCA 0x21 0x0C)
     -- M10 straps 1,0,0,0: refusal 8; straps 1,1,1,3: 0Fh
-    ∷ (strapped (address_of (pins 1 0 0 0)) is strapped Unlisted)
+    ∷ (strapped (address_of (pins 1 0 0 0)) is strapped None)
     ∷ (text (listing (0x04 ∷ 1 ∷ 0 ∷ 0 ∷ 0 ∷ 0 ∷ 0 ∷ [])) is text (characters "R8\n"))
-    ∷ (strapped (address_of (pins 1 1 1 3)) is strapped (Address 0x0F))
+    ∷ (strapped (address_of (pins 1 1 1 3)) is strapped (Some 0x0F))
     -- M11 SMBUS_DIS set, SCL low: connected at 34 ticks, not at 35, still granted
     ∷ (after clock_stuck ++ times 33 tick on tick is bytes 0 0 0x25 0x08)
     ∷ (after clock_stuck ++ times 34 tick on tick is bytes 0 0 0x21 0x08)

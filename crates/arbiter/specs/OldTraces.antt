@@ -2,10 +2,10 @@
 -- proofs/OldTraces.antt proves the statements.
 -- Assumes nothing.
 use Rattle.std.specs.Prelude.{◌≤◌, ◌≡◌, ◌*◌, ◌++◌, if◌then◌else◌}
-use Rattle.arbiter.specs.Types.{ℕ, not, List, [], eqb, ltb, length, drop, Pca9641, Strapped, Address, Unlisted, TraceCut, TooManyEvents, BytesAfterEnd, BadStraps, NoRoom, BadCount, Accepted, Refused}
-use Rattle.arbiter.specs.declared.Written.{Written}
+use Rattle.arbiter.specs.Types.{ℕ, not, List, [], eqb, ltb, length, drop, Pca9641, TraceCut, TooManyEvents, BytesAfterEnd, BadStraps, NoRoom, BadCount, Option, Some, None, Err}
+use Rattle.arbiter.specs.Types.{Written}
 use Rattle.arbiter.specs.Straps.{address_of}
-use Rattle.arbiter.specs.Traces.{pin_count, pin_bytes, head_bytes, event_bytes, most_events, events_end, kind_section, byte_at, pins_in, count_in, events_in, read_trace, answers_in, refusal_number}
+use Rattle.arbiter.specs.Traces.{pin_count, pin_bytes, head_bytes, event_bytes, most_events, events_end, kind_section, byte_at, pins_in, count_in, events_in, read_trace, answers_in, refusal_number, accepted_with}
 
 -- ---- what document 01's rules accept, room apart: "first count missing 5, wrong 10, pins missing 5, pins 8, n missing 5, 6, events missing
 -- 5, 7"
@@ -18,9 +18,9 @@ old_counted t =
     else if ltb (events_end (count_in t)) (length t) then refusal_number BytesAfterEnd
     else 0
 
-abbrev pub old_strapped : Strapped → List ℕ → ℕ
-old_strapped (Address a) t = old_counted t
-old_strapped Unlisted t = refusal_number BadStraps
+abbrev pub old_strapped : Option ℕ → List ℕ → ℕ
+old_strapped (Some a) t = old_counted t
+old_strapped None t = refusal_number BadStraps
 
 unfoldable pub old_number : List ℕ → ℕ
 old_number t =
@@ -61,11 +61,11 @@ buffer_converted t buffer =
 -- events, and so its answers, are those of the old one.
 abbrev pub ConvertedAccepted : Type 0
 ConvertedAccepted =
-    (t : List ℕ) (room a : ℕ) → old_number t ≡ 0 → address_of (pins_in t) ≡ Address a → event_bytes * count_in t ≤ room
-    → (read_trace (converted t) room ≡ Accepted a (count_in t) Pca9641)
+    (t : List ℕ) (room a : ℕ) → old_number t ≡ 0 → address_of (pins_in t) ≡ Some a → event_bytes * count_in t ≤ room
+    → (read_trace (converted t) room ≡ accepted_with a (count_in t) Pca9641)
     × (events_in (count_in t) (converted t) ≡ events_in (count_in t) t)
     × (answers_in Pca9641 (count_in t) (converted t) ≡ answers_in Pca9641 (count_in t) t)
 
 -- "An old trace is refused": with 5, whatever the room.
 abbrev pub OldRefused : Type 0
-OldRefused = (t : List ℕ) (room : ℕ) → old_number t ≡ 0 → read_trace t room ≡ Refused TraceCut
+OldRefused = (t : List ℕ) (room : ℕ) → old_number t ≡ 0 → read_trace t room ≡ Err TraceCut

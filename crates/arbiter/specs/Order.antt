@@ -1,7 +1,7 @@
 -- Document 01, "Order inside a step", parts 2 to 7. Part 1, the event's own effect, is in Effects.
 -- Assumes nothing.
 use Rattle.std.specs.Prelude.{◌+◌, ◌&&◌, ◌||◌, ◌∷◌, if◌then◌else◌}
-use Rattle.arbiter.specs.Types.{ℕ, Bool, true, false, not, List, [], eqb, ltb, get_or, Master, Zero, One, Ground, Sole, Priority, LastGranted, Turn, Nobody, Claims, Owns, Last, Never, Was, Side, Bus, Switch, Apart, Initialising, Closed, Arbitration, Device, Clock, NoClock, ClockLow, ClockHigh, Event, Command, Write, Read, Stop, Pair, Lines, Tick, Pulse, Reset, GeneralCall}
+use Rattle.arbiter.specs.Types.{ℕ, Bool, true, false, not, List, [], eqb, ltb, get_or, Master, Zero, One, Ground, Sole, Priority, LastGranted, Turn, Nobody, Claims, Owns, Side, Bus, Switch, Apart, Initialising, Closed, Arbitration, Device, Clock, NoClock, ClockLow, ClockHigh, Event, Command, Write, Read, Stop, Pair, Lines, Tick, Pulse, Reset, GeneralCall, Option, None, Some}
 use Rattle.arbiter.specs.Words.{worth, partner, same_master, side, device}
 use Rattle.arbiter.specs.Parts.{with_lock_req, with_bus_connect, with_bus_init, with_contr, with_ints, with_idle, with_turn, with_switch, with_init_fail, with_side, with_bus, with_arb}
 use Rattle.arbiter.specs.State.{at_rest, scl_high, sda_high, is_idle}
@@ -138,12 +138,12 @@ winners =
 abbrev pub row : Bool → Bool → ℕ
 row priority0 priority1 = worth 2 priority0 + worth 1 priority1
 
-abbrev pub column : Last → ℕ
-column Never = 0
-column (Was Zero) = 1
-column (Was One) = 2
+abbrev pub column : Option Master → ℕ
+column None = 0
+column (Some Zero) = 1
+column (Some One) = 2
 
-unfoldable pub winner : Bool → Bool → Last → Master
+unfoldable pub winner : Bool → Bool → Option Master → Master
 winner priority0 priority1 last = master (get_or (get_or winners (row priority0 priority1) []) (column last) 0)
 
 -- #107: "The winner choice shall also give its ground: 1 sole requester, 2 priority, 3 last granted. With equal priorities and nobody
@@ -180,7 +180,7 @@ claim d = with_arb (with_turn (claim_after d.arb.turn d) d.arb) d
 -- granted = it, its bit 2 set."
 
 abbrev pub granted_arb : Master → Ground → ℕ → Arbitration → Arbitration
-granted_arb m g rt a = record { last = Was m; initfail = a.initfail; switch = a.switch; reserve = rt; turn = Owns m g }
+granted_arb m g rt a = record { last = Some m; initfail = a.initfail; switch = a.switch; reserve = rt; turn = Owns m g }
 
 unfoldable pub granted : Master → Ground → Device → Device
 granted m g d =

@@ -1,7 +1,7 @@
 -- Document 01, "Order inside a step" as a whole, "Answers", and a run of events from power-up.
 -- Assumes nothing.
 use Rattle.std.specs.Prelude.{◌+◌, ◌*◌, ◌∷◌, if◌then◌else◌}
-use Rattle.arbiter.specs.Types.{ℕ, List, [], Master, Zero, One, Ground, Sole, Priority, LastGranted, Turn, Nobody, Claims, Owns, Switch, Apart, Initialising, Closed, Kind, Device, Raw, Event, Command, Write, Read, Stop, Pair, Lines, Tick, Pulse, Reset, GeneralCall, Decoded, Reads, UnknownKind, BadField, OutOfSequence, Answer, Stepped}
+use Rattle.arbiter.specs.Types.{ℕ, List, [], Master, Zero, One, Ground, Sole, Priority, LastGranted, Turn, Nobody, Claims, Owns, Switch, Apart, Initialising, Closed, Kind, Device, Raw, Event, Command, Write, Read, Stop, Pair, Lines, Tick, Pulse, Reset, GeneralCall, OutOfSequence, Answer, Stepped, Result, Unread, Ok, Err, UnknownKind, BadField}
 use Rattle.arbiter.specs.Words.{worth, side}
 use Rattle.arbiter.specs.State.{is_initialising, scl_high, sda_high}
 use Rattle.arbiter.specs.Registers.{reads_at, output}
@@ -80,10 +80,9 @@ unfoldable pub step_event : Event → Device → Stepped
 step_event e d = if in_sequence e d then taken e d else refused (outcome_number OutOfSequence) d
 
 -- "an event that does not read as one is taken out first"
-unfoldable pub step_decoded : Decoded → Device → Stepped
-step_decoded (Reads e) d = step_event e d
-step_decoded UnknownKind d = refused (decoded_number UnknownKind) d
-step_decoded BadField d = refused (decoded_number BadField) d
+unfoldable pub step_decoded : Result Event Unread → Device → Stepped
+step_decoded (Ok e) d = step_event e d
+step_decoded (Err u) d = refused (decoded_number (Err u)) d
 
 unfoldable pub step : Device → Raw → Stepped
 step d r = step_decoded (decode r) d

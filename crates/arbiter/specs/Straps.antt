@@ -1,7 +1,7 @@
 -- Document 01, "Straps": from the four pins to the address, and from the address to its pins.
 -- Assumes nothing.
 use Rattle.std.specs.Prelude.{◌+◌, ◌*◌, ◌%◌, ◌&&◌, ◌∷◌, ◌++◌, if◌then◌else◌}
-use Rattle.arbiter.specs.Types.{ℕ, Bool, true, false, not, List, [], map, eqb, ltb, Pins, Strapped, Address, Unlisted, Strapping, Straps, Outside}
+use Rattle.arbiter.specs.Types.{ℕ, Bool, true, false, not, List, [], map, eqb, ltb, Pins, Option, Some, None}
 
 -- "Pin codes: 0 VSS, 1 VDD, 2 pull-down, 3 pull-up. VSS and VDD are ties, the others resistors."
 abbrev pub is_code : ℕ → Bool
@@ -38,8 +38,8 @@ abbrev pub listed : Pins → Bool
 listed p = is_tie p.ad3 && is_code p.ad2 && is_code p.ad1 && is_code p.ad0 && not (eqb (first_address p) 0)
 
 -- the address of four pins
-unfoldable pub address_of : Pins → Strapped
-address_of p = if listed p then Address (first_address p + low_bits p) else Unlisted
+unfoldable pub address_of : Pins → Option ℕ
+address_of p = if listed p then Some (first_address p + low_bits p) else None
 
 -- ---- from the address to the pins
 
@@ -54,9 +54,9 @@ abbrev pub pins : ℕ → ℕ → ℕ → ℕ → Pins
 pins p3 p2 p1 p0 = record { ad3 = p3; ad2 = p2; ad1 = p1; ad0 = p0 }
 
 -- "Every address 08h to 77h has exactly one strapping": the one among all 256 settings of the pins whose address it is
-abbrev pub has_address : ℕ → Strapped → Bool
-has_address a (Address b) = eqb a b
-has_address a Unlisted = false
+abbrev pub has_address : ℕ → Option ℕ → Bool
+has_address a (Some b) = eqb a b
+has_address a None = false
 
 abbrev pub concat : List (List Pins) → List Pins
 concat [] = []
@@ -69,27 +69,27 @@ settings =
     (map (λ (p2 : ℕ). concat
     (map (λ (p1 : ℕ). map (λ (p0 : ℕ). pins p3 p2 p1 p0) codes) codes)) codes)) codes)
 
-abbrev pub first_with : ℕ → List Pins → Strapping
-first_with a [] = Outside
-first_with a (p ∷ ps) = if has_address a (address_of p) then Straps p else first_with a ps
+abbrev pub first_with : ℕ → List Pins → Option Pins
+first_with a [] = None
+first_with a (p ∷ ps) = if has_address a (address_of p) then Some p else first_with a ps
 
-unfoldable pub straps_of : ℕ → Strapping
-straps_of a = if in_range a then first_with a settings else Outside
+unfoldable pub straps_of : ℕ → Option Pins
+straps_of a = if in_range a then first_with a settings else None
 
 -- ---- the paper's numbers: "8 pin code above 3 or unlisted strapping .. alone: no address", "11 address outside 08h to 77h .. no strapping"
 
-abbrev pub strapped_number : Strapped → ℕ
-strapped_number (Address a) = 0
-strapped_number Unlisted = 8
+abbrev pub strapped_number : Option ℕ → ℕ
+strapped_number (Some a) = 0
+strapped_number None = 8
 
 -- no address is written 00h
-abbrev pub strapped_address : Strapped → ℕ
-strapped_address (Address a) = a
-strapped_address Unlisted = 0
+abbrev pub strapped_address : Option ℕ → ℕ
+strapped_address (Some a) = a
+strapped_address None = 0
 
-abbrev pub strapping_number : Strapping → ℕ
-strapping_number (Straps p) = 0
-strapping_number Outside = 11
+abbrev pub strapping_number : Option Pins → ℕ
+strapping_number (Some p) = 0
+strapping_number None = 11
 
 -- 0 and the address for pins that are listed, 8 and no address for all others
 abbrev pub address_number : Pins → ℕ

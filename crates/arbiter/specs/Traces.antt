@@ -1,8 +1,8 @@
 -- Document 01, "Answers and the trace": how bytes read as a trace, the refusals in their order, and what a trace's run leaves.
 -- Assumes nothing.
 use Rattle.std.specs.Prelude.{◌+◌, ◌*◌, ◌/◌, ◌%◌, ◌∷◌, ◌++◌, if◌then◌else◌}
-use Rattle.arbiter.specs.Types.{ℕ, zero, suc, not, List, [], eqb, ltb, length, drop, get_or, Bool, Kind, Pca9641, Tpt29641, Device, Raw, Answer, Pins, Strapped, Address, Unlisted, Refusal, TraceCut, TooManyEvents, BytesAfterEnd, BadStraps, NoRoom, BadCount, UnknownPart, TraceRead, Accepted, Refused, Report}
-use Rattle.arbiter.specs.declared.Ran.{Ran}
+use Rattle.arbiter.specs.Types.{ℕ, zero, suc, not, List, [], eqb, ltb, length, drop, get_or, Bool, Kind, Pca9641, Tpt29641, Device, Raw, Answer, Pins, Refusal, TraceCut, TooManyEvents, BytesAfterEnd, BadStraps, NoRoom, BadCount, UnknownPart, Report, Option, Some, None, Result, Accepted, Err, Ok}
+use Rattle.arbiter.specs.Types.{Ran}
 use Rattle.arbiter.specs.Straps.{pins, address_of}
 use Rattle.arbiter.specs.Effects.{power_up}
 use Rattle.arbiter.specs.Steps.{run_from, answers_from, run}
@@ -89,34 +89,38 @@ kind_at n t = byte_at (events_end n + 1) t
 -- "10 for a count other than 1, 3 as a whole-call refusal for another kind, both after the events' 5 and before 7; 5 where the section is
 -- missing".
 
+-- a trace that is accepted: its address, its count of events and its kind of part
+abbrev pub accepted_with : ℕ → ℕ → Kind → Result Accepted Refusal
+accepted_with address n k = Ok (record { address = address; events = n; kind = k })
+
 -- from the third section on; `room` is the length of the answer buffer
-unfoldable pub read_kind : ℕ → ℕ → List ℕ → ℕ → TraceRead
+unfoldable pub read_kind : ℕ → ℕ → List ℕ → ℕ → Result Accepted Refusal
 read_kind address n t room =
-    if ltb (length t) (events_end n + 1) then Refused TraceCut
-    else if not (eqb (byte_at (events_end n) t) kind_count) then Refused BadCount
-    else if ltb (length t) (whole_bytes n) then Refused TraceCut
-    else if not (is_kind (kind_at n t)) then Refused UnknownPart
-    else if ltb (whole_bytes n) (length t) then Refused BytesAfterEnd
-    else if ltb room (event_bytes * n) then Refused NoRoom
-    else Accepted address n (kind_of (kind_at n t))
+    if ltb (length t) (events_end n + 1) then Err TraceCut
+    else if not (eqb (byte_at (events_end n) t) kind_count) then Err BadCount
+    else if ltb (length t) (whole_bytes n) then Err TraceCut
+    else if not (is_kind (kind_at n t)) then Err UnknownPart
+    else if ltb (whole_bytes n) (length t) then Err BytesAfterEnd
+    else if ltb room (event_bytes * n) then Err NoRoom
+    else accepted_with address n (kind_of (kind_at n t))
 
 -- from the count of events on
-unfoldable pub read_counted : ℕ → List ℕ → ℕ → TraceRead
+unfoldable pub read_counted : ℕ → List ℕ → ℕ → Result Accepted Refusal
 read_counted address t room =
-    if ltb (length t) head_bytes then Refused TraceCut
-    else if ltb most_events (count_in t) then Refused TooManyEvents
-    else if ltb (length t) (events_end (count_in t)) then Refused TraceCut
+    if ltb (length t) head_bytes then Err TraceCut
+    else if ltb most_events (count_in t) then Err TooManyEvents
+    else if ltb (length t) (events_end (count_in t)) then Err TraceCut
     else read_kind address (count_in t) t room
 
-unfoldable pub read_strapped : Strapped → List ℕ → ℕ → TraceRead
-read_strapped (Address a) t room = read_counted a t room
-read_strapped Unlisted t room = Refused BadStraps
+unfoldable pub read_strapped : Option ℕ → List ℕ → ℕ → Result Accepted Refusal
+read_strapped (Some a) t room = read_counted a t room
+read_strapped None t room = Err BadStraps
 
-unfoldable pub read_trace : List ℕ → ℕ → TraceRead
+unfoldable pub read_trace : List ℕ → ℕ → Result Accepted Refusal
 read_trace t room =
-    if ltb (length t) 1 then Refused TraceCut
-    else if not (eqb (byte_at 0 t) pin_count) then Refused BadCount
-    else if ltb (length t) pin_bytes then Refused TraceCut
+    if ltb (length t) 1 then Err TraceCut
+    else if not (eqb (byte_at 0 t) pin_count) then Err BadCount
+    else if ltb (length t) pin_bytes then Err TraceCut
     else read_strapped (address_of (pins_in t)) t room
 
 -- ---- the paper's numbers: "5 / 6 / 7 trace cut / n above 4,096 / bytes after the end", "8 pin code above 3 or unlisted strapping",
@@ -132,16 +136,16 @@ refusal_number BadCount = 10
 refusal_number UnknownPart = 3
 
 -- an accepted trace's is "0 .. done"
-abbrev pub read_number : TraceRead → ℕ
-read_number (Accepted address n k) = 0
-read_number (Refused r) = refusal_number r
+abbrev pub read_number : Result Accepted Refusal → ℕ
+read_number (Ok a) = 0
+read_number (Err r) = refusal_number r
 
 -- ---- what a run of a trace leaves: "an accepted trace reports n events"; a refused one "answers untouched, 0 events, fresh device";
 -- by #105 "a refused trace gives kind 0"
 
-unfoldable pub report_of : TraceRead → List ℕ → Report
-report_of (Accepted address n k) t = record { number = read_number (Accepted address n k); address = address; events = n; device = run k (events_in n t) }
-report_of (Refused r) t = record { number = read_number (Refused r); address = 0; events = 0; device = power_up Pca9641 }
+unfoldable pub report_of : Result Accepted Refusal → List ℕ → Report
+report_of (Ok a) t = record { number = read_number (Ok a); address = a.address; events = a.events; device = run a.kind (events_in a.events t) }
+report_of (Err r) t = record { number = read_number (Err r); address = 0; events = 0; device = power_up Pca9641 }
 
 abbrev pub bytes_of : List Answer → List ℕ
 bytes_of [] = []
@@ -151,9 +155,9 @@ abbrev pub answers_in : Kind → ℕ → List ℕ → List Answer
 answers_in k n t = answers_from (power_up k) (events_in n t)
 
 -- "Answer bytes past 4n stay."
-unfoldable pub buffer_of : TraceRead → List ℕ → List ℕ → List ℕ
-buffer_of (Accepted address n k) t buffer = bytes_of (answers_in k n t) ++ drop (event_bytes * n) buffer
-buffer_of (Refused r) t buffer = buffer
+unfoldable pub buffer_of : Result Accepted Refusal → List ℕ → List ℕ → List ℕ
+buffer_of (Ok a) t buffer = bytes_of (answers_in a.kind a.events t) ++ drop (event_bytes * a.events) buffer
+buffer_of (Err r) t buffer = buffer
 
 -- the report of a trace, and the answer buffer after it
 unfoldable pub report : List ℕ → List ℕ → Report

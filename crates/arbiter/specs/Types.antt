@@ -1,4 +1,5 @@
--- The types of src/lib.rt, and the library's own booleans, numbers and lists, passed on to the other files under their own names.
+-- The types of src/lib.rt, and the library's own booleans, numbers and lists, passed on to the other files under their own names; and what the calls
+-- report as the papers tell it, by numbers, where the code answers with a Result.
 -- Assumes nothing.
 pub use Rattle.std.specs.Prelude.{ℕ, zero, suc, ◌+◌, ◌*◌, ◌-◌, ◌/◌, ◌%◌, ◌^◌, Bool, true, false, not, ◌&&◌, ◌||◌, List, [], ◌∷◌, ◌++◌, map, eqb, ltb, length, drop, get_or}
 pub use Rattle.std.specs.Int.Bits.{bit_and, bit_or}
@@ -8,8 +9,10 @@ pub use Rattle.arbiter.specs.declared.Ground.{Ground}
 pub use Rattle.arbiter.specs.declared.Ground.TheVariants.{Sole, Priority, LastGranted}
 pub use Rattle.arbiter.specs.declared.Turn.{Turn}
 pub use Rattle.arbiter.specs.declared.Turn.TheVariants.{Nobody, Claims, Owns}
-pub use Rattle.arbiter.specs.declared.Last.{Last}
-pub use Rattle.arbiter.specs.declared.Last.TheVariants.{Never, Was}
+pub use Rattle.std.specs.Prelude.{Option, Some, None, Result, Ok, Err}
+pub use Rattle.arbiter.specs.declared.Accepted.{Accepted}
+pub use Rattle.arbiter.specs.declared.Unread.TheVariants.{BadField, UnknownKind}
+pub use Rattle.arbiter.specs.declared.Unread.{Unread}
 pub use Rattle.arbiter.specs.declared.Port.{Port}
 pub use Rattle.arbiter.specs.declared.Port.TheVariants.{Rest, Open, Writing}
 pub use Rattle.arbiter.specs.declared.Register.{Register}
@@ -29,19 +32,28 @@ pub use Rattle.arbiter.specs.declared.Event.{Event}
 pub use Rattle.arbiter.specs.declared.Event.TheVariants.{Command, Write, Read, Stop, Pair, Lines, Tick, Pulse, Reset, GeneralCall}
 pub use Rattle.arbiter.specs.declared.Clock.{Clock}
 pub use Rattle.arbiter.specs.declared.Clock.TheVariants.{NoClock, ClockLow, ClockHigh}
-pub use Rattle.arbiter.specs.declared.Decoded.{Decoded}
-pub use Rattle.arbiter.specs.declared.Decoded.TheVariants.{Reads, UnknownKind, BadField}
 pub use Rattle.arbiter.specs.declared.Outcome.{Outcome}
 pub use Rattle.arbiter.specs.declared.Outcome.TheVariants.{Done, NotAcknowledged, OutOfSequence}
 pub use Rattle.arbiter.specs.declared.Answer.{Answer}
 pub use Rattle.arbiter.specs.declared.Stepped.{Stepped}
 pub use Rattle.arbiter.specs.declared.Pins.{Pins}
-pub use Rattle.arbiter.specs.declared.Strapped.{Strapped}
-pub use Rattle.arbiter.specs.declared.Strapped.TheVariants.{Address, Unlisted}
-pub use Rattle.arbiter.specs.declared.Strapping.{Strapping}
-pub use Rattle.arbiter.specs.declared.Strapping.TheVariants.{Straps, Outside}
 pub use Rattle.arbiter.specs.declared.Refusal.{Refusal}
 pub use Rattle.arbiter.specs.declared.Refusal.TheVariants.{TraceCut, TooManyEvents, BytesAfterEnd, BadStraps, NoRoom, BadCount, UnknownPart}
-pub use Rattle.arbiter.specs.declared.TraceRead.{TraceRead}
-pub use Rattle.arbiter.specs.declared.TraceRead.TheVariants.{Accepted, Refused}
-pub use Rattle.arbiter.specs.declared.Report.{Report}
+
+-- what a run of a trace reports beside the answers
+pub record Report : Type 0 where
+  pub number : ℕ
+  pub address : ℕ
+  pub events : ℕ
+  pub device : Device
+
+-- what a run of raw events from any device reports beside the answers
+pub record Ran : Type 0 where
+  pub number : ℕ
+  pub events : ℕ
+  pub device : Device
+
+-- what the writing of a trace reports: its number, and the length of what was written
+pub record Written : Type 0 where
+  pub number : ℕ
+  pub length : ℕ

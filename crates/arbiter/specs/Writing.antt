@@ -1,10 +1,10 @@
 -- Request #101: the bytes of a trace from its pins, its events and, by #105, its kind of part; what the call that writes them leaves, and
 -- what reading and writing are to each other.
 -- Assumes nothing.
-use Rattle.arbiter.specs.Types.{ℕ, not, List, [], eqb, ltb, length, drop, Raw, Pins, Address, TraceCut, TooManyEvents, BadStraps, NoRoom, UnknownPart, Kind, Accepted}
+use Rattle.arbiter.specs.Types.{ℕ, not, List, [], eqb, ltb, length, drop, Raw, Pins, TraceCut, TooManyEvents, BadStraps, NoRoom, UnknownPart, Kind, Some}
 use Rattle.arbiter.specs.Straps.{address_of, strapped_number}
-use Rattle.arbiter.specs.Traces.{pin_count, event_bytes, most_events, whole_bytes, byte_at, pins_in, raws_in, events_in, kind_section, is_kind, kind_of, read_trace, refusal_number, event_count}
-use Rattle.arbiter.specs.declared.Written.{Written}
+use Rattle.arbiter.specs.Traces.{pin_count, event_bytes, most_events, whole_bytes, byte_at, pins_in, raws_in, events_in, kind_section, is_kind, kind_of, read_trace, refusal_number, event_count, accepted_with}
+use Rattle.arbiter.specs.Types.{Written}
 use Rattle.std.specs.Prelude.{◌≡◌, ◌<◌, ◌≤◌, ◌*◌, ◌/◌, ◌%◌, ◌∷◌, ◌++◌, if◌then◌else◌}
 
 -- ---- the trace: "a count byte 4 and the pins AD3 to AD0; then a two-byte low-first count n up to 4,096, and n events", then "count byte 1
@@ -55,8 +55,8 @@ buffer_written p kind events buffer =
 
 abbrev pub ReadsBack : Type 0
 ReadsBack =
-    (p : Pins) (rs : List Raw) (k : Kind) (address room : ℕ) → address_of p ≡ Address address → length rs ≤ most_events → event_bytes * length rs ≤ room
-    → (read_trace (trace_of p rs k) room ≡ Accepted address (length rs) k) × (pins_in (trace_of p rs k) ≡ p) × (events_in (length rs) (trace_of p rs k) ≡ rs)
+    (p : Pins) (rs : List Raw) (k : Kind) (address room : ℕ) → address_of p ≡ Some address → length rs ≤ most_events → event_bytes * length rs ≤ room
+    → (read_trace (trace_of p rs k) room ≡ accepted_with address (length rs) k) × (pins_in (trace_of p rs k) ≡ p) × (events_in (length rs) (trace_of p rs k) ≡ rs)
 
 -- the events are written as the bytes that were given
 abbrev pub WritesAsGiven : Type 0
@@ -70,7 +70,7 @@ Bytes t = (i : ℕ) → byte_at i t < 256
 
 abbrev pub WritesBack : Type 0
 WritesBack =
-    (t : List ℕ) (address n room : ℕ) (k : Kind) → Bytes t → read_trace t room ≡ Accepted address n k → trace_of (pins_in t) (events_in n t) k ≡ t
+    (t : List ℕ) (address n room : ℕ) (k : Kind) → Bytes t → read_trace t room ≡ accepted_with address n k → trace_of (pins_in t) (events_in n t) k ≡ t
 
 -- ---- the three, which proofs/Back.antt of the crate `writer` fills with one term, so that a lost proof fails the check
 

@@ -22,47 +22,40 @@ pub const CUT_TICKS: u16 = 35;
 // ---- who
 
 // The two masters, each at its own upstream port.
-#[derive(Clone, Copy)]
+#[derive(Clone, Copy, PartialEq, Eq)]
 pub enum Master {
     Zero,
     One,
 }
 
-// On what ground a claim was won: its master asked alone, or had priority, or was not the last granted.
-#[derive(Clone, Copy)]
+// On what ground a claim was won, with its number: its master asked alone, or had priority, or was not the last granted.
+#[derive(Clone, Copy, PartialEq, Eq)]
 pub enum Ground {
-    Sole,
-    Priority,
-    LastGranted,
+    Sole = 1,
+    Priority = 2,
+    LastGranted = 3,
 }
 
 // Whose turn it is: nobody asks, m is the claimant and waits, m is granted and owns the bus. A claim has its ground, and the grant keeps it.
-#[derive(Clone, Copy)]
+#[derive(Clone, Copy, PartialEq, Eq)]
 pub enum Turn {
     Nobody,
     Claims(Master, Ground),
     Owns(Master, Ground),
 }
 
-// The last granted master.
-#[derive(Clone, Copy)]
-pub enum Last {
-    Never,
-    Was(Master),
-}
-
 // ---- one master's port and registers
 
 // A port is at rest, open (but not for writing), or open for writing.
-#[derive(Clone, Copy)]
+#[derive(Clone, Copy, PartialEq, Eq)]
 pub enum Port {
     Rest,
     Open,
     Writing,
 }
 
-// The eight registers, by name. The pointer of a port is one of them.
-#[derive(Clone, Copy)]
+// The eight registers, by name, in the order of their numbers from 0 to 7. The pointer of a port is one of them.
+#[derive(Clone, Copy, PartialEq, Eq)]
 pub enum Register {
     Id,
     Contr,
@@ -75,7 +68,7 @@ pub enum Register {
 }
 
 // CONTR as it is stored: LOCK_GRANT is not, for it is read off the turn.
-#[derive(Clone, Copy)]
+#[derive(Clone, Copy, PartialEq, Eq)]
 pub struct Control {
     pub priority: bool,
     pub smbusdis: bool,
@@ -87,7 +80,7 @@ pub struct Control {
 }
 
 // A master's own mailbox.
-#[derive(Clone, Copy)]
+#[derive(Clone, Copy, PartialEq, Eq)]
 pub struct Mailbox {
     pub low: u8,
     pub high: u8,
@@ -96,7 +89,7 @@ pub struct Mailbox {
 
 // A master's registers and its port. INT_STATUS keeps its bits 5 to 0 as a byte: bit 6 equals BUS_HUNG and is not stored. The order of
 // the fields, here and below, is the one measured to run fastest.
-#[derive(Clone, Copy)]
+#[derive(Clone, Copy, PartialEq, Eq)]
 pub struct Side {
     pub pointer: Register,
     pub rt: u8,
@@ -111,7 +104,7 @@ pub struct Side {
 // ---- what the two share
 
 // The downstream bus: outside levels and INT_IN, the two drives, the hold, and what is counted. True is high, or released.
-#[derive(Clone, Copy)]
+#[derive(Clone, Copy, PartialEq, Eq)]
 pub struct Bus {
     pub outscl: bool,
     pub outsda: bool,
@@ -126,30 +119,31 @@ pub struct Bus {
 }
 
 // The switch says by itself whom it connects: apart, initialising for m after so many PULSEs of 0, or closed for m.
-#[derive(Clone, Copy)]
+#[derive(Clone, Copy, PartialEq, Eq)]
 pub enum Switch {
     Apart,
     Initialising(Master, u8),
     Closed(Master),
 }
 
-#[derive(Clone, Copy)]
+// The last granted master is none at first.
+#[derive(Clone, Copy, PartialEq, Eq)]
 pub struct Arbitration {
-    pub last: Last,
+    pub last: Option<Master>,
     pub initfail: bool,
     pub switch: Switch,
     pub reserve: u8,
     pub turn: Turn,
 }
 
-// The kind of part: the PCA9641 of source document 003, or the TPT29641 of 000.
-#[derive(Clone, Copy)]
+// The kind of part, number 0 and number 1: the PCA9641 of source document 003, or the TPT29641 of 000.
+#[derive(Clone, Copy, PartialEq, Eq)]
 pub enum Kind {
     Pca9641,
     Tpt29641,
 }
 
-#[derive(Clone, Copy)]
+#[derive(Clone, Copy, PartialEq, Eq)]
 pub struct Device {
     pub kind: Kind,
     pub side0: Side,
@@ -161,7 +155,7 @@ pub struct Device {
 // ---- events and answers
 
 // The four bytes of an event as they come: the kind and three fields.
-#[derive(Clone, Copy)]
+#[derive(Clone, Copy, PartialEq, Eq)]
 pub struct Raw {
     pub kind: u8,
     pub x: u8,
@@ -170,7 +164,7 @@ pub struct Raw {
 }
 
 // The ten kinds of event.
-#[derive(Clone, Copy)]
+#[derive(Clone, Copy, PartialEq, Eq)]
 pub enum Event {
     Command(Master, u8),
     Write(Master, u8),
@@ -184,32 +178,31 @@ pub enum Event {
     GeneralCall(Master, u8),
 }
 
-// The clock of an initialisation that an event is: none, or one with SDA low or high.
-#[derive(Clone, Copy)]
+// The clock of an initialisation that an event is: none, or one with SDA low or high. Three names, since an Option<bool> would read as a level.
+#[derive(Clone, Copy, PartialEq, Eq)]
 pub enum Clock {
     NoClock,
     ClockLow,
     ClockHigh,
 }
 
-// Four bytes read as an event, or they do not: an unknown kind, or a field out of range or unused and not 0.
-#[derive(Clone, Copy)]
-pub enum Decoded {
-    Reads(Event),
-    UnknownKind,
-    BadField,
+// Why four bytes do not read as an event, with its number: an unknown kind, or a field out of range or unused and not 0.
+#[derive(Clone, Copy, PartialEq, Eq)]
+pub enum Unread {
+    UnknownKind = 2,
+    BadField = 3,
 }
 
-// What a device makes of an event that reads as one.
-#[derive(Clone, Copy)]
+// What a device makes of an event that reads as one, with its number.
+#[derive(Clone, Copy, PartialEq, Eq)]
 pub enum Outcome {
-    Done,
-    NotAcknowledged,
-    OutOfSequence,
+    Done = 0,
+    NotAcknowledged = 1,
+    OutOfSequence = 4,
 }
 
 // The four bytes of an answer: the outcome's number, the byte read, owner and switch, outputs and levels.
-#[derive(Clone, Copy)]
+#[derive(Clone, Copy, PartialEq, Eq)]
 pub struct Answer {
     pub outcome: u8,
     pub read: u8,
@@ -218,7 +211,7 @@ pub struct Answer {
 }
 
 // The new device, and the answer.
-#[derive(Clone, Copy)]
+#[derive(Clone, Copy, PartialEq, Eq)]
 pub struct Stepped {
     pub device: Device,
     pub answer: Answer,
@@ -227,7 +220,7 @@ pub struct Stepped {
 // ---- straps and traces
 
 // The codes of the four address pins.
-#[derive(Clone, Copy)]
+#[derive(Clone, Copy, PartialEq, Eq)]
 pub struct Pins {
     pub ad3: u8,
     pub ad2: u8,
@@ -235,59 +228,22 @@ pub struct Pins {
     pub ad0: u8,
 }
 
-// The address of a strapping.
-#[derive(Clone, Copy)]
-pub enum Strapped {
-    Address(u8),
-    Unlisted,
-}
-
-// The strapping of an address.
-#[derive(Clone, Copy)]
-pub enum Strapping {
-    Straps(Pins),
-    Outside,
-}
-
-// Why a whole trace is refused.
-#[derive(Clone, Copy)]
+// Why a whole trace is refused, with its number.
+#[derive(Clone, Copy, PartialEq, Eq)]
 pub enum Refusal {
-    TraceCut,
-    TooManyEvents,
-    BytesAfterEnd,
-    BadStraps,
-    NoRoom,
-    BadCount,
-    UnknownPart,
+    TraceCut = 5,
+    TooManyEvents = 6,
+    BytesAfterEnd = 7,
+    BadStraps = 8,
+    NoRoom = 9,
+    BadCount = 10,
+    UnknownPart = 3,
 }
 
-// A trace is accepted, with its address, its count of events and its kind of part, or refused.
-#[derive(Clone, Copy)]
-pub enum TraceRead {
-    Accepted(u8, usize, Kind),
-    Refused(Refusal),
-}
-
-// What a run of a trace reports beside the answers.
-#[derive(Clone, Copy)]
-pub struct Report {
-    pub number: u8,
+// What is read of a trace that is accepted: its address, its count of events and its kind of part.
+#[derive(Clone, Copy, PartialEq, Eq)]
+pub struct Accepted {
     pub address: u8,
     pub events: usize,
-    pub device: Device,
-}
-
-// What a run of raw events from any device reports beside the answers.
-#[derive(Clone, Copy)]
-pub struct Ran {
-    pub number: u8,
-    pub events: usize,
-    pub device: Device,
-}
-
-// What the writing of a trace reports: its number, and the length of what was written.
-#[derive(Clone, Copy)]
-pub struct Written {
-    pub number: u8,
-    pub length: usize,
+    pub kind: Kind,
 }

@@ -17,7 +17,7 @@ use Rattle.arbiter.specs.declared.Ground.{Ground}
 use Rattle.arbiter.specs.declared.Ground.TheVariants.{Sole}
 use Rattle.arbiter.specs.declared.Turn.{Turn}
 use Rattle.arbiter.specs.declared.Turn.TheVariants.{Nobody, Claims, Owns}
-use Rattle.arbiter.specs.declared.Last.TheVariants.{Was}
+use Rattle.std.specs.Prelude.{Some}
 use Rattle.arbiter.specs.declared.Side.{Side}
 use Rattle.arbiter.specs.declared.Arbitration.{Arbitration}
 use Rattle.arbiter.specs.declared.Device.{Device}
@@ -95,7 +95,7 @@ cut_law tick d = cut_from_lem tick d.arb.turn d
 -- ---- the grant
 
 pub granted_arb_lem : (on : Bool) (m : Master) (g : Ground) (rt : ℕ) (a : Arbitration)
-    → arb_with (if on then Was m else a.last) a.initfail a.switch (if on then rt else a.reserve) (if on then Owns m g else a.turn)
+    → arb_with (if on then Some m else a.last) a.initfail a.switch (if on then rt else a.reserve) (if on then Owns m g else a.turn)
     ≡ (if on then granted_arb m g rt a else a)
 granted_arb_lem true m g rt a = refl
 granted_arb_lem false m g rt a = refl

@@ -9,10 +9,8 @@ use native.Mathlib.Omega.{arith}
 use borrow.Author.Tests.{ltb-true, leb-true, eqb-true, not-true}
 use Rattle.std.specs.Prelude.{◌+◌, ◌*◌, ◌&&◌, ◌∷◌, ◌++◌, if◌then◌else◌}
 use Rattle.ranges.specs.Names.{ℕ, Bool, true, false, not, List, [], eqb, ltb, Master, Kind, Pca9641, Tpt29641, Device, Raw, Pair}
-use Rattle.ranges.specs.Names.{Reads}
-use Rattle.arbiter.specs.declared.Strapped.{Strapped}
-use Rattle.arbiter.specs.declared.Strapped.TheVariants.{Address, Unlisted}
-use Rattle.arbiter.specs.declared.TraceRead.TheVariants.{Accepted, Refused}
+use Rattle.std.specs.Prelude.{Option, Some, None, Err}
+use Rattle.ranges.specs.Names.{Ok}
 use Rattle.arbiter.specs.declared.Refusal.TheVariants.{TraceCut}
 use Rattle.arbiter.specs.Rules.{rules_of}
 use Rattle.arbiter.specs.Words.{worth, byte_of}
@@ -28,7 +26,7 @@ use Rattle.arbiter.specs.AuditWords.{next, tick, ticks_in, never, throughout}
 use Rattle.arbiter.specs.Grounds.{ground_shown, chosen_by, GroundOfChoice, GroundStays, ContestIsPair}
 use Rattle.arbiter.specs.Hung.{scl_moves, ClockRuns, ClockNotHung}
 use Rattle.arbiter.specs.HungRows.{slow_clock}
-use Rattle.arbiter.specs.Traces.{event_bytes, pins_in, count_in, read_trace}
+use Rattle.arbiter.specs.Traces.{event_bytes, pins_in, count_in, read_trace, accepted_with}
 use Rattle.arbiter.specs.OldTraces.{old_number, converted, ConvertedAccepted, OldRefused}
 use Rattle.arbiter.specs.Marks.{lines}
 use Rattle.arbiter.specs.Witnesses.{all_met}
@@ -64,19 +62,19 @@ pub ground_stays_met : GroundStays → (k : Kind) (m : Master) (rs : List Raw) (
 ground_stays_met told k m rs r later t (mine, (still, _)) = told k m rs r later t mine still
 
 pub contest_is_pair_met : ContestIsPair → (k : Kind) (m : Master) (rs : List Raw) (r : Raw) → Holds (contest_is_pair k m rs r)
-    → (v0 : ℕ) × (v1 : ℕ) × (decode r ≡ Reads (Pair v0 v1))
+    → (v0 : ℕ) × (v1 : ℕ) × (decode r ≡ Ok (Pair v0 v1))
 contest_is_pair_met told k m rs r (made, (contest, _)) = told k m rs r made (not-true (eqb (ground_shown r (run k rs)) 1) contest)
 
-is_address_lem : (a : ℕ) (s : Strapped) → is_address a s ≡ true → s ≡ Address a
-is_address_lem a (Address b) h = ap Address (sym (eqb-true a b h))
-is_address_lem a Unlisted h = absurd (false≢true h)
+is_address_lem : (a : ℕ) (s : Option ℕ) → is_address a s ≡ true → s ≡ Some a
+is_address_lem a (Some b) h = ap Some (sym (eqb-true a b h))
+is_address_lem a None h = absurd (false≢true h)
 
 pub converted_accepted_met : ConvertedAccepted → (t : List ℕ) (room a : ℕ) → Holds (converted_accepted t room a)
-    → read_trace (converted t) room ≡ Accepted a (count_in t) Pca9641
+    → read_trace (converted t) room ≡ accepted_with a (count_in t) Pca9641
 converted_accepted_met told t room a (old, (strapped, (fits, _))) =
     (told t room a (eqb-true (old_number t) 0 old) (is_address_lem a (address_of (pins_in t)) strapped) (leb-true (event_bytes * count_in t) room fits)).0
 
-pub old_refused_met : OldRefused → (t : List ℕ) (room : ℕ) → Holds (old_refused t) → read_trace t room ≡ Refused TraceCut
+pub old_refused_met : OldRefused → (t : List ℕ) (room : ℕ) → Holds (old_refused t) → read_trace t room ≡ Err TraceCut
 old_refused_met told t room (old, _) = told t room (eqb-true (old_number t) 0 old)
 
 -- ---- a clock that runs: found in one pass, with the ticks counted since SCL's last change

@@ -3,8 +3,7 @@
 -- Assumes nothing.
 use Rattle.std.specs.Prelude.{◌≡◌, leb, ◌*◌, ◌∷◌, ◌++◌}
 use Rattle.ranges.specs.Names.{ℕ, Bool, true, false, not, List, [], eqb, Master, Kind, Device, Raw}
-use Rattle.arbiter.specs.declared.Strapped.{Strapped}
-use Rattle.arbiter.specs.declared.Strapped.TheVariants.{Address, Unlisted}
+use Rattle.std.specs.Prelude.{Option, Some, None}
 use Rattle.arbiter.specs.Words.{partner, of}
 use Rattle.arbiter.specs.Straps.{address_of}
 use Rattle.arbiter.specs.Steps.{run_from, run}
@@ -31,9 +30,9 @@ ground_stays k m rs r later t =
 abbrev pub contest_is_pair : Kind → Master → List Raw → Raw → List Bool
 contest_is_pair k m rs r = claim_made m r (run k rs) ∷ not (eqb (ground_shown r (run k rs)) 1) ∷ []
 
-abbrev pub is_address : ℕ → Strapped → Bool
-is_address a (Address b) = eqb a b
-is_address a Unlisted = false
+abbrev pub is_address : ℕ → Option ℕ → Bool
+is_address a (Some b) = eqb a b
+is_address a None = false
 
 abbrev pub converted_accepted : List ℕ → ℕ → ℕ → List Bool
 converted_accepted t room a = eqb (old_number t) 0 ∷ is_address a (address_of (pins_in t)) ∷ leb (event_bytes * count_in t) room ∷ []

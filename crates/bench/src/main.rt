@@ -9,13 +9,12 @@ ghost use Rattle.arbiter.specs.Listing.{head_line, answer_line, answer_lines, li
 ghost use Rattle.arbiter.specs.Traces.{most_events, raws_in, event_count};
 ghost use Rattle.format.specs.Places.{events_part, event_at, kind_in};
 
-use arbiter::{Answer, Device, Raw, TraceRead};
+use arbiter::{Accepted, Answer, Device, Raw, Refusal};
 use format::{ANSWER_ROOM, MOST_BYTES, count_in, event_at, events_in, kind_at, kind_of};
 use lent::step_lent;
-use printing::{print_listing, read_full};
+use printing::{Hex, print_listing, read_full};
 use std::io;
 use step::fresh;
-use text::{high_digit, low_digit};
 use traces::reading::read_trace;
 
 const NAME: &str = "bench";
@@ -26,36 +25,22 @@ fn print_head<W: io::Write>(out: &mut W, address: u8, n: usize) -> io::Result<()
     requires { n ≤ most_events }
     ensures { OnOk result (Appends (W.contents out.old) (W.contents out.new) (head_line address n)) }
 {
-    let h = (n / 256) as u8;
-    let l = (n % 256) as u8;
-    let line = [
-        high_digit(address),
-        low_digit(address),
-        b' ',
-        high_digit(h),
-        low_digit(h),
-        high_digit(l),
-        low_digit(l),
-        b'\n',
-    ];
-    out.write_all(&line)
+    let high = (n / 256) as u8;
+    let low = (n % 256) as u8;
+    writeln!(out, "{} {}{}", Hex(address), Hex(high), Hex(low))
 }
 
 fn print_answer<W: io::Write>(out: &mut W, a: Answer) -> io::Result<()>
     ensures { OnOk result (Appends (W.contents out.old) (W.contents out.new) (answer_line a)) }
 {
-    let line = [
-        high_digit(a.outcome),
-        low_digit(a.outcome),
-        high_digit(a.read),
-        low_digit(a.read),
-        high_digit(a.owner),
-        low_digit(a.owner),
-        high_digit(a.lines),
-        low_digit(a.lines),
-        b'\n',
-    ];
-    out.write_all(&line)
+    writeln!(
+        out,
+        "{}{}{}{}",
+        Hex(a.outcome),
+        Hex(a.read),
+        Hex(a.owner),
+        Hex(a.lines)
+    )
 }
 
 // ---- the standing device
@@ -75,7 +60,7 @@ fn event_of(t: &[u8], i: usize) -> Raw
 }
 
 // The first n events of a trace, each answered by a line. The device stands here from power-up on: each step has it lent, and leaves
-// the new state in it.
+// the new state in it. (n beside the trace: it is the count that the reader accepted, which the head prints too.)
 fn drive<W: io::Write>(out: &mut W, t: &[u8], n: usize) -> io::Result<Device>
     requires { n ≤ event_count (events_part t.now) }
     ensures device { IfOk result (λ d. d ≡ run (kind_in t.now) (raws_in n (events_part t.now))) }
@@ -83,12 +68,10 @@ fn drive<W: io::Write>(out: &mut W, t: &[u8], n: usize) -> io::Result<Device>
         (answer_lines (answers_from (power_up (kind_in t.now)) (raws_in n (events_part t.now))))) }
 {
     let mut standing = fresh_for(t);
-    let mut i: usize = 0;
-    while i < n {
+    for i in 0..n {
         let r = event_of(t, i);
         let a = step_lent(&mut standing, r);
         print_answer(out, a)?;
-        i += 1;
     }
     Ok(standing)
 }
@@ -111,8 +94,14 @@ fn print_trace<W: io::Write>(out: &mut W, t: &[u8]) -> io::Result<()>
 {
     let read = read_trace(t, ANSWER_ROOM);
     match read {
-        TraceRead::Refused(_) => print_listing(out, t),
-        TraceRead::Accepted(address, n, _) => print_accepted(out, t, address, n),
+        Err(_) => print_listing(out, t),
+        Ok(
+            Accepted {
+                address: address,
+                events: n,
+                kind: _,
+            },
+        ) => print_accepted(out, t, address, n),
     }
 }
 

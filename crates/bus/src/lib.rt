@@ -9,7 +9,7 @@ ghost use Rattle.arbiter.specs.Effects.{outside, ticked_bus};
 ghost use Rattle.arbiter.specs.Order.{busy_after, scl_changed, settled_bus};
 
 use arbiter::{Bus, SCL_HUNG_LIMIT, SDA_HUNG_LIMIT};
-use bits::{counted_u8, counted_u16, less_one, pick_u8, pick_u16};
+use bits::{counted, pick};
 
 pub fn scl_high(b: Bus) -> bool
     ensures { result ≡ scl_high b }
@@ -43,17 +43,12 @@ pub fn outside_of(scl: bool, sda: bool, intin: bool, b: Bus) -> Bus
         outscl: scl,
         outsda: sda,
         intin,
-        drivescl: b.drivescl,
-        drivesda: b.drivesda,
-        busy: b.busy,
-        hold: b.hold,
-        idle: b.idle,
-        lowscl: b.lowscl,
-        lowsda: b.lowsda,
+        ..b
     }
 }
 
 // A tick of the hold and of the counts, by the levels before it; the idle count stops at this limit.
+#[tactic(auto, using(crate::proofs::Bytes::counted_byte))]
 pub fn ticked_bus(limit: u8, b: Bus) -> Bus
     ensures { result ≡ ticked_bus limit b }
 {
@@ -61,16 +56,11 @@ pub fn ticked_bus(limit: u8, b: Bus) -> Bus
     let sda = sda_high(b);
     let idle = is_idle(b);
     Bus {
-        outscl: b.outscl,
-        outsda: b.outsda,
-        intin: b.intin,
-        drivescl: b.drivescl,
-        drivesda: b.drivesda,
-        busy: b.busy,
-        hold: less_one(b.hold),
-        idle: counted_u8(limit, idle, b.idle),
-        lowscl: counted_u16(SCL_HUNG_LIMIT, !scl, b.lowscl),
-        lowsda: counted_u16(SDA_HUNG_LIMIT, !sda, b.lowsda),
+        hold: b.hold.saturating_sub(1),
+        idle: counted(u16::from(limit), idle, u16::from(b.idle)) as u8,
+        lowscl: counted(SCL_HUNG_LIMIT, !scl, b.lowscl),
+        lowsda: counted(SDA_HUNG_LIMIT, !sda, b.lowsda),
+        ..b
     }
 }
 
@@ -93,16 +83,11 @@ pub fn settled_bus(before: Bus, b: Bus) -> Bus
     let was = scl_high(before);
     let busy = busy_after(before, b);
     Bus {
-        outscl: b.outscl,
-        outsda: b.outsda,
-        intin: b.intin,
-        drivescl: b.drivescl,
-        drivesda: b.drivesda,
         busy,
-        hold: b.hold,
-        idle: pick_u8(!busy & scl & sda, b.idle, 0),
-        lowscl: pick_u16(scl, 0, b.lowscl),
-        lowsda: pick_u16(sda | (was & !scl | !was & scl), 0, b.lowsda),
+        idle: pick(!busy & scl & sda, b.idle, 0),
+        lowscl: pick(scl, 0, b.lowscl),
+        lowsda: pick(sda | (was & !scl | !was & scl), 0, b.lowsda),
+        ..b
     }
 }
 
@@ -111,16 +96,9 @@ pub fn released_if(ended: bool, b: Bus) -> Bus
     ensures { result ≡ (if ended then released b else b) }
 {
     Bus {
-        outscl: b.outscl,
-        outsda: b.outsda,
-        intin: b.intin,
         drivescl: ended | b.drivescl,
         drivesda: ended | b.drivesda,
-        busy: b.busy,
-        hold: b.hold,
-        idle: b.idle,
-        lowscl: b.lowscl,
-        lowsda: b.lowsda,
+        ..b
     }
 }
 
@@ -129,15 +107,7 @@ pub fn idle_kept(kept: bool, b: Bus) -> Bus
     ensures { result ≡ with_idle (if kept then b.idle else 0) b }
 {
     Bus {
-        outscl: b.outscl,
-        outsda: b.outsda,
-        intin: b.intin,
-        drivescl: b.drivescl,
-        drivesda: b.drivesda,
-        busy: b.busy,
-        hold: b.hold,
-        idle: pick_u8(kept, b.idle, 0),
-        lowscl: b.lowscl,
-        lowsda: b.lowsda,
+        idle: pick(kept, b.idle, 0),
+        ..b
     }
 }

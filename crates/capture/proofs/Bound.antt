@@ -9,10 +9,10 @@ use native.Mathlib.Omega.{arith}
 use lib.ListN.{length-append, length-map}
 use borrow.Author.Tests.{ltb-false}
 use Rattle.arbiter.proofs.Choice.{either, split}
-use Rattle.std.specs.Prelude.{◌+◌, ◌*◌, ◌&&◌, ◌||◌, ◌∷◌, if◌then◌else◌}
+use Rattle.std.specs.Prelude.{◌+◌, ◌*◌, ◌&&◌, ◌||◌, ◌∷◌, if◌then◌else◌, Option, Some, None}
 use Rattle.capture.specs.Names.{ℕ, Bool, true, false, not, List, [], map, ltb, length, Master, Zero, One, Stop}
 use Rattle.capture.specs.Names.{Levels, Sign, Steady, Starts, Stops, Clocks, Awaited, NoByte, AddressByte, CommandByte, WriteByte, ReadByte, CallByte}
-use Rattle.capture.specs.Names.{SkippedByte, Listener, Given, Nothing, Written, Gives}
+use Rattle.capture.specs.Names.{SkippedByte, Listener, Given, Written, Gives}
 use Rattle.capture.specs.OneBus.{levels, is_start, is_stop, rises, sign, signs_after, signs, addressed, awaited_after, byte_gives, owes, is_outside, silent}
 use Rattle.capture.specs.OneBus.{started, stopped, shifted, ended, at_clock, heard, gives, given_from, given}
 use Rattle.capture.specs.Events.{from_one, beside_write, together, merged, captured}
@@ -38,10 +38,10 @@ low scl = if scl then 0 else 1
 abbrev weight : Levels → Listener → ℕ
 weight now l = l.clocks * 2 + low now.scl + kept l.owed l.awaited
 
-abbrev count : Given → ℕ
-count Nothing = 0
-count (Written v) = 1
-count (Gives e) = 1
+abbrev count : Option Given → ℕ
+count None = 0
+count (Some (Written v)) = 1
+count (Some (Gives e)) = 1
 
 low_most : (b : Bool) → low b ≤ 1
 low_most true = omega arith
@@ -81,10 +81,10 @@ stops_fair : (m : Master) (address : ℕ) (was now : Levels) (l : Listener) → 
 unfolding heard gives stopped
 stops_fair m address was now l h =
     let e : low now.scl ≡ 0 = ap low h in
-    let k : count (if l.owed then Gives (Stop m) else Nothing) * 18 ≤ kept l.owed l.awaited = go l.owed l.awaited in
+    let k : count (if l.owed then Some (Gives (Stop m)) else None) * 18 ≤ kept l.owed l.awaited = go l.owed l.awaited in
     omega (arith, e, k)
   where
-    go : (o : Bool) (p : Awaited) → count (if o then Gives (Stop m) else Nothing) * 18 ≤ kept o p
+    go : (o : Bool) (p : Awaited) → count (if o then Some (Gives (Stop m)) else None) * 18 ≤ kept o p
     go true p = omega arith
     go false p = omega arith
 
@@ -165,7 +165,7 @@ sample_fair m address was now l =
 
 -- ---- a capture on one bus: eighteen samples an event
 
-abbrev counts : List Given → ℕ
+abbrev counts : List (Option Given) → ℕ
 counts [] = 0
 counts (g ∷ gs) = count g + counts gs
 
@@ -184,23 +184,23 @@ bus_fair m address (first ∷ rest) =
 
 -- ---- both buses: a PAIR is one event
 
-beside_few : (v : ℕ) (h : Given) → length (beside_write v h) ≤ 1 + count h
-beside_few v Nothing = omega arith
-beside_few v (Written u) = omega arith
-beside_few v (Gives e) = omega arith
+beside_few : (v : ℕ) (h : Option Given) → length (beside_write v h) ≤ 1 + count h
+beside_few v None = omega arith
+beside_few v (Some (Written u)) = omega arith
+beside_few v (Some (Gives e)) = omega arith
 
-one_few : (h : Given) → length (from_one h) ≤ count h
-one_few Nothing = omega arith
-one_few (Written v) = omega arith
-one_few (Gives e) = omega arith
+one_few : (h : Option Given) → length (from_one h) ≤ count h
+one_few None = omega arith
+one_few (Some (Written v)) = omega arith
+one_few (Some (Gives e)) = omega arith
 
-together_few : (g h : Given) → length (together g h) ≤ count g + count h
+together_few : (g h : Option Given) → length (together g h) ≤ count g + count h
 unfolding together
-together_few Nothing h = omega (arith, one_few h)
-together_few (Written v) h = omega (arith, beside_few v h)
-together_few (Gives e) h = omega (arith, one_few h)
+together_few None h = omega (arith, one_few h)
+together_few (Some (Written v)) h = omega (arith, beside_few v h)
+together_few (Some (Gives e)) h = omega (arith, one_few h)
 
-merged_few : (gs hs : List Given) → length (merged gs hs) ≤ counts gs + counts hs
+merged_few : (gs hs : List (Option Given)) → length (merged gs hs) ≤ counts gs + counts hs
 unfolding merged
 merged_few [] hs = omega arith
 merged_few (g ∷ gs) [] = omega arith

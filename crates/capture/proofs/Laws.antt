@@ -1,13 +1,14 @@
 -- Laws of `capture`: what an auditor may want of any capture: bits 4 to 7 play no part, each bus is heard by itself, and a sample that only
 -- repeats the one before it changes nothing.
 -- Assumes nothing.
+use Rattle.std.specs.Prelude.{None}
 use Prim.Native.Nat.{ℕ, ◌/◌, ◌%◌}
 use mathlib.Core.Path.{◌≡◌, refl, sym, ap, ◌∙◌}
 use mathlib.Core.Bool.{Bool, true, false, ◌||◌}
 use mathlib.Core.List.{List, [], ◌∷◌, ◌++◌, map}
 use native.Mathlib.Omega.{arith}
 use lib.Dec.{eqb}
-use Rattle.capture.specs.Names.{Master, Zero, One, Event, Levels, Steady, Nothing, Both, Heard}
+use Rattle.capture.specs.Names.{Master, Zero, One, Event, Levels, Steady, Both, Heard}
 use Rattle.capture.specs.OneBus.{levels, sign, signs, heard_from, given_from, given, heard, gives, silent, is_cut, cut_on}
 use Rattle.capture.specs.Events.{together, merged, captured}
 use Rattle.capture.specs.Import.{cut_on_either}
@@ -65,7 +66,7 @@ same_steady l = go l.scl l.sda
     go false true = refl
     go false false = refl
 
-again : (address x : ℕ) (s : Both) → sampled address x x s ≡ record { both = s; given0 = Nothing; given1 = Nothing }
+again : (address x : ℕ) (s : Both) → sampled address x x s ≡ record { both = s; given0 = None; given1 = None }
 unfolding sampled heard gives
 again address x s = rw (same_steady (levels Zero x), same_steady (levels One x)) refl
 

@@ -4,7 +4,7 @@
 use Rattle.std.specs.Prelude.{◌-◌, ◌≤◌, ◌≡◌, ◌*◌, ◌%◌, ◌||◌, ◌∷◌, ◌++◌}
 use Rattle.arbiter.specs.Events.{decode}
 use Rattle.arbiter.specs.Traces.{most_events}
-use Rattle.arbiter.specs.declared.Decoded.TheVariants.{Reads}
+use Rattle.std.specs.Prelude.{Ok}
 use Rattle.capture.specs.Names.{ℕ, List, map, length, Master, Event}
 use Rattle.capture.specs.OneBus.{levels, given, is_cut, cut_on}
 use Rattle.capture.specs.Events.{captured, raw_of}
@@ -69,7 +69,7 @@ CutJoined =
 -- ---- the four bytes of an event read as that event
 
 abbrev pub EventsReadBack : Type 0
-EventsReadBack = (e : Event) → decode (raw_of e) ≡ Reads e
+EventsReadBack = (e : Event) → decode (raw_of e) ≡ Ok e
 
 pub record Answers : Type 0 where
   pub nine_samples : NineSamples

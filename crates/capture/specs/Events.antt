@@ -1,31 +1,31 @@
 -- Request 104, both buses: how what they give is put in order and paired, and the four bytes of an event.
 -- Assumes nothing.
-use Rattle.std.specs.Prelude.{◌∷◌, ◌++◌}
-use Rattle.capture.specs.Names.{ℕ, List, [], worth, of, Master, Zero, One, Raw, Event, Command, Write, Read, Stop, Pair, Lines, Tick, Pulse, Reset, GeneralCall, Given, Nothing, Written, Gives}
+use Rattle.std.specs.Prelude.{◌∷◌, ◌++◌, Option, Some, None}
+use Rattle.capture.specs.Names.{ℕ, List, [], worth, of, Master, Zero, One, Raw, Event, Command, Write, Read, Stop, Pair, Lines, Tick, Pulse, Reset, GeneralCall, Given, Written, Gives}
 use Rattle.arbiter.specs.Marks.{raw, command, write, read, stop, pair, lines, tick, pulse}
 use Rattle.capture.specs.OneBus.{given}
 
 -- ---- one sample: "Two data writes in one sample become PAIR; otherwise master 0 comes first."
 
-abbrev pub from_one : Given → List Event
-from_one Nothing = []
-from_one (Written v) = Write One v ∷ []
-from_one (Gives e) = e ∷ []
+abbrev pub from_one : Option Given → List Event
+from_one None = []
+from_one (Some (Written v)) = Write One v ∷ []
+from_one (Some (Gives e)) = e ∷ []
 
-abbrev pub beside_write : ℕ → Given → List Event
-beside_write v Nothing = Write Zero v ∷ []
-beside_write v (Written u) = Pair v u ∷ []
-beside_write v (Gives e) = Write Zero v ∷ e ∷ []
+abbrev pub beside_write : ℕ → Option Given → List Event
+beside_write v None = Write Zero v ∷ []
+beside_write v (Some (Written u)) = Pair v u ∷ []
+beside_write v (Some (Gives e)) = Write Zero v ∷ e ∷ []
 
 -- what the buses of masters 0 and 1 give
-unfoldable pub together : Given → Given → List Event
-together Nothing h = from_one h
-together (Written v) h = beside_write v h
-together (Gives e) h = e ∷ from_one h
+unfoldable pub together : Option Given → Option Given → List Event
+together None h = from_one h
+together (Some (Written v)) h = beside_write v h
+together (Some (Gives e)) h = e ∷ from_one h
 
 -- ---- all samples; both lists have one element a sample
 
-unfoldable pub merged : List Given → List Given → List Event
+unfoldable pub merged : List (Option Given) → List (Option Given) → List Event
 merged [] hs = []
 merged (g ∷ gs) [] = []
 merged (g ∷ gs) (h ∷ hs) = together g h ++ merged gs hs

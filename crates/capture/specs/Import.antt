@@ -1,7 +1,7 @@
 -- Request 104, the call: its refusals in their order, its answer, and what the lent buffer holds after it.
 -- Assumes nothing.
-use Rattle.std.specs.Prelude.{◌*◌, ◌||◌, ◌++◌, if◌then◌else◌}
-use Rattle.capture.specs.Names.{ℕ, Bool, not, List, eqb, ltb, length, drop, Zero, One, Imported}
+use Rattle.std.specs.Prelude.{◌*◌, ◌||◌, ◌++◌, if◌then◌else◌, Result, Ok, Err}
+use Rattle.capture.specs.Names.{ℕ, Bool, not, List, eqb, ltb, length, drop, Zero, One, ImportFault, TooLong, BadAddress, Cut, NoRoom}
 use Rattle.arbiter.specs.Straps.{in_range}
 use Rattle.capture.specs.OneBus.{cut_on}
 use Rattle.capture.specs.Events.{captured, event_bytes}
@@ -23,6 +23,11 @@ import_number address samples room =
     else if ltb room (4 * length (captured address samples)) then 9
     else 0
 
+-- what an import answers beside the events: the number, and how many events there are
+pub record Imported : Type 0 where
+  pub number : ℕ
+  pub count : ℕ
+
 -- by the number: "Refusals, nothing written", and no events then
 abbrev pub imported_by : ℕ → ℕ → List ℕ → Imported
 imported_by number address samples =
@@ -38,3 +43,15 @@ imported address samples buffer = imported_by (import_number address samples (le
 
 unfoldable pub imported_buffer : ℕ → List ℕ → List ℕ → List ℕ
 imported_buffer address samples buffer = buffer_by (import_number address samples (length buffer)) address samples buffer
+
+-- ---- what the call hands back: how many events, or why there are none
+
+abbrev pub refusal_number : ImportFault → ℕ
+refusal_number TooLong = 13
+refusal_number BadAddress = 11
+refusal_number Cut = 12
+refusal_number NoRoom = 9
+
+abbrev pub import_told : Result ℕ ImportFault → Imported
+import_told (Ok n) = record { number = 0; count = n }
+import_told (Err f) = record { number = refusal_number f; count = 0 }

@@ -15,7 +15,8 @@ pub use Rattle.capture.specs.declared.Awaited.{Awaited}
 pub use Rattle.capture.specs.declared.Awaited.TheVariants.{NoByte, AddressByte, CommandByte, WriteByte, ReadByte, CallByte, SkippedByte}
 pub use Rattle.capture.specs.declared.Listener.{Listener}
 pub use Rattle.capture.specs.declared.Given.{Given}
-pub use Rattle.capture.specs.declared.Given.TheVariants.{Nothing, Written, Gives}
+pub use Rattle.capture.specs.declared.Given.TheVariants.{Written, Gives}
 pub use Rattle.capture.specs.declared.Both.{Both}
 pub use Rattle.capture.specs.declared.Heard.{Heard}
-pub use Rattle.capture.specs.declared.Imported.{Imported}
+pub use Rattle.capture.specs.declared.ImportFault.{ImportFault}
+pub use Rattle.capture.specs.declared.ImportFault.TheVariants.{TooLong, BadAddress, Cut, NoRoom}

@@ -1,8 +1,8 @@
 -- Request 104, one bus by itself: a sample's levels, what two samples after each other show, the nine-clock byte, whom a transfer is for, and
 -- what each sample gives.
 -- Assumes nothing.
-use Rattle.std.specs.Prelude.{◌+◌, ◌*◌, ◌/◌, ◌%◌, ◌&&◌, ◌||◌, ◌∷◌, if◌then◌else◌}
-use Rattle.capture.specs.Names.{ℕ, Bool, true, false, not, List, [], map, eqb, ltb, bit, worth, of, Master, Command, Read, Stop, GeneralCall, Levels, Sign, Steady, Starts, Stops, Clocks, Awaited, NoByte, AddressByte, CommandByte, WriteByte, ReadByte, CallByte, SkippedByte, Listener, Given, Nothing, Written, Gives}
+use Rattle.std.specs.Prelude.{◌+◌, ◌*◌, ◌/◌, ◌%◌, ◌&&◌, ◌||◌, ◌∷◌, if◌then◌else◌, Option, Some, None}
+use Rattle.capture.specs.Names.{ℕ, Bool, true, false, not, List, [], map, eqb, ltb, bit, worth, of, Master, Command, Read, Stop, GeneralCall, Levels, Sign, Steady, Starts, Stops, Clocks, Awaited, NoByte, AddressByte, CommandByte, WriteByte, ReadByte, CallByte, SkippedByte, Listener, Given, Written, Gives}
 
 -- ---- samples: "one byte a sample, bits 0 to 3 being SCL0, SDA0, SCL1, SDA1 .. bits 4 to 7 are ignored"
 
@@ -60,14 +60,14 @@ awaited_after address ReadByte v = ReadByte
 awaited_after address CallByte v = SkippedByte
 awaited_after address SkippedByte v = SkippedByte
 
-unfoldable pub byte_gives : Master → Awaited → ℕ → Given
-byte_gives m NoByte v = Nothing
-byte_gives m AddressByte v = Nothing
-byte_gives m CommandByte v = Gives (Command m v)
-byte_gives m WriteByte v = Written v
-byte_gives m ReadByte v = Gives (Read m)
-byte_gives m CallByte v = Gives (GeneralCall m v)
-byte_gives m SkippedByte v = Nothing
+unfoldable pub byte_gives : Master → Awaited → ℕ → Option Given
+byte_gives m NoByte v = None
+byte_gives m AddressByte v = None
+byte_gives m CommandByte v = Some (Gives (Command m v))
+byte_gives m WriteByte v = Some (Written v)
+byte_gives m ReadByte v = Some (Gives (Read m))
+byte_gives m CallByte v = Some (Gives (GeneralCall m v))
+byte_gives m SkippedByte v = None
 
 -- "STOP is given only after a COMMAND or READ since that master's last STOP."
 unfoldable pub owes : Awaited → Bool
@@ -131,11 +131,11 @@ heard address Stops l = stopped l
 heard address (Clocks b) l = at_clock address b l
 
 -- "Events stand at the ninth rising clock, STOP at its sample."
-unfoldable pub gives : Master → Sign → Listener → Given
-gives m Steady l = Nothing
-gives m Starts l = Nothing
-gives m Stops l = if l.owed then Gives (Stop m) else Nothing
-gives m (Clocks b) l = if ltb l.clocks 8 then Nothing else byte_gives m l.awaited l.value
+unfoldable pub gives : Master → Sign → Listener → Option Given
+gives m Steady l = None
+gives m Starts l = None
+gives m Stops l = if l.owed then Some (Gives (Stop m)) else None
+gives m (Clocks b) l = if ltb l.clocks 8 then None else byte_gives m l.awaited l.value
 
 -- ---- a whole capture on m's bus
 
@@ -146,12 +146,12 @@ unfoldable pub heard_from : ℕ → Listener → List Sign → Listener
 heard_from address l [] = l
 heard_from address l (s ∷ rest) = heard_from address (heard address s l) rest
 
-unfoldable pub given_from : Master → ℕ → Listener → List Sign → List Given
+unfoldable pub given_from : Master → ℕ → Listener → List Sign → List (Option Given)
 given_from m address l [] = []
 given_from m address l (s ∷ rest) = gives m s l ∷ given_from m address (heard address s l) rest
 
 -- what each sample after the first gives
-unfoldable pub given : Master → ℕ → List ℕ → List Given
+unfoldable pub given : Master → ℕ → List ℕ → List (Option Given)
 given m address samples = given_from m address silent (signs_on m samples)
 
 -- "a START or STOP inside a byte, or the capture ending inside one"

@@ -9,20 +9,13 @@ ghost use Rattle.connection.specs.Quiet.{linked, switch_stays};
 ghost use Rattle.connection.specs.Links.{still, joining, clocking, linking, link_of, contr_ended, arb_linked};
 
 use arbiter::{Arbitration, Clock, Control, Device, Master, Side, Switch, Turn};
-use fields::{
-    arb_with, device_with, is_apart, last_of, owns_turn, pointer_of, port_of, same_master,
-    side_with, switch_of, turn_of,
-};
+use fields::{is_apart, owns_turn, side_of};
 
 // An initialisation runs.
 pub fn initialises(w: Switch) -> bool
     ensures { result ≡ is_initialising w }
 {
-    match w {
-        Switch::Apart => false,
-        Switch::Initialising(_, _) => true,
-        Switch::Closed(_) => false,
-    }
+    matches!(w, Switch::Initialising(_, _))
 }
 
 // What becomes of the switch: an initialisation starts, ends, or ends in failure.
@@ -87,17 +80,18 @@ fn clocking_by(c: Clock, m: Master, n: u8, w: Switch) -> Link
 }
 
 // Grant and BUS_CONNECT are both true of m, and the switch was w.
+#[tactic(auto, unfolding(crate::specs::Links::linking))]
 fn linking_by(c: Clock, m: Master, businit: bool, w: Switch) -> Link
     ensures { result ≡ linking c m businit w }
 {
     match w {
         Switch::Apart => joining_by(m, businit),
-        Switch::Initialising(k, n) => if same_master(m, k) {
+        Switch::Initialising(k, n) => if m == k {
             clocking_by(c, m, n, w)
         } else {
             joining_by(m, businit)
         },
-        Switch::Closed(k) => if same_master(m, k) {
+        Switch::Closed(k) => if m == k {
             still_at(w)
         } else {
             joining_by(m, businit)
@@ -105,24 +99,23 @@ fn linking_by(c: Clock, m: Master, businit: bool, w: Switch) -> Link
     }
 }
 
+#[tactic(auto, unfolding(crate::specs::Links::link_of))]
 fn link_of(c: Clock, t: Turn, c0: Control, c1: Control, w: Switch) -> Link
     ensures { result ≡ link_of c t c0 c1 w }
 {
     match t {
-        Turn::Nobody => still_at(Switch::Apart),
-        Turn::Claims(_, _) => still_at(Switch::Apart),
-        Turn::Owns(m, _) => match m {
-            Master::Zero => if c0.busconnect {
-                linking_by(c, m, c0.businit, w)
+        Turn::Nobody | Turn::Claims(_, _) => still_at(Switch::Apart),
+        Turn::Owns(m, _) => {
+            let contr = match m {
+                Master::Zero => c0,
+                Master::One => c1,
+            };
+            if contr.busconnect {
+                linking_by(c, m, contr.businit, w)
             } else {
                 still_at(Switch::Apart)
-            },
-            Master::One => if c1.busconnect {
-                linking_by(c, m, c1.businit, w)
-            } else {
-                still_at(Switch::Apart)
-            },
-        },
+            }
+        }
     }
 }
 
@@ -130,13 +123,9 @@ fn ended_contr(ends: bool, fails: bool, c: Control) -> Control
     ensures { result ≡ contr_ended ends fails c }
 {
     Control {
-        priority: c.priority,
-        smbusdis: c.smbusdis,
-        idletimer: c.idletimer,
-        swrst: c.swrst,
         businit: !ends & c.businit,
         busconnect: !fails & c.busconnect,
-        lockreq: c.lockreq,
+        ..c
     }
 }
 
@@ -144,50 +133,36 @@ fn ended_contr(ends: bool, fails: bool, c: Control) -> Control
 fn ended_side(ends: bool, fails: bool, s: Side) -> Side
     ensures { result ≡ with_contr (contr_ended ends fails s.contr) s }
 {
-    side_with(
-        pointer_of(s),
-        s.rt,
-        ended_contr(ends, fails, s.contr),
-        s.ints,
-        s.mail,
-        s.auto,
-        port_of(s),
-        s.mask,
-    )
+    Side {
+        contr: ended_contr(ends, fails, s.contr),
+        ..s
+    }
 }
 
 fn linked_arb(l: Link, a: Arbitration) -> Arbitration
     ensures { result ≡ arb_linked l a }
 {
     let switch = l.switch;
-    arb_with(
-        last_of(a),
-        !l.starts & (l.fails | a.initfail),
+    Arbitration {
+        initfail: !l.starts & (l.fails | a.initfail),
         switch,
-        a.reserve,
-        turn_of(a),
-    )
+        ..a
+    }
 }
 
+#[tactic(auto, using(crate::proofs::Laws::connect_law), unfolding(arbiter::specs::Order::connect))]
 pub fn connect_of(c: Clock, d: Device) -> Device
     ensures { result ≡ connect c d }
 {
-    let owns0 = owns_turn(Master::Zero, turn_of(d.arb));
-    let owns1 = owns_turn(Master::One, turn_of(d.arb));
-    let l = link_of(
-        c,
-        turn_of(d.arb),
-        d.side0.contr,
-        d.side1.contr,
-        switch_of(d.arb),
-    );
-    device_with(
-        ended_side(owns0 & l.ends, owns0 & l.fails, d.side0),
-        ended_side(owns1 & l.ends, owns1 & l.fails, d.side1),
-        d.bus,
-        linked_arb(l, d.arb),
-        d,
-    )
+    let owns0 = owns_turn(Master::Zero, d.arb.turn);
+    let owns1 = owns_turn(Master::One, d.arb.turn);
+    let l = link_of(c, d.arb.turn, d.side0.contr, d.side1.contr, d.arb.switch);
+    Device {
+        side0: ended_side(owns0 & l.ends, owns0 & l.fails, d.side0),
+        side1: ended_side(owns1 & l.ends, owns1 & l.fails, d.side1),
+        arb: linked_arb(l, d.arb),
+        ..d
+    }
 }
 
 // ---- when part 7 has nothing to do
@@ -198,8 +173,7 @@ fn is_linked(m: Master, busconnect: bool, w: Switch) -> bool
 {
     match w {
         Switch::Apart => !busconnect,
-        Switch::Initialising(k, _) => busconnect & same_master(m, k),
-        Switch::Closed(k) => busconnect & same_master(m, k),
+        Switch::Initialising(k, _) | Switch::Closed(k) => busconnect & (k == m),
     }
 }
 
@@ -208,11 +182,7 @@ pub fn switch_stays(t: Turn, d: Device) -> bool
     ensures { result ≡ switch_stays t d }
 {
     match t {
-        Turn::Nobody => is_apart(switch_of(d.arb)),
-        Turn::Claims(_, _) => is_apart(switch_of(d.arb)),
-        Turn::Owns(m, _) => match m {
-            Master::Zero => is_linked(m, d.side0.contr.busconnect, switch_of(d.arb)),
-            Master::One => is_linked(m, d.side1.contr.busconnect, switch_of(d.arb)),
-        },
+        Turn::Nobody | Turn::Claims(_, _) => is_apart(d.arb.switch),
+        Turn::Owns(m, _) => is_linked(m, side_of(m, d).contr.busconnect, d.arb.switch),
     }
 }

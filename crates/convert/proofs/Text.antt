@@ -1,44 +1,26 @@
 -- The text that is written, from what the call answers: the program's buffer has room for every converted trace, so a trace is refused by its own
--- number alone, which is 10 at most.
+-- number alone.
 -- Assumes nothing.
-use Rattle.std.proofs.Common.{arith, ℕ, ◌≤◌, ◌<◌, ◌≡◌, refl, sym, ap, ◌∙◌, subst, List, length, take, drop, Bool, true, false, not, eqb, ltb, None, Some}
+use Rattle.std.proofs.Common.{arith, ℕ, ◌≤◌, ◌<◌, ◌≡◌, refl, sym, ap, ◌∙◌, subst, List, ◌∷◌}
+use Rattle.std.proofs.Common.{◌++◌, length, take, drop, Bool, true, false, not, eqb, ltb, None, Some}
 use Rattle.std.proofs.Common.{IfSome, Result, Ok, Err, OnOk}
 use Rattle.std.specs.declared.option.Option.{Option}
 use Rattle.std.specs.Io.KnownBytes.{Appends}
 use Rattle.std.proofs.lemmas.List.{take_at}
 use borrow.Author.Tests.{eq-eqb, ne_eqb, le-ltb, eqb-true, eqb-false}
 use Rattle.std.specs.Prelude.{if◌then◌else◌}
-use Rattle.arbiter.specs.Straps.{address_of}
-use Rattle.arbiter.specs.Traces.{pin_count, pin_bytes, head_bytes, most_events, events_end, most_bytes, byte_at, pins_in, count_in}
-use Rattle.arbiter.specs.OldTraces.{old_counted, old_strapped, old_number, converted, converted_number, converted_bytes, conversion, buffer_converted}
-use Rattle.arbiter.specs.declared.Written.{Written}
-use Rattle.arbiter.specs.declared.Strapped.{Strapped}
-use Rattle.arbiter.specs.declared.Strapped.TheVariants.{Address, Unlisted}
+use Rattle.std.specs.Fmt
+use Rattle.arbiter.specs.Traces.{most_bytes, refusal_number}
+use Rattle.arbiter.specs.Listing.{decimal, newline}
+use Rattle.arbiter.specs.OldTraces.{old_number, converted, converted_number, converted_bytes, conversion, buffer_converted}
+use Rattle.arbiter.specs.Types.{Written}
+use Rattle.arbiter.specs.declared.Refusal.{Refusal}
+use Rattle.arbiter.specs.declared.Refusal.TheVariants.{TraceCut, TooManyEvents, BytesAfterEnd, BadStraps, NoRoom, BadCount, UnknownPart}
+use Rattle.format.specs.Refused.{written_of}
+use Rattle.format.proofs.Refused.{some_number}
 use Rattle.arbiter.proofs.Choice.{split}
 use Rattle.converter.proofs.Laws.{conversion_few}
 use Rattle.convert.specs.Text.{refused_line, conversion_text}
-
-either : (b : Bool) (x y : ℕ) → x ≤ 10 → y ≤ 10 → (if b then x else y) ≤ 10
-either true x y h k = h
-either false x y h k = k
-
-counted_few : (t : List ℕ) → old_counted t ≤ 10
-counted_few t =
-    either (ltb (length t) head_bytes) 5 _ (omega arith)
-    (either (ltb most_events (count_in t)) 6 _ (omega arith)
-    (either (ltb (length t) (events_end (count_in t))) 5 _ (omega arith)
-    (either (ltb (events_end (count_in t)) (length t)) 7 0 (omega arith) (omega arith))))
-
-strapped_few : (s : Strapped) (t : List ℕ) → old_strapped s t ≤ 10
-strapped_few (Address a) t = counted_few t
-strapped_few Unlisted t = omega arith
-
-pub number_few : (t : List ℕ) → old_number t ≤ 10
-unfolding old_number
-number_few t =
-    either (ltb (length t) 1) 5 _ (omega arith)
-    (either (not (eqb (byte_at 0 t) pin_count)) 10 _ (omega arith)
-    (either (ltb (length t) pin_bytes) 5 _ (omega arith) (strapped_few (address_of (pins_in t)) t)))
 
 -- a call with room for the converted trace does it, so the bound on what a call writes is one on the trace
 fits : (t : List ℕ) → old_number t ≡ 0 → length (converted t) ≤ most_bytes
@@ -75,28 +57,39 @@ module _ (t out : List ℕ) (room : length out ≡ most_bytes) where
       let text : conversion_text t ≡ refused_line (old_number t) = simp (ne_eqb _ _ (λ (e : old_number t ≡ 0). h (number_is ∙ e))) in
       ap refused_line number_is ∙ sym text
 
-  few : (conversion t out).number ≤ 10
-  unfolding conversion
-  few = let small = number_few t in omega (arith, number_is, small)
-
   -- what the call answers is written out: the front of the buffer, or the line of the refusal
-  pub text_written : {T E : Type 0} (r : Result T E) (x y : Option (List ℕ)) (w : Written) (after : List ℕ) → w ≡ conversion t out → after
-      ≡ buffer_converted t out
-      → (w.number ≡ 0 → OnOk r (Appends x y (take w.length after))) → (0 < w.number → w.number ≤ 10 → OnOk r (Appends x y (refused_line w.number)))
-      → OnOk r (Appends x y (conversion_text t))
-  text_written r x y w after e f none refused =
-      split (eqb w.number 0)
-      (λ z.
-      let zero = eqb-true _ _ z in
-      let front : take w.length after ≡ conversion_text t =
-      ap (λ (v : Written). take v.length after) e ∙ ap (take (conversion t out).length) f ∙ text_if_none (sym (ap (λ (v : Written). v.number) e) ∙ zero) in
-      subst (λ (l : List ℕ). OnOk r (Appends x y l)) front (none zero))
-      (λ z.
-      let other = eqb-false _ _ z in
-      let same : w.number ≡ (conversion t out).number = ap (λ (v : Written). v.number) e in
-      let small : w.number ≤ 10 = omega (arith, same, few) in
-      let line : refused_line w.number ≡ conversion_text t = ap refused_line same ∙ text_if_refused (λ (k : (conversion t out).number ≡ 0). other (same ∙ k)) in
-      subst (λ (l : List ℕ). OnOk r (Appends x y l)) line (refused (omega (arith, other)) small))
+  module _ (x : Result ℕ Refusal) (told : written_of x ≡ conversion t out) where
+    pub length_fits : (n : ℕ) → x ≡ Ok n → n ≤ most_bytes
+    length_fits n is =
+        let few = conversion_few t out in
+        let same : n ≡ (conversion t out).length = ap (λ (w : Written). w.length) (ap written_of (sym is) ∙ told) in
+        omega (arith, same, few)
+
+    pub text_of_written : (n : ℕ) (after : List ℕ) → x ≡ Ok n → after ≡ buffer_converted t out → take n after ≡ conversion_text t
+    text_of_written n after is left =
+        let same : record { number = 0; length = n } ≡ conversion t out = ap written_of (sym is) ∙ told in
+        ap (λ (w : Written). take w.length after) same
+        ∙ ap (take (conversion t out).length) left
+        ∙ text_if_none (sym (ap (λ (w : Written). w.number) same))
+
+    pub text_of_refusal : (r : Refusal) → x ≡ Err r → refused_line (refusal_number r) ≡ conversion_text t
+    text_of_refusal r is =
+        let same : refusal_number r ≡ (conversion t out).number = ap (λ (w : Written). w.number) (ap written_of (sym is) ∙ told) in
+        ap refused_line same ∙ text_if_refused (λ (z : (conversion t out).number ≡ 0). some_number r (same ∙ z))
+
+-- a number is printed as document 01 writes it
+digits_of : (r : Refusal) → Fmt.decimal (refusal_number r) ≡ decimal (refusal_number r)
+unfolding Fmt.digits
+digits_of TraceCut = refl
+digits_of TooManyEvents = refl
+digits_of BytesAfterEnd = refl
+digits_of BadStraps = refl
+digits_of NoRoom = refl
+digits_of BadCount = refl
+digits_of UnknownPart = refl
+
+pub line_of : (n : ℕ) (r : Refusal) → n ≡ refusal_number r → 0x52 ∷ Fmt.decimal n ++ newline ≡ refused_line (refusal_number r)
+line_of n r e = ap (λ (k : ℕ). 0x52 ∷ Fmt.decimal k ++ newline) e ∙ ap (λ (l : List ℕ). 0x52 ∷ l ++ newline) (digits_of r)
 
 -- where the bytes of a stream are known, what was read are its first ones
 pub text_of_input : {T E : Type 0} (r : Result T E) (a : Option (List ℕ)) (bs : List ℕ) (room : ℕ) (x y : Option (List ℕ)) → room ≡ most_bytes

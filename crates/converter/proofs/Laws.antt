@@ -11,12 +11,14 @@ use lib.Seq.{take_at, drop-append-add, drop-drop}
 use borrow.Author.Tests.{eq-eqb, ne_eqb, eqb-true, eqb-false, ltb-false, le-ltb}
 use Rattle.arbiter.specs.declared.Kind.TheVariants.{Pca9641}
 use Rattle.std.specs.Prelude.{if◌then◌else◌}
-use Rattle.arbiter.specs.Traces.{most_bytes, kind_bytes, events_end, whole_bytes, kind_section, count_in}
+use Rattle.arbiter.specs.Traces.{most_bytes, kind_bytes, events_end, whole_bytes, kind_section, count_in, refusal_number}
 use Rattle.arbiter.specs.OldTraces.{old_number, converted, converted_number, converted_bytes, conversion, buffer_converted}
-use Rattle.arbiter.specs.declared.Written.{Written}
+use Rattle.arbiter.specs.declared.Refusal.{Refusal}
+use Rattle.arbiter.specs.Types.{Written}
 use Rattle.arbiter.proofs.Choice.{passed}
 use Rattle.arbiter.proofs.OldTraces.{Whole, old_whole}
 use Rattle.format.specs.Places.{with_bytes, with_kind}
+use Rattle.format.proofs.Refused.{some_number}
 
 -- ---- a number of 0 has passed every test
 
@@ -33,17 +35,17 @@ zero_fits t room h =
 
 -- ---- refused: nothing is written
 
-module _ (t out : List ℕ) (number : ℕ) (told : number ≡ converted_number t (length out)) (refused : number ≡ 0 → ⊥) where
-  some_number : converted_number t (length out) ≡ 0 → ⊥
-  some_number h = refused (told ∙ h)
+module _ (t out : List ℕ) (r : Refusal) (told : refusal_number r ≡ converted_number t (length out)) where
+  refused : converted_number t (length out) ≡ 0 → ⊥
+  refused h = some_number r (told ∙ h)
 
-  pub refused_converted : record { number = number; length = 0 } ≡ conversion t out
+  pub refused_converted : record { number = refusal_number r; length = 0 } ≡ conversion t out
   unfolding conversion converted_bytes
-  refused_converted = ap (λ (k : ℕ). record { number = k; length = 0 }) told ∙ simp (ne_eqb _ _ some_number)
+  refused_converted = ap (λ (k : ℕ). record { number = k; length = 0 }) told ∙ simp (ne_eqb _ _ refused)
 
   pub refused_buffer : out ≡ buffer_converted t out
   unfolding buffer_converted converted_bytes
-  refused_buffer = simp (ne_eqb _ _ some_number)
+  refused_buffer = simp (ne_eqb _ _ refused)
 
 -- ---- converted: the old trace as it is, its section, and what was there before
 
@@ -104,6 +106,7 @@ module _ (t out : List ℕ) (accepted : converted_number t (length out) ≡ 0) w
 -- ---- nothing written is longer than the longest trace
 
 pub conversion_few : (t out : List ℕ) → (conversion t out).length ≤ most_bytes
+unfolding conversion converted_bytes
 conversion_few t out = go (eqb (converted_number t (length out)) 0) refl
   where
     go : (b : Bool) → eqb (converted_number t (length out)) 0 ≡ b → (conversion t out).length ≤ most_bytes
@@ -112,6 +115,4 @@ conversion_few t out = go (eqb (converted_number t (length out)) 0) refl
         let whole = (zero_fits t (length out) accepted).0 in
         let size = ap (λ (w : Written). w.length) (all_converted t out accepted) in
         omega (arith, size, whole.1, whole.2)
-    go false e =
-        let size = ap (λ (w : Written). w.length) (refused_converted t out _ refl (eqb-false _ _ e)) in
-        omega (arith, size)
+    go false e = simp e (omega arith)

@@ -9,18 +9,16 @@ ghost use Rattle.arbiter.specs.declared.Event.TheVariants.{Command, Write, Read,
 ghost use Rattle.effects.specs.Effect.{did, effect_of};
 
 use arbiter::{Arbitration, Device, Event, Master, Outcome};
-use bits::less_one;
 use bus::{outside_of, ticked_bus};
 use connection::initialises;
 use events::{acknowledged_number, outcome_number};
-use fields::{
-    arb_with, device_with, idle_limit, last_of, owns_turn, pointer_of, port_of, switch_of, turn_of,
-};
+use fields::{idle_limit, owns_turn, partner_of, side_of, sides_of, with_sides};
 use ports::{commanded_side, is_at_rest, is_for_writing, stopped_side};
 use registers::{empties_own, fallen_side, reader_side, register_byte, sender_side};
 use resets::{reset_device, soft_reset};
-use writing::{paired_by, writable_at, written_by_0, written_by_1};
+use writing::{paired_by, writable_at, written_by};
 
+// The outcome goes by its number: `did` and `finished` of the definitions take any, and so does the answer that it becomes.
 #[derive(Clone, Copy)]
 pub struct Effect {
     pub device: Device,
@@ -47,54 +45,39 @@ fn out_of_sequence(d: Device) -> Effect
 
 // ---- COMMAND
 
+#[tactic(auto, unfolding(arbiter::specs::Events::acknowledged, arbiter::specs::Steps::byte_read, arbiter::specs::Effects::effect, crate::specs::Effect::effect_of, arbiter::specs::Events::in_sequence, arbiter::specs::Effects::lined, arbiter::specs::Events::outcome, arbiter::specs::Effects::ticked, arbiter::specs::Effects::was_read))]
 fn on_command(m: Master, c: u8, d: Device) -> Effect
     ensures { result ≡ effect_of (Command m c) d }
 {
-    let number = acknowledged_number(c / 8 % 16 == 0);
-    match m {
-        Master::Zero => did_so(
-            device_with(commanded_side(c, d.side0), d.side1, d.bus, d.arb, d),
-            number,
-            0,
-        ),
-        Master::One => did_so(
-            device_with(d.side0, commanded_side(c, d.side1), d.bus, d.arb, d),
-            number,
-            0,
-        ),
-    }
+    let (own, other) = sides_of(m, d);
+    did_so(
+        with_sides(m, commanded_side(c, own), other, d),
+        acknowledged_number(c / 8 % 16 == 0),
+        0,
+    )
 }
 
 // ---- WRITE and PAIR
 
+#[tactic(auto, unfolding(arbiter::specs::Events::acknowledged, arbiter::specs::Steps::byte_read, arbiter::specs::Effects::effect, crate::specs::Effect::effect_of, arbiter::specs::Events::in_sequence, arbiter::specs::Events::outcome))]
 fn on_write(m: Master, v: u8, d: Device) -> Effect
     ensures { result ≡ effect_of (Write m v) d }
 {
-    match m {
-        Master::Zero => {
-            if is_for_writing(port_of(d.side0)) {
-                let ok = writable_at(pointer_of(d.side0));
-                did_so(written_by_0(v, d), acknowledged_number(ok), 0)
-            } else {
-                out_of_sequence(d)
-            }
-        }
-        Master::One => {
-            if is_for_writing(port_of(d.side1)) {
-                let ok = writable_at(pointer_of(d.side1));
-                did_so(written_by_1(v, d), acknowledged_number(ok), 0)
-            } else {
-                out_of_sequence(d)
-            }
-        }
+    let own = side_of(m, d);
+    if is_for_writing(own.port) {
+        let ok = writable_at(own.pointer);
+        did_so(written_by(m, v, d), acknowledged_number(ok), 0)
+    } else {
+        out_of_sequence(d)
     }
 }
 
+#[tactic(auto, unfolding(arbiter::specs::Events::acknowledged, arbiter::specs::Steps::byte_read, arbiter::specs::Effects::effect, crate::specs::Effect::effect_of, arbiter::specs::Events::in_sequence, arbiter::specs::Events::outcome))]
 fn on_pair(v0: u8, v1: u8, d: Device) -> Effect
     ensures { result ≡ effect_of (Pair v0 v1) d }
 {
-    if is_for_writing(port_of(d.side0)) & is_for_writing(port_of(d.side1)) {
-        let ok = writable_at(pointer_of(d.side0)) & writable_at(pointer_of(d.side1));
+    if is_for_writing(d.side0.port) & is_for_writing(d.side1.port) {
+        let ok = writable_at(d.side0.pointer) & writable_at(d.side1.pointer);
         did_so(paired_by(v0, v1, d), acknowledged_number(ok), 0)
     } else {
         out_of_sequence(d)
@@ -103,82 +86,52 @@ fn on_pair(v0: u8, v1: u8, d: Device) -> Effect
 
 // ---- READ
 
+#[tactic(auto, using(crate::proofs::Laws::read_law))]
 fn on_read(m: Master, d: Device) -> Effect
     ensures { result ≡ effect_of (Read m) d }
 {
-    let owns0 = owns_turn(Master::Zero, turn_of(d.arb));
-    let owns1 = owns_turn(Master::One, turn_of(d.arb));
-    match m {
-        Master::Zero => did_so(
-            device_with(
-                reader_side(d.side0),
-                sender_side(empties_own(d.side0), d.side1),
-                d.bus,
-                d.arb,
-                d,
-            ),
-            outcome_number(Outcome::Done),
-            register_byte(owns0, owns1, d.side0, d.side1, d.bus, d.arb.initfail),
-        ),
-        Master::One => did_so(
-            device_with(
-                sender_side(empties_own(d.side1), d.side0),
-                reader_side(d.side1),
-                d.bus,
-                d.arb,
-                d,
-            ),
-            outcome_number(Outcome::Done),
-            register_byte(owns1, owns0, d.side1, d.side0, d.bus, d.arb.initfail),
-        ),
-    }
+    let (own, other) = sides_of(m, d);
+    let granted = owns_turn(m, d.arb.turn);
+    let theirs = owns_turn(partner_of(m), d.arb.turn);
+    did_so(
+        with_sides(m, reader_side(own), sender_side(empties_own(own), other), d),
+        outcome_number(Outcome::Done),
+        register_byte(granted, theirs, own, other, d.bus, d.arb.initfail),
+    )
 }
 
 // ---- STOP
 
+#[tactic(auto, unfolding(arbiter::specs::Events::acknowledged, arbiter::specs::Steps::byte_read, arbiter::specs::Effects::effect, crate::specs::Effect::effect_of, arbiter::specs::Events::in_sequence, arbiter::specs::Events::outcome))]
 fn on_stop(m: Master, d: Device) -> Effect
     ensures { result ≡ effect_of (Stop m) d }
 {
-    match m {
-        Master::Zero => {
-            if is_at_rest(port_of(d.side0)) {
-                out_of_sequence(d)
-            } else {
-                did_so(
-                    device_with(stopped_side(d.side0), d.side1, d.bus, d.arb, d),
-                    outcome_number(Outcome::Done),
-                    0,
-                )
-            }
-        }
-        Master::One => {
-            if is_at_rest(port_of(d.side1)) {
-                out_of_sequence(d)
-            } else {
-                did_so(
-                    device_with(d.side0, stopped_side(d.side1), d.bus, d.arb, d),
-                    outcome_number(Outcome::Done),
-                    0,
-                )
-            }
-        }
+    let (own, other) = sides_of(m, d);
+    if is_at_rest(own.port) {
+        out_of_sequence(d)
+    } else {
+        did_so(
+            with_sides(m, stopped_side(own), other, d),
+            outcome_number(Outcome::Done),
+            0,
+        )
     }
 }
 
 // ---- LINES, TICK and PULSE
 
+#[tactic(auto, unfolding(arbiter::specs::Events::acknowledged, arbiter::specs::Steps::byte_read, arbiter::specs::Effects::effect, crate::specs::Effect::effect_of, arbiter::specs::Events::in_sequence, arbiter::specs::Effects::lined, arbiter::specs::Events::outcome, arbiter::specs::Effects::ticked, arbiter::specs::Effects::was_read))]
 fn on_lines(scl: bool, sda: bool, intin: bool, d: Device) -> Effect
     ensures { result ≡ effect_of (Lines scl sda intin) d }
 {
     let fell = d.bus.intin & !intin;
     did_so(
-        device_with(
-            fallen_side(fell, d.side0),
-            fallen_side(fell, d.side1),
-            outside_of(scl, sda, intin, d.bus),
-            d.arb,
-            d,
-        ),
+        Device {
+            side0: fallen_side(fell, d.side0),
+            side1: fallen_side(fell, d.side1),
+            bus: outside_of(scl, sda, intin, d.bus),
+            ..d
+        },
         outcome_number(Outcome::Done),
         0,
     )
@@ -187,36 +140,33 @@ fn on_lines(scl: bool, sda: bool, intin: bool, d: Device) -> Effect
 fn ticked_arb(a: Arbitration) -> Arbitration
     ensures { result ≡ ticked_arb a }
 {
-    arb_with(
-        last_of(a),
-        a.initfail,
-        switch_of(a),
-        less_one(a.reserve),
-        turn_of(a),
-    )
+    Arbitration {
+        reserve: a.reserve.saturating_sub(1),
+        ..a
+    }
 }
 
+#[tactic(auto, unfolding(arbiter::specs::Events::acknowledged, arbiter::specs::Steps::byte_read, arbiter::specs::Effects::effect, crate::specs::Effect::effect_of, arbiter::specs::Events::in_sequence, arbiter::specs::Effects::lined, arbiter::specs::Events::outcome, arbiter::specs::Effects::ticked, arbiter::specs::Effects::was_read))]
 fn on_tick(d: Device) -> Effect
     ensures { result ≡ effect_of Tick d }
 {
     let limit = idle_limit(d);
     did_so(
-        device_with(
-            d.side0,
-            d.side1,
-            ticked_bus(limit, d.bus),
-            ticked_arb(d.arb),
-            d,
-        ),
+        Device {
+            bus: ticked_bus(limit, d.bus),
+            arb: ticked_arb(d.arb),
+            ..d
+        },
         outcome_number(Outcome::Done),
         0,
     )
 }
 
+#[tactic(auto, unfolding(arbiter::specs::Events::acknowledged, arbiter::specs::Steps::byte_read, arbiter::specs::Effects::effect, crate::specs::Effect::effect_of, arbiter::specs::Events::in_sequence, arbiter::specs::Events::outcome))]
 fn on_pulse(sda: bool, d: Device) -> Effect
     ensures { result ≡ effect_of (Pulse sda) d }
 {
-    if initialises(switch_of(d.arb)) {
+    if initialises(d.arb.switch) {
         did_so(d, outcome_number(Outcome::Done), 0)
     } else {
         out_of_sequence(d)
@@ -225,12 +175,14 @@ fn on_pulse(sda: bool, d: Device) -> Effect
 
 // ---- resets
 
+#[tactic(auto, unfolding(arbiter::specs::Events::acknowledged, arbiter::specs::Steps::byte_read, arbiter::specs::Effects::effect, crate::specs::Effect::effect_of, arbiter::specs::Events::in_sequence, arbiter::specs::Effects::lined, arbiter::specs::Events::outcome, arbiter::specs::Effects::ticked, arbiter::specs::Effects::was_read))]
 fn on_reset(d: Device) -> Effect
     ensures { result ≡ effect_of Reset d }
 {
     did_so(reset_device(0, d), outcome_number(Outcome::Done), 0)
 }
 
+#[tactic(auto, unfolding(arbiter::specs::Events::acknowledged, arbiter::specs::Steps::byte_read, arbiter::specs::Effects::effect, crate::specs::Effect::effect_of, arbiter::specs::Events::in_sequence, arbiter::specs::Effects::lined, arbiter::specs::Events::outcome, arbiter::specs::Effects::ticked, arbiter::specs::Effects::was_read))]
 fn on_general_call(m: Master, b: u8, d: Device) -> Effect
     ensures { result ≡ effect_of (GeneralCall m b) d }
 {

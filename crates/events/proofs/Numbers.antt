@@ -10,7 +10,8 @@ use Rattle.arbiter.specs.Events.{unused, zero_or_one, master, level, fitting, de
 use Rattle.arbiter.specs.declared.Raw.{Raw}
 use Rattle.arbiter.specs.declared.Event.{Event}
 use Rattle.arbiter.specs.declared.Event.TheVariants.{Command, Write, Read, Stop, Pair, Lines, Tick, Pulse, Reset, GeneralCall}
-use Rattle.arbiter.specs.declared.Decoded.{Decoded}
+use Rattle.std.specs.Prelude.{Result}
+use Rattle.arbiter.specs.declared.Unread.{Unread}
 
 -- one kind: whether its fields fit decides
 fitting_number : (ok : Bool) (e : Event) → decoded_number (fitting ok e) ≡ (if not ok then 3 else 0)
@@ -59,5 +60,5 @@ number (suc (suc (suc (suc (suc (suc (suc (suc (suc zero))))))))) x y z = any_nu
 number (suc (suc (suc (suc (suc (suc (suc (suc (suc (suc k)))))))))) x y z =
     unknown_number (raw (suc (suc (suc (suc (suc (suc (suc (suc (suc (suc k)))))))))) x y z) (omega arith)
 
-pub raw_told : (r : Raw) (d : Decoded) → d ≡ decode r → (d ≡ decode r) × (decoded_number d ≡ raw_number r)
+pub raw_told : (r : Raw) (d : Result Event Unread) → d ≡ decode r → (d ≡ decode r) × (decoded_number d ≡ raw_number r)
 raw_told r d e = (e, ap decoded_number e ∙ number r.kind r.x r.y r.z)

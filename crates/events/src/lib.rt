@@ -6,21 +6,17 @@ ghost use Rattle.arbiter.specs.Events.{fitting, decode, decoded_number, raw_numb
 ghost use Rattle.arbiter.specs.Order.{is_tick, clock_of};
 ghost use Rattle.arbiter.specs.declared.Outcome.TheVariants.{Done, NotAcknowledged};
 
-use arbiter::{Clock, Decoded, Event, Outcome, Raw};
+use arbiter::{Clock, Event, Outcome, Raw, Unread};
 use fields::master_of;
 
 // The event if its fields fit, else refusal 3.
-fn fitting_if(ok: bool, e: Event) -> Decoded
+fn fitting_if(ok: bool, e: Event) -> Result<Event, Unread>
     ensures { result ≡ fitting ok e }
 {
-    if ok {
-        Decoded::Reads(e)
-    } else {
-        Decoded::BadField
-    }
+    if ok { Ok(e) } else { Err(Unread::BadField) }
 }
 
-pub fn decode_raw(r: Raw) -> Decoded
+pub fn decode_raw(r: Raw) -> Result<Event, Unread>
     ensures value { result ≡ decode r }
     ensures result_value { decoded_number result ≡ raw_number r }
 {
@@ -41,28 +37,25 @@ pub fn decode_raw(r: Raw) -> Decoded
         7 => fitting_if(any & (r.y == 0) & (r.z == 0), Event::Pulse(r.x == 1)),
         8 => fitting_if((r.x == 0) & (r.y == 0) & (r.z == 0), Event::Reset),
         9 => fitting_if(any & (r.z == 0), Event::GeneralCall(m, r.y)),
-        _ => Decoded::UnknownKind,
+        _ => Err(Unread::UnknownKind),
     }
 }
 
-pub fn decoded_number(d: Decoded) -> u8
+// What the `let .. else` of a step answers, which 01 orders: the number of what is read, whole.
+pub fn decoded_number(d: Result<Event, Unread>) -> u8
     ensures { result ≡ decoded_number d }
 {
     match d {
-        Decoded::Reads(_) => 0,
-        Decoded::UnknownKind => 2,
-        Decoded::BadField => 3,
+        Ok(_) => 0,
+        Err(why) => why as u8,
     }
 }
 
+// An answer has the number, not the outcome.
 pub fn outcome_number(o: Outcome) -> u8
     ensures { result ≡ outcome_number o }
 {
-    match o {
-        Outcome::Done => 0,
-        Outcome::NotAcknowledged => 1,
-        Outcome::OutOfSequence => 4,
-    }
+    o as u8
 }
 
 // The number of an event in sequence.
@@ -79,37 +72,15 @@ pub fn acknowledged_number(ok: bool) -> u8
 pub fn is_tick(e: Event) -> bool
     ensures { result ≡ is_tick e }
 {
-    match e {
-        Event::Command(_, _) => false,
-        Event::Write(_, _) => false,
-        Event::Read(_) => false,
-        Event::Stop(_) => false,
-        Event::Pair(_, _) => false,
-        Event::Lines(_, _, _) => false,
-        Event::Tick => true,
-        Event::Pulse(_) => false,
-        Event::Reset => false,
-        Event::GeneralCall(_, _) => false,
-    }
+    e == Event::Tick
 }
 
 pub fn clock_of(e: Event) -> Clock
     ensures { result ≡ clock_of e }
 {
     match e {
-        Event::Command(_, _) => Clock::NoClock,
-        Event::Write(_, _) => Clock::NoClock,
-        Event::Read(_) => Clock::NoClock,
-        Event::Stop(_) => Clock::NoClock,
-        Event::Pair(_, _) => Clock::NoClock,
-        Event::Lines(_, _, _) => Clock::NoClock,
-        Event::Tick => Clock::NoClock,
-        Event::Pulse(sda) => if sda {
-            Clock::ClockHigh
-        } else {
-            Clock::ClockLow
-        },
-        Event::Reset => Clock::NoClock,
-        Event::GeneralCall(_, _) => Clock::NoClock,
+        Event::Pulse(true) => Clock::ClockHigh,
+        Event::Pulse(false) => Clock::ClockLow,
+        _ => Clock::NoClock,
     }
 }

@@ -6,7 +6,8 @@ use Rattle.arbiter.specs.declared.Control.{Control}
 use Rattle.arbiter.specs.declared.Mailbox.{Mailbox}
 use Rattle.arbiter.specs.declared.Port.{Port}
 use Rattle.arbiter.specs.declared.Side.{Side}
-use Rattle.arbiter.specs.declared.Last.{Last}
+use Rattle.std.specs.Prelude.{Option}
+use Rattle.arbiter.specs.declared.Master.{Master}
 use Rattle.arbiter.specs.declared.Switch.{Switch}
 use Rattle.arbiter.specs.declared.Turn.{Turn}
 use Rattle.arbiter.specs.declared.Arbitration.{Arbitration}
@@ -17,7 +18,7 @@ abbrev pub side_with : Register → ℕ → Control → ℕ → Mailbox → Bool
 side_with pointer rt contr ints mail auto port mask =
     record { pointer = pointer; rt = rt; contr = contr; ints = ints; mail = mail; auto = auto; port = port; mask = mask }
 
-abbrev pub arb_with : Last → Bool → Switch → ℕ → Turn → Arbitration
+abbrev pub arb_with : Option Master → Bool → Switch → ℕ → Turn → Arbitration
 arb_with last initfail switch reserve turn = record { last = last; initfail = initfail; switch = switch; reserve = reserve; turn = turn }
 
 -- the kind is that of the device that was

@@ -1,144 +1,80 @@
-// The fields of a device: taken out, put together, one replaced; what belongs to one of the two masters; and the numbers of masters and
-// registers.
-//
-// Structs are passed on as they stand and built by one call, never through a local copy: the step runs half as fast otherwise, since
-// the compiler then packs neighbouring fields into one word and takes them apart again at every step.
+// The fields of a device: what belongs to one of the two masters, the rules of its kind, what turn and switch show; and the numbers of masters
+// and registers.
 #![tactic(auto)]
 
-ghost use Rattle.std.specs.Prelude.{◌≡◌, if◌then◌else◌};
+ghost use Rattle.std.specs.Prelude.{◌≡◌};
 ghost use Rattle.arbiter.specs.Rules.{limit_of, idle_limit, rolls};
-ghost use Rattle.arbiter.specs.Words.{same_master};
+ghost use Rattle.arbiter.specs.Words.{partner, side, device};
 ghost use Rattle.arbiter.specs.State.{owns_turn, claims_turn, closed_for};
 ghost use Rattle.arbiter.specs.Parts.{with_turn};
 ghost use Rattle.arbiter.specs.Events.{master};
 ghost use Rattle.arbiter.specs.Effects.{register_at};
 ghost use Rattle.arbiter.specs.Registers.{register_number};
 ghost use Rattle.fields.specs.Apart.{is_apart};
-ghost use Rattle.fields.specs.Whole.{side_with, arb_with, device_with};
 
 use arbiter::{
-    Arbitration, Bus, Control, Device, Kind, Last, Mailbox, Master, PCA9641_IDLE_LIMIT, Port,
-    Register, Side, Switch, TPT29641_IDLE_LIMIT, Turn,
+    Arbitration, Device, Kind, Master, PCA9641_IDLE_LIMIT, Register, Side, Switch,
+    TPT29641_IDLE_LIMIT, Turn,
 };
 
-// ---- taken out
+// ---- what belongs to one of the two masters
 
-pub fn pointer_of(s: Side) -> Register
-    ensures { result ≡ s.pointer }
+// m's side.
+pub fn side_of(m: Master, d: Device) -> Side
+    ensures { result ≡ side m d }
 {
-    let p = s.pointer;
-    p
-}
-
-pub fn port_of(s: Side) -> Port
-    ensures { result ≡ s.port }
-{
-    let p = s.port;
-    p
-}
-
-pub fn turn_of(a: Arbitration) -> Turn
-    ensures { result ≡ a.turn }
-{
-    let t = a.turn;
-    t
-}
-
-pub fn last_of(a: Arbitration) -> Last
-    ensures { result ≡ a.last }
-{
-    let l = a.last;
-    l
-}
-
-pub fn switch_of(a: Arbitration) -> Switch
-    ensures { result ≡ a.switch }
-{
-    let w = a.switch;
-    w
-}
-
-pub fn is_connect(c: Control) -> bool
-    ensures { result ≡ c.busconnect }
-{
-    c.busconnect
-}
-
-// ---- put together
-
-pub fn side_with(
-    pointer: Register,
-    rt: u8,
-    contr: Control,
-    ints: u8,
-    mail: Mailbox,
-    auto: bool,
-    port: Port,
-    mask: u8,
-) -> Side
-    ensures { result ≡ side_with pointer rt contr ints mail auto port mask }
-{
-    Side {
-        pointer,
-        rt,
-        contr,
-        ints,
-        mail,
-        auto,
-        port,
-        mask,
+    match m {
+        Master::Zero => d.side0,
+        Master::One => d.side1,
     }
 }
 
-pub fn arb_with(last: Last, initfail: bool, switch: Switch, reserve: u8, turn: Turn) -> Arbitration
-    ensures { result ≡ arb_with last initfail switch reserve turn }
+pub fn partner_of(m: Master) -> Master
+    ensures { result ≡ partner m }
 {
-    Arbitration {
-        last,
-        initfail,
-        switch,
-        reserve,
-        turn,
+    match m {
+        Master::Zero => Master::One,
+        Master::One => Master::Zero,
     }
 }
 
-// The device d with these four in place of its own: its kind stays.
-pub fn device_with(side0: Side, side1: Side, bus: Bus, arb: Arbitration, d: Device) -> Device
-    ensures { result ≡ device_with side0 side1 bus arb d }
+// m's side, and its partner's.
+pub fn sides_of(m: Master, d: Device) -> (Side, Side)
+    ensures { result ≡ (side m d, side (partner m) d) }
 {
-    let kind = d.kind;
-    Device {
-        kind,
-        side0,
-        side1,
-        bus,
-        arb,
+    match m {
+        Master::Zero => (d.side0, d.side1),
+        Master::One => (d.side1, d.side0),
     }
 }
 
-// ---- one field replaced
+// The device with m's side and its partner's replaced.
+pub fn with_sides(m: Master, own: Side, other: Side, d: Device) -> Device
+    ensures { result ≡ device m own other d.bus d.arb d }
+{
+    match m {
+        Master::Zero => Device {
+            side0: own,
+            side1: other,
+            ..d
+        },
+        Master::One => Device {
+            side0: other,
+            side1: own,
+            ..d
+        },
+    }
+}
+
+// ---- the turn replaced
 
 pub fn with_turn(turn: Turn, a: Arbitration) -> Arbitration
     ensures { result ≡ with_turn turn a }
 {
-    arb_with(last_of(a), a.initfail, switch_of(a), a.reserve, turn)
+    Arbitration { turn, ..a }
 }
 
-// ---- chosen by a test
-
-pub fn pick_turn(test: bool, x: Turn, y: Turn) -> Turn
-    ensures { result ≡ (if test then x else y) }
-{
-    if test { x } else { y }
-}
-
-pub fn pick_register(test: bool, x: Register, y: Register) -> Register
-    ensures { result ≡ (if test then x else y) }
-{
-    if test { x } else { y }
-}
-
-// ---- the rules of a device's kind
+// ---- the rules of a device's kind: a line for each kind of part, as `rules_of` of arbiter/specs has them
 
 pub fn limit_of(k: Kind) -> u8
     ensures { result ≡ limit_of k }
@@ -152,16 +88,14 @@ pub fn limit_of(k: Kind) -> u8
 pub fn idle_limit(d: Device) -> u8
     ensures { result ≡ idle_limit d }
 {
-    let kind = d.kind;
-    limit_of(kind)
+    limit_of(d.kind)
 }
 
 // The pointer of a WRITE rolls from 7 to 0.
 pub fn rolls_over(d: Device) -> bool
     ensures { result ≡ rolls d }
 {
-    let kind = d.kind;
-    match kind {
+    match d.kind {
         Kind::Pca9641 => false,
         Kind::Tpt29641 => true,
     }
@@ -169,80 +103,37 @@ pub fn rolls_over(d: Device) -> bool
 
 // ---- what they show
 
-fn is_zero(m: Master) -> bool
-    ensures { result ≡ same_master Master.Zero m }
-{
-    match m {
-        Master::Zero => true,
-        Master::One => false,
-    }
-}
-
-fn is_one(m: Master) -> bool
-    ensures { result ≡ same_master Master.One m }
-{
-    match m {
-        Master::Zero => false,
-        Master::One => true,
-    }
-}
-
-pub fn same_master(m: Master, k: Master) -> bool
-    ensures { result ≡ same_master m k }
-{
-    match m {
-        Master::Zero => is_zero(k),
-        Master::One => is_one(k),
-    }
-}
-
 // m is granted.
 pub fn owns_turn(m: Master, t: Turn) -> bool
     ensures { result ≡ owns_turn m t }
 {
-    match t {
-        Turn::Nobody => false,
-        Turn::Claims(_, _) => false,
-        Turn::Owns(k, _) => same_master(m, k),
-    }
+    matches!(t, Turn::Owns(k, _) if k == m)
 }
 
 // m claims, and is not granted yet.
 pub fn claims_turn(m: Master, t: Turn) -> bool
     ensures { result ≡ claims_turn m t }
 {
-    match t {
-        Turn::Nobody => false,
-        Turn::Claims(k, _) => same_master(m, k),
-        Turn::Owns(_, _) => false,
-    }
+    matches!(t, Turn::Claims(k, _) if k == m)
 }
 
 // m is connected: the switch is closed for it.
 pub fn closed_for(m: Master, w: Switch) -> bool
     ensures { result ≡ closed_for m w }
 {
-    match w {
-        Switch::Apart => false,
-        Switch::Initialising(_, _) => false,
-        Switch::Closed(k) => same_master(m, k),
-    }
+    w == Switch::Closed(m)
 }
 
 // The switch is open, and no initialisation is under way.
 pub fn is_apart(w: Switch) -> bool
     ensures { result ≡ is_apart w }
 {
-    match w {
-        Switch::Apart => true,
-        Switch::Initialising(_, _) => false,
-        Switch::Closed(_) => false,
-    }
+    w == Switch::Apart
 }
 
 // ---- by their numbers
 
-// The master of an event's byte, which is 0 or 1.
+// The master of an event's byte, which is 0 or 1. No TryFrom, here and at a register's number: `master` and `register_at` of arbiter/specs take every byte.
 pub fn master_of(x: u8) -> Master
     ensures { result ≡ master x }
 {
@@ -252,16 +143,7 @@ pub fn master_of(x: u8) -> Master
 pub fn register_number(r: Register) -> u8
     ensures { result ≡ register_number r }
 {
-    match r {
-        Register::Id => 0,
-        Register::Contr => 1,
-        Register::Status => 2,
-        Register::Rt => 3,
-        Register::IntStatus => 4,
-        Register::IntMask => 5,
-        Register::MailLow => 6,
-        Register::MailHigh => 7,
-    }
+    r as u8
 }
 
 // The register of a number from 0 to 7.

@@ -9,7 +9,6 @@ ghost use Rattle.arbiter.specs.Traces.{byte_at, pins_in, count_in, events_end, w
 ghost use Rattle.format.specs.Places.{with_head, with_bytes, events_part, event_at, with_kind, with_answer};
 
 use arbiter::{Answer, Device, Kind, Pins, Raw, Refusal};
-use bits::wide_u16;
 
 // ---- sizes
 
@@ -74,7 +73,7 @@ pub fn pins_in(t: &[u8]) -> Pins
 pub fn count_in(t: &[u8]) -> u16
     ensures { result ≡ count_in t.now }
 {
-    wide_u16(byte_at(5, t)) + 256 * wide_u16(byte_at(6, t))
+    u16::from(byte_at(5, t)) + 256 * u16::from(byte_at(6, t))
 }
 
 // The head of a trace of n events, in a buffer that has room for it.
@@ -94,16 +93,12 @@ pub fn put_head(out: &mut [u8], p: Pins, n: u16)
 
 // ---- bytes as they are
 
-// These bytes from a place on, one after the other.
+// These bytes from a place on.
 fn copy_bytes(out: &mut [u8], at: usize, bytes: &[u8])
     requires { at + length bytes.now ≤ length out.old }
     ensures { out.new ≡ paste out.old at bytes.now (length bytes.now) }
 {
-    let mut i: usize = 0;
-    while i < bytes.len() {
-        out[at + i] = bytes[i];
-        i += 1;
-    }
+    out[at..at + bytes.len()].copy_from_slice(bytes);
 }
 
 // The same in a buffer that has room for them.
@@ -173,6 +168,7 @@ pub fn is_kind(b: u8) -> bool
     b < 2
 }
 
+// No TryFrom: `kind_of` of arbiter/specs takes every byte, and `is_kind` asks first.
 pub fn kind_of(b: u8) -> Kind
     ensures { result ≡ kind_of b }
 {
@@ -186,17 +182,13 @@ pub fn kind_of(b: u8) -> Kind
 pub fn kind_number(k: Kind) -> u8
     ensures { result ≡ kind_number k }
 {
-    match k {
-        Kind::Pca9641 => 0,
-        Kind::Tpt29641 => 1,
-    }
+    k as u8
 }
 
 pub fn kind_byte(d: Device) -> u8
     ensures { result ≡ kind_number d.kind }
 {
-    let kind = d.kind;
-    kind_number(kind)
+    kind_number(d.kind)
 }
 
 // The count byte and the kind after n events, in a buffer that has room for the whole trace.
@@ -230,13 +222,5 @@ pub fn put_answer(answers: &mut [u8], i: usize, a: Answer)
 pub fn refusal_number(r: Refusal) -> u8
     ensures { result ≡ refusal_number r }
 {
-    match r {
-        Refusal::TraceCut => 5,
-        Refusal::TooManyEvents => 6,
-        Refusal::BytesAfterEnd => 7,
-        Refusal::BadStraps => 8,
-        Refusal::NoRoom => 9,
-        Refusal::BadCount => 10,
-        Refusal::UnknownPart => 3,
-    }
+    r as u8
 }

@@ -6,20 +6,18 @@
 // what one device by itself answers to the same four bytes.
 #![tactic(auto)]
 
-ghost use Rattle.std.specs.Prelude.{◌≡◌, ◌+◌, ◌≤◌, ◌++◌, length, IfOk, OnOk};
+ghost use Rattle.std.specs.Prelude.{◌++◌, OnOk};
 ghost use Rattle.std.specs.Io.KnownBytes.{Appends};
-ghost use Rattle.arbiter.specs.Listing.{hex2, space, newline};
-ghost use Rattle.shelf.specs.Shelf.{shelf_row, tick_raw, reset_raw};
+ghost use Rattle.arbiter.specs.Listing.{hex2, space};
 
 use arbiter::{Answer, Kind, Raw};
 use lent::step_standing;
-use printing::read_full;
+use printing::{Hex, read_full};
 use rows::{fresh_record, reset_all, route_event, tick_all};
 use sheets::lookup::look_up;
 use shelf::Record;
 use std::io;
 use step::fresh;
-use text::{high_digit, low_digit};
 
 const NAME: &str = "forms";
 
@@ -40,55 +38,39 @@ const DEVICES: usize = 2;
 
 // ---- printing
 
-fn print_byte<W: io::Write>(out: &mut W, v: u8) -> io::Result<()>
-    ensures { OnOk result (Appends (W.contents out.old) (W.contents out.new)
-        (hex2 v)) }
-{
-    out.write_all(&[high_digit(v), low_digit(v)])
-}
-
-fn print_end<W: io::Write>(out: &mut W) -> io::Result<()>
-    ensures { OnOk result (Appends (W.contents out.old) (W.contents out.new)
-        (newline)) }
-{
-    out.write_all(&[b'\n'])
-}
-
 // The four bytes of an answer, after a space.
 fn print_answer<W: io::Write>(out: &mut W, a: Answer) -> io::Result<()>
     ensures { OnOk result (Appends (W.contents out.old) (W.contents out.new)
         (space ++ hex2 a.outcome ++ hex2 a.read ++ hex2 a.owner ++ hex2 a.lines)) }
 {
-    out.write_all(&[b' '])?;
-    print_byte(out, a.outcome)?;
-    print_byte(out, a.read)?;
-    print_byte(out, a.owner)?;
-    print_byte(out, a.lines)
+    write!(
+        out,
+        " {}{}{}{}",
+        Hex(a.outcome),
+        Hex(a.read),
+        Hex(a.owner),
+        Hex(a.lines)
+    )
 }
 
 fn print_event<W: io::Write>(out: &mut W, name: u8, r: Raw) -> io::Result<()>
     ensures { OnOk result (Appends (W.contents out.old) (W.contents out.new)
         (hex2 name ++ space ++ hex2 r.kind ++ hex2 r.x ++ hex2 r.y ++ hex2 r.z)) }
 {
-    print_byte(out, name)?;
-    out.write_all(&[b' '])?;
-    print_byte(out, r.kind)?;
-    print_byte(out, r.x)?;
-    print_byte(out, r.y)?;
-    print_byte(out, r.z)
+    write!(
+        out,
+        "{} {}{}{}{}",
+        Hex(name),
+        Hex(r.kind),
+        Hex(r.x),
+        Hex(r.y),
+        Hex(r.z)
+    )
 }
 
 // ---- the sheets
 
-// A refusal hands back no byte.
-fn print_part<W: io::Write>(out: &mut W, part: &[u8]) -> io::Result<()> {
-    if part.len() < 2 {
-        return out.write_all(&[b'-']);
-    }
-    print_byte(out, part[0])?;
-    print_byte(out, part[1])
-}
-
+// A box, or a dash: a refusal hands back no byte.
 fn print_box<'a, W: io::Write>(
     out: &mut W,
     board: &'a [u8],
@@ -96,20 +78,20 @@ fn print_box<'a, W: io::Write>(
     section: u8,
     controller: u8,
 ) -> io::Result<()> {
-    out.write_all(&[low_digit(section), low_digit(controller), b' '])?;
-    print_part(out, look_up(board, house, section, controller))?;
-    print_end(out)
+    write!(out, "{section:X}{controller:X} ")?;
+    match look_up(board, house, section, controller) {
+        [first, second, ..] => writeln!(out, "{}{}", Hex(*first), Hex(*second)),
+        _ => writeln!(out, "-"),
+    }
 }
 
 // Every box there is, and one that is not.
 fn print_boxes<'a, W: io::Write>(out: &mut W, board: &'a [u8], house: &'a [u8]) -> io::Result<()> {
-    print_box(out, board, house, 0, 0)?;
-    print_box(out, board, house, 0, 1)?;
-    print_box(out, board, house, 1, 0)?;
-    print_box(out, board, house, 1, 1)?;
-    print_box(out, board, house, 2, 0)?;
-    print_box(out, board, house, 2, 1)?;
-    print_box(out, board, house, 3, 0)
+    let boxes = [(0, 0), (0, 1), (1, 0), (1, 1), (2, 0), (2, 1), (3, 0)];
+    for (section, controller) in boxes {
+        print_box(out, board, house, section, controller)?;
+    }
+    Ok(())
 }
 
 // ---- the shelf: the row stands in a local, and is lent to the call
@@ -120,89 +102,40 @@ fn fresh_row() -> [Record; DEVICES] {
     [first, second]
 }
 
-fn routed<W: io::Write>(
-    out: &mut W,
-    row: [Record; DEVICES],
-    name: u8,
-    r: Raw,
-) -> io::Result<[Record; DEVICES]>
-    ensures { IfOk result (λ s. s ≡ shelf_row row name r) }
-{
-    let mut standing = row;
-    let answer = route_event(&mut standing, name, r);
-    print_answer(out, answer)?;
-    Ok(standing)
-}
-
-fn ticked<W: io::Write>(out: &mut W, row: [Record; DEVICES]) -> io::Result<[Record; DEVICES]>
-    ensures { IfOk result (λ s. s ≡ shelf_row row 0 tick_raw) }
-{
-    let mut standing = row;
-    let answer = tick_all(&mut standing);
-    print_answer(out, answer)?;
-    Ok(standing)
-}
-
-fn cleared<W: io::Write>(out: &mut W, row: [Record; DEVICES]) -> io::Result<[Record; DEVICES]>
-    ensures { IfOk result (λ s. s ≡ shelf_row row 0 reset_raw) }
-{
-    let mut standing = row;
-    let answer = reset_all(&mut standing);
-    print_answer(out, answer)?;
-    Ok(standing)
-}
-
-// A kind of event whose three fields are 0.
-fn is_plain(r: Raw, kind: u8) -> bool {
-    (r.kind == kind) & (r.x == 0) & (r.y == 0) & (r.z == 0)
-}
-
-// A tick and a reset have calls of their own; whatever else comes, a TICK or RESET with other fields too, is routed.
-fn on_shelf<W: io::Write>(
-    out: &mut W,
-    row: [Record; DEVICES],
-    name: u8,
-    r: Raw,
-) -> io::Result<[Record; DEVICES]> {
-    if is_plain(r, TICK) {
-        return ticked(out, row);
+// A tick and a reset have calls of their own; whatever else comes, a TICK or RESET with other fields too, is routed. (A match, since these three
+// calls are what this program is to run.)
+fn on_shelf(row: &mut [Record; DEVICES], name: u8, r: Raw) -> Answer {
+    match r {
+        Raw {
+            kind: TICK,
+            x: 0,
+            y: 0,
+            z: 0,
+        } => tick_all(row),
+        Raw {
+            kind: RESET,
+            x: 0,
+            y: 0,
+            z: 0,
+        } => reset_all(row),
+        _ => route_event(row, name, r),
     }
-    if is_plain(r, RESET) {
-        return cleared(out, row);
-    }
-    routed(out, row, name, r)
 }
 
 // ---- the events
 
-// The event's four bytes, after its name.
-fn event_at(events: &[u8], at: usize) -> Raw
-    requires { at + 5 ≤ length events.now }
-{
-    Raw {
-        kind: events[at + 1],
-        x: events[at + 2],
-        y: events[at + 3],
-        z: events[at + 4],
-    }
-}
-
 fn run_events<W: io::Write>(out: &mut W, events: &[u8]) -> io::Result<()> {
     let mut row = fresh_row();
     let mut device = fresh(Kind::Pca9641);
-    let mut left = events.len();
-    while NAMED_BYTES <= left {
-        let at = events.len() - left;
-        let name = events[at];
-        let r = event_at(events, at);
+    let (whole, _) = events.as_chunks::<NAMED_BYTES>();
+    for &[name, kind, x, y, z] in whole {
+        let r = Raw { kind, x, y, z };
         print_event(out, name, r)?;
-        let next = on_shelf(out, row, name, r)?;
-        row = next;
+        print_answer(out, on_shelf(&mut row, name, r))?;
         let stepped = step_standing(device, r);
-        print_answer(out, stepped.answer)?;
         device = stepped.device;
-        print_end(out)?;
-        left -= NAMED_BYTES;
+        print_answer(out, stepped.answer)?;
+        writeln!(out)?;
     }
     Ok(())
 }

@@ -21,7 +21,7 @@ use Rattle.arbiter.specs.declared.Kind.{Kind}
 use Rattle.arbiter.specs.declared.Kind.TheVariants.{Pca9641, Tpt29641}
 use Rattle.arbiter.specs.declared.Ground.TheVariants.{Sole}
 use Rattle.arbiter.specs.declared.Turn.TheVariants.{Owns}
-use Rattle.arbiter.specs.declared.Last.TheVariants.{Was}
+use Rattle.std.specs.Prelude.{Some}
 use Rattle.arbiter.specs.declared.Port.TheVariants.{Rest}
 use Rattle.arbiter.specs.declared.Register.TheVariants.{Contr}
 use Rattle.arbiter.specs.declared.Switch.TheVariants.{Closed}
@@ -111,7 +111,7 @@ connected_to m idle k rt ints count =
       side0 = of m (connected_side idle 0x04) (side_with rt false false true ints);
       side1 = of m (side_with rt false false true ints) (connected_side idle 0x04);
       bus = bus;
-      arb = record { last = Was m; initfail = false; switch = Closed m; reserve = 0; turn = Owns m Sole };
+      arb = record { last = Some m; initfail = false; switch = Closed m; reserve = 0; turn = Owns m Sole };
       kind = k;
     }
 

@@ -19,7 +19,7 @@ use Rattle.arbiter.specs.declared.Master.{Master}
 use Rattle.arbiter.specs.declared.Master.TheVariants.{Zero, One}
 use Rattle.arbiter.specs.declared.Ground.TheVariants.{Sole}
 use Rattle.arbiter.specs.declared.Turn.TheVariants.{Owns}
-use Rattle.arbiter.specs.declared.Last.TheVariants.{Was}
+use Rattle.std.specs.Prelude.{Some}
 use Rattle.arbiter.specs.declared.Port.TheVariants.{Rest}
 use Rattle.arbiter.specs.declared.Register.TheVariants.{Contr}
 use Rattle.arbiter.specs.declared.Switch.TheVariants.{Apart}
@@ -67,7 +67,7 @@ owned_by m count k s0 s1 =
       side0 = s0;
       side1 = s1;
       bus = calm;
-      arb = record { last = Was m; initfail = false; switch = Apart; reserve = count; turn = Owns m Sole };
+      arb = record { last = Some m; initfail = false; switch = Apart; reserve = count; turn = Owns m Sole };
       kind = k;
     }
 

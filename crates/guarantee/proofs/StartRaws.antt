@@ -7,7 +7,8 @@ use native.Mathlib.Omega.{arith}
 use lib.Dec.{eqb, ltb}
 use borrow.Author.Tests.{ne_eqb, le-ltb}
 use Rattle.ranges.specs.Names.{Master, Zero, One, Device, Raw, Event, Command, Write, Read, Stop, Lines, Tick}
-use Rattle.arbiter.specs.declared.Decoded.{Decoded}
+use Rattle.std.specs.Prelude.{Result}
+use Rattle.arbiter.specs.declared.Unread.{Unread}
 use Rattle.arbiter.specs.Words.{same_master}
 use Rattle.arbiter.specs.Events.{unused, zero_or_one, master, level, fitting, decode, in_sequence}
 use Rattle.arbiter.specs.Order.{is_reset, is_tick}
@@ -87,7 +88,7 @@ reading r a = read_by r.kind r.x r.y r.z a
 
 -- What such an event is not, they are not.
 said_not : (such : Event → Device → Bool) (r : Raw) (d : Device) (w : Reading r) → such w.event d ≡ false → accepted such r d ≡ false
-said_not such r d w h = ap (λ (x : Decoded). accepted_as such x d) w.read ∙ silent such w.fits w.event d h
+said_not such r d w h = ap (λ (x : Result Event Unread). accepted_as such x d) w.read ∙ silent such w.fits w.event d h
 
 pub foreign : (m : Master) (r : Raw) (d : Device) → is_admitted r ≡ true → is_by (number m) r ≡ false → Foreign m r d
 foreign m r d a o = let w = reading r a in said_not (λ e x. not (is_foreign m e)) r d w (ap not (w.other m o))

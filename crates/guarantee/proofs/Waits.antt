@@ -8,7 +8,7 @@ use native.Mathlib.Omega.{arith}
 use lib.Dec.{eqb, ltb}
 use borrow.Author.Tests.{eqb-true, eqb-false, ltb-true, ltb-false}
 use Rattle.arbiter.specs.Rules.{limit_of}
-use Rattle.std.specs.Prelude.{if◌then◌else◌}
+use Rattle.std.specs.Prelude.{if◌then◌else◌, Ok, Err}
 use Rattle.arbiter.specs.Words.{partner}
 use Rattle.arbiter.specs.State.{owns}
 use Rattle.arbiter.specs.Events.{master}
@@ -26,13 +26,10 @@ use Rattle.audit.specs.Blocking.{idles_as_owner}
 use Rattle.audit.specs.SettingsKept.{stores_rt}
 use Rattle.sheets.specs.declared.Fault.{Fault}
 use Rattle.sheets.specs.declared.Fault.TheVariants.{TooShort, WrongCount, BadBox, BytesAfterEnd, NoSuchBox, Unticked, NoRoom}
-use Rattle.sheets.specs.declared.Checked.{Checked}
-use Rattle.sheets.specs.declared.Checked.TheVariants.{Sound, Faulty}
 use Rattle.sheets.specs.declared.Order.{Order}
-use Rattle.sheets.specs.declared.Wait.{Wait}
-use Rattle.sheets.specs.Sheets.{check_pair, fault_number}
+use Rattle.sheets.specs.Sheets.{OrFault, check_pair, fault_number}
 use Rattle.sheets.specs.Settings.{is_complete, setting_of, order_of, order_events}
-use Rattle.sheets.specs.Waits.{withheld, wait_behind, wait_on, once_sound_wait, wait_of}
+use Rattle.sheets.specs.Waits.{Wait, withheld, wait_behind, wait_on, once_sound_wait, wait_of}
 use Rattle.guarantee.specs.Guarantee.{reserve_in}
 use Rattle.guarantee.specs.Boxes.{setting_in}
 use Rattle.guarantee.specs.Waits.{BoundedSilent, UnboundedSilent, Promised, WaitTells}
@@ -134,9 +131,9 @@ fault_some NoSuchBox h = absurd (omega arith)
 fault_some Unticked h = absurd (omega arith)
 fault_some NoRoom h = absurd (omega arith)
 
-sound_told : (c : Checked) (x : Wait) → (once_sound_wait c x).number ≡ 0 → once_sound_wait c x ≡ x
-sound_told Sound x h = refl
-sound_told (Faulty f) x h = fault_some f h
+sound_told : (c : OrFault (Unit {0})) (x : Wait) → (once_sound_wait c x).number ≡ 0 → once_sound_wait c x ≡ x
+sound_told (Ok tt) x h = refl
+sound_told (Err f) x h = fault_some f h
 
 -- the three tests of wait_on
 abbrev tests : Bool → Bool → Bool → Wait → Wait

@@ -19,9 +19,8 @@ use Rattle.audit.specs.Blocking.{idles_as_owner}
 use Rattle.audit.specs.SettingsKept.{stores_rt, writes_to_contr}
 use Rattle.audit.specs.WorstWait.{sends_stops}
 use Rattle.audit.specs.WaitAsSet.{is_within, stores_beyond}
-use Rattle.sheets.specs.declared.Wait.{Wait}
 use Rattle.sheets.specs.Settings.{order_of, order_count, ordered, ordered_buffer}
-use Rattle.sheets.specs.Waits.{wait_of}
+use Rattle.sheets.specs.Waits.{Wait, wait_of}
 use Rattle.guarantee.specs.Guarantee.{reserve_in}
 use Rattle.guarantee.specs.Boxes.{is_contr_byte}
 use Rattle.guarantee.specs.Witnesses.{Pair, pair_of, room, asks_first, stops_then}

@@ -16,9 +16,8 @@ use Rattle.arbiter.specs.declared.Raw.{Raw}
 use Rattle.audit.specs.Blocking.{idles_as_owner}
 use Rattle.audit.specs.SettingsKept.{stores_rt}
 use Rattle.audit.specs.WaitAsSet.{Served}
-use Rattle.sheets.specs.declared.Wait.{Wait}
 use Rattle.sheets.specs.Settings.{order_count, ordered, ordered_buffer}
-use Rattle.sheets.specs.Waits.{live, silent, unbounded, wait_of}
+use Rattle.sheets.specs.Waits.{Wait, live, silent, unbounded, wait_of}
 use Rattle.guarantee.specs.Necessary.{waits_from, StillWaits}
 
 -- ---- behind a live holder

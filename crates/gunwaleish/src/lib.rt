@@ -1,5 +1,6 @@
 // The library for Rust and C: traces, captures, listeners, order sheets, images, shelves, orders of scripts, totals of the bus share and straps over numbers
-// and slices. A slice passes as a pointer and then a length. Each call hands on to the crate of its subject, which packs what was found in one number.
+// and slices. A slice passes as a pointer and then a length. (Numbers in place of enums and errors, and each parameter by itself: the C interface,
+// c/gunwaleish.h, fixes every name and signature here.) Each call hands on to the crate of its subject, which packs what was found in one number.
 #![tactic(auto)]
 
 ghost use Rattle.std.specs.Prelude.{◌≡◌, length};

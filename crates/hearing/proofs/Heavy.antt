@@ -4,7 +4,7 @@ use Prim.Native.Nat.{ℕ}
 use mathlib.Core.Path.{◌≡◌, refl, sym, ap, ◌∙◌}
 use mathlib.Core.Bool.{Bool, true, false, not, ◌&&◌, ◌||◌, false≢true}
 use lib.Dec.{ltb}
-use Rattle.std.specs.Prelude.{if◌then◌else◌}
+use Rattle.std.specs.Prelude.{if◌then◌else◌, Option, None}
 use Rattle.arbiter.specs.declared.Master.{Master}
 use Rattle.arbiter.specs.declared.Master.TheVariants.{Zero, One}
 use Rattle.arbiter.proofs.Choice.{split}
@@ -14,19 +14,18 @@ use Rattle.capture.specs.declared.Awaited.{Awaited}
 use Rattle.capture.specs.declared.Awaited.TheVariants.{NoByte, AddressByte, CommandByte, WriteByte, ReadByte, CallByte, SkippedByte}
 use Rattle.capture.specs.declared.Sign.TheVariants.{Starts, Stops, Clocks}
 use Rattle.capture.specs.declared.Given.{Given}
-use Rattle.capture.specs.declared.Given.TheVariants.{Nothing}
 use Rattle.capture.specs.declared.Both.{Both}
 use Rattle.capture.specs.declared.Heard.{Heard}
 use Rattle.capture.specs.OneBus.{levels, sign, awaited_after, byte_gives, owes, is_outside, started, stopped, ended, at_clock, heard, gives}
 use Rattle.capture.specs.Samples.{sampled}
-use Rattle.hearing.specs.Light.{is_marked, has_room, is_light, are_light}
+use Rattle.hearing.specs.Light.{is_marked, has_room, is_light}
 
 -- ---- one bus
 
 abbrev level : Bool → Bool → Levels
 level scl sda = record { scl = scl; sda = sda }
 
-outside_gives : (m : Master) (w : Awaited) (v : ℕ) → is_outside w ≡ true → byte_gives m w v ≡ Nothing
+outside_gives : (m : Master) (w : Awaited) (v : ℕ) → is_outside w ≡ true → byte_gives m w v ≡ None
 unfolding is_outside byte_gives
 outside_gives m NoByte v o = refl
 outside_gives m AddressByte v o = absurd (false≢true o)
@@ -59,12 +58,12 @@ module _ (was now : Levels) (l : Listener) (heavy : is_light was now l ≡ false
   on_stop p q address m = rw (shows.0 p q) (refl, refl)
 
   pub on_start : was.scl ≡ true → now.sda ≡ false → (address : ℕ) (m : Master) → (started l ≡ heard address (sign was now) l)
-      × (Nothing ≡ gives m (sign was now) l)
+      × (None ≡ gives m (sign was now) l)
   unfolding heard gives
   on_start p q address m = rw (shows.1 p q) (refl, refl)
 
   pub on_outside : was.scl ≡ false → is_outside l.awaited ≡ true → (address : ℕ) (m : Master) → (l ≡ heard address (sign was now) l)
-      × (Nothing ≡ gives m (sign was now) l)
+      × (None ≡ gives m (sign was now) l)
   unfolding heard gives at_clock
   on_outside p o address m = (
     simp ((shows.2 p).0, o),
@@ -90,27 +89,13 @@ is_ended address l w o p q = λ j. ended_by (p j) (q j) l
 
 -- ---- both buses
 
--- a test of two levels, where they are those of two samples
-pub light_at : (m : Master) (before now : ℕ) (l : Listener) (w n : Levels) → w ≡ levels m before → n ≡ levels m now → is_light w n l
-    ≡ is_light (levels m before) (levels m now) l
-light_at m before now l w n p q = λ j. is_light (p j) (q j) l
-
-pub other_heavy : (before now : ℕ) (s : Both) → are_light before now s ≡ false → is_light (levels One before) (levels One now) s.bus1 ≡ true
-    → is_light (levels Zero before) (levels Zero now) s.bus0 ≡ false
-unfolding are_light
-other_heavy before now s h k = go (is_light (levels Zero before) (levels Zero now) s.bus0) (is_light (levels One before) (levels One now) s.bus1) h k
-  where
-    go : (a b : Bool) → (a && b) ≡ false → b ≡ true → a ≡ false
-    go false b h k = refl
-    go true b h k = absurd (false≢true (sym h ∙ k))
-
-abbrev pub heard_with : Listener → Listener → Given → Given → Heard
+abbrev pub heard_with : Listener → Listener → Option Given → Option Given → Heard
 heard_with b c g h = record { both = record { bus0 = b; bus1 = c }; given0 = g; given1 = h }
 
 -- what each bus shows by itself is what both show
 module _ (address before now : ℕ) (s : Both) (w n x y : Levels) (p : w ≡ levels Zero before) (q : n ≡ levels Zero now) (r : x ≡ levels One before)
     (t : y ≡ levels One now) where
-  pub both_heard : (b c : Listener) (g h : Given) → b ≡ heard address (sign w n) s.bus0 → c ≡ heard address (sign x y) s.bus1
+  pub both_heard : (b c : Listener) (g h : Option Given) → b ≡ heard address (sign w n) s.bus0 → c ≡ heard address (sign x y) s.bus1
       → g ≡ gives Zero (sign w n) s.bus0 → h ≡ gives One (sign x y) s.bus1 → heard_with b c g h ≡ sampled address before now s
   unfolding sampled
   both_heard b c g h e f d k =

@@ -5,7 +5,7 @@ use mathlib.Core.Path.{◌≡◌, refl, sym, ap, ◌∙◌}
 use mathlib.Core.Bool.{Bool, true, false, not, ◌&&◌, ◌||◌, false≢true}
 use lib.Dec.{eqb, ltb}
 use borrow.Author.Tests.{eqb-true, ltb-true}
-use Rattle.std.specs.Prelude.{if◌then◌else◌}
+use Rattle.std.specs.Prelude.{if◌then◌else◌, None}
 use Rattle.arbiter.specs.Words.{bit}
 use Rattle.arbiter.specs.declared.Master.{Master}
 use Rattle.arbiter.specs.declared.Master.TheVariants.{Zero, One}
@@ -13,7 +13,6 @@ use Rattle.arbiter.proofs.Choice.{split, not_true}
 use Rattle.capture.specs.declared.Levels.{Levels}
 use Rattle.capture.specs.declared.Listener.{Listener}
 use Rattle.capture.specs.declared.Sign.TheVariants.{Steady}
-use Rattle.capture.specs.declared.Given.TheVariants.{Nothing}
 use Rattle.capture.specs.declared.Both.{Both}
 use Rattle.capture.specs.OneBus.{levels, is_start, is_stop, rises, sign, is_outside, at_clock, heard, gives}
 use Rattle.capture.specs.Samples.{sampled}
@@ -80,7 +79,7 @@ module _ (was now : Levels) (l : Listener) (light : is_light was now l ≡ true)
   light_heard address =
       split (rises was now) (λ r. simp (tests.0, tests.1, r, (tests.2 r).0, (tests.2 r).1)) (λ r. simp (tests.0, tests.1, r))
 
-  pub light_gives : (m : Master) → Nothing ≡ gives m (sign was now) l
+  pub light_gives : (m : Master) → None ≡ gives m (sign was now) l
   unfolding sign gives
   light_gives m = split (rises was now) (λ r. simp (tests.0, tests.1, r, (tests.2 r).1)) (λ r. simp (tests.0, tests.1, r))
 

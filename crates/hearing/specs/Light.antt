@@ -1,12 +1,11 @@
 -- Light of `hearing`: samples that the code takes the short way, still ones, which show nothing on either bus, and light ones, which bring at
 -- most a bit to a byte in hand. proofs/Light.antt proves that both short ways end where the long one does.
 -- Assumes nothing.
-use Rattle.std.specs.Prelude.{ℕ, Bool, not, ◌&&◌, ◌||◌, eqb, ltb, if◌then◌else◌}
+use Rattle.std.specs.Prelude.{ℕ, Bool, not, ◌&&◌, ◌||◌, eqb, ltb, if◌then◌else◌, None}
 use Rattle.arbiter.specs.Words.{bit}
 use Rattle.arbiter.specs.declared.Master.TheVariants.{Zero, One}
 use Rattle.capture.specs.declared.Levels.{Levels}
 use Rattle.capture.specs.declared.Listener.{Listener}
-use Rattle.capture.specs.declared.Given.TheVariants.{Nothing}
 use Rattle.capture.specs.declared.Both.{Both}
 use Rattle.capture.specs.declared.Heard.{Heard}
 use Rattle.capture.specs.OneBus.{levels, rises, is_outside, shifted}
@@ -42,4 +41,4 @@ both_lightly before now s =
     }
 
 abbrev pub unheard : Both → Heard
-unheard s = record { both = s; given0 = Nothing; given1 = Nothing }
+unheard s = record { both = s; given0 = None; given1 = None }

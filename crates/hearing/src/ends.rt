@@ -12,7 +12,7 @@ fn addressed_by(address: u8, v: u8) -> Awaited
     if v == 0 {
         Awaited::CallByte
     } else if v / 2 == address {
-        if v / 1 % 2 == 1 {
+        if v % 2 == 1 {
             Awaited::ReadByte
         } else {
             Awaited::CommandByte
@@ -27,28 +27,23 @@ pub(crate) fn awaited_after(address: u8, awaited: Awaited, v: u8) -> Awaited
     ensures { result ≡ awaited_after address awaited v }
 {
     match awaited {
-        Awaited::NoByte => Awaited::NoByte,
         Awaited::AddressByte => addressed_by(address, v),
         Awaited::CommandByte => Awaited::WriteByte,
-        Awaited::WriteByte => Awaited::WriteByte,
-        Awaited::ReadByte => Awaited::ReadByte,
         Awaited::CallByte => Awaited::SkippedByte,
-        Awaited::SkippedByte => Awaited::SkippedByte,
+        _ => awaited,
     }
 }
 
 #[tactic(auto, unfolding(capture::specs::OneBus::byte_gives))]
-pub(crate) fn byte_gives(m: Master, awaited: Awaited, v: u8) -> Given
+pub(crate) fn byte_gives(m: Master, awaited: Awaited, v: u8) -> Option<Given>
     ensures { result ≡ byte_gives m awaited v }
 {
     match awaited {
-        Awaited::NoByte => Given::Nothing,
-        Awaited::AddressByte => Given::Nothing,
-        Awaited::CommandByte => Given::Gives(Event::Command(m, v)),
-        Awaited::WriteByte => Given::Written(v),
-        Awaited::ReadByte => Given::Gives(Event::Read(m)),
-        Awaited::CallByte => Given::Gives(Event::GeneralCall(m, v)),
-        Awaited::SkippedByte => Given::Nothing,
+        Awaited::CommandByte => Some(Given::Gives(Event::Command(m, v))),
+        Awaited::WriteByte => Some(Given::Written(v)),
+        Awaited::ReadByte => Some(Given::Gives(Event::Read(m))),
+        Awaited::CallByte => Some(Given::Gives(Event::GeneralCall(m, v))),
+        Awaited::NoByte | Awaited::AddressByte | Awaited::SkippedByte => None,
     }
 }
 
@@ -56,28 +51,12 @@ pub(crate) fn byte_gives(m: Master, awaited: Awaited, v: u8) -> Given
 pub(crate) fn is_owing(awaited: Awaited) -> bool
     ensures { result ≡ owes awaited }
 {
-    match awaited {
-        Awaited::NoByte => false,
-        Awaited::AddressByte => false,
-        Awaited::CommandByte => true,
-        Awaited::WriteByte => false,
-        Awaited::ReadByte => true,
-        Awaited::CallByte => false,
-        Awaited::SkippedByte => false,
-    }
+    matches!(awaited, Awaited::CommandByte | Awaited::ReadByte)
 }
 
 #[tactic(auto, unfolding(capture::specs::OneBus::is_outside))]
 pub(crate) fn is_outside(awaited: Awaited) -> bool
     ensures { result ≡ is_outside awaited }
 {
-    match awaited {
-        Awaited::NoByte => true,
-        Awaited::AddressByte => false,
-        Awaited::CommandByte => false,
-        Awaited::WriteByte => false,
-        Awaited::ReadByte => false,
-        Awaited::CallByte => false,
-        Awaited::SkippedByte => false,
-    }
+    awaited == Awaited::NoByte
 }

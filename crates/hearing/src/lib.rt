@@ -5,15 +5,14 @@
 mod ends;
 mod short;
 
-ghost use Rattle.std.specs.Prelude.{◌≡◌, true, false};
-ghost use Rattle.arbiter.specs.declared.Master.TheVariants.{Zero, One};
+ghost use Rattle.std.specs.Prelude.{◌≡◌, false};
 ghost use Rattle.capture.specs.declared.Sign.TheVariants.{Stops};
-ghost use Rattle.capture.specs.OneBus.{levels, sign, started, stopped, heard, gives};
+ghost use Rattle.capture.specs.OneBus.{sign, started, stopped, heard, gives};
 ghost use Rattle.capture.specs.Samples.{sampled};
-ghost use Rattle.hearing.specs.Light.{is_light, are_light, unheard};
+ghost use Rattle.hearing.specs.Light.{is_light, unheard};
 
 use crate::ends::{awaited_after, byte_gives, is_outside, is_owing};
-use crate::short::{are_light, is_light, is_still, levels_0, levels_1, with_bit, with_bits};
+use crate::short::{are_light, is_light, is_still, levels, with_bit, with_bits};
 use arbiter::{Event, Master};
 use capture::{Awaited, Both, Given, Heard, Levels, Listener};
 
@@ -21,7 +20,7 @@ use capture::{Awaited, Both, Given, Heard, Levels, Listener};
 #[derive(Clone, Copy)]
 pub struct Told {
     pub bus: Listener,
-    pub given: Given,
+    pub given: Option<Given>,
 }
 
 // A sample that gives nothing.
@@ -30,8 +29,8 @@ pub fn nothing_given(both: Both) -> Heard
 {
     Heard {
         both,
-        given0: Given::Nothing,
-        given1: Given::Nothing,
+        given0: None,
+        given1: None,
     }
 }
 
@@ -45,8 +44,8 @@ fn on_start(l: Listener) -> Listener
         awaited: Awaited::AddressByte,
         clocks: 0,
         value: 0,
-        owed: l.owed,
         broken: l.broken | (1 < l.clocks),
+        ..l
     }
 }
 
@@ -64,13 +63,13 @@ fn on_stop(l: Listener) -> Listener
 }
 
 #[tactic(auto, unfolding(capture::specs::OneBus::gives))]
-fn stop_gives(m: Master, l: Listener) -> Given
+fn stop_gives(m: Master, l: Listener) -> Option<Given>
     ensures { result ≡ gives m Stops l }
 {
     if l.owed {
-        Given::Gives(Event::Stop(m))
+        Some(Given::Gives(Event::Stop(m)))
     } else {
-        Given::Nothing
+        None
     }
 }
 
@@ -89,13 +88,13 @@ fn heavily(m: Master, address: u8, was: Levels, now: Levels, l: Listener) -> Tol
         } else {
             Told {
                 bus: on_start(l),
-                given: Given::Nothing,
+                given: None,
             }
         }
     } else if is_outside(awaited) {
         Told {
             bus: l,
-            given: Given::Nothing,
+            given: None,
         }
     } else {
         Told {
@@ -104,108 +103,15 @@ fn heavily(m: Master, address: u8, was: Levels, now: Levels, l: Listener) -> Tol
                 clocks: 0,
                 value: 0,
                 owed: l.owed | is_owing(awaited),
-                broken: l.broken,
+                ..l
             },
             given: byte_gives(m, awaited, l.value),
         }
     }
 }
 
-// ---- both buses, where one is heavy or both are. They are seldom heavy at once.
+// ---- both ways together
 
-#[tactic(auto, using(crate::proofs::Light::light_heard, crate::proofs::Light::light_gives, crate::proofs::Heavy::light_at, crate::proofs::Heavy::both_heard))]
-fn heavy_0(address: u8, before: u8, now: u8, s: Both) -> Heard
-    requires { (is_light (levels Zero before) (levels Zero now) s.bus0 ≡ false) × (is_light (levels One before) (levels One now) s.bus1 ≡ true) }
-    ensures { result ≡ sampled address before now s }
-{
-    let old0 = s.bus0;
-    let old1 = s.bus1;
-    let t = heavily(Master::Zero, address, levels_0(before), levels_0(now), old0);
-    let bus0 = t.bus;
-    let bus1 = with_bit(levels_1(before), levels_1(now), old1);
-    let given0 = t.given;
-    let both = Both { bus0, bus1 };
-    Heard {
-        both,
-        given0,
-        given1: Given::Nothing,
-    }
-}
-
-#[tactic(auto, using(crate::proofs::Light::light_heard, crate::proofs::Light::light_gives, crate::proofs::Heavy::light_at, crate::proofs::Heavy::both_heard))]
-fn heavy_1(address: u8, before: u8, now: u8, s: Both) -> Heard
-    requires { (is_light (levels Zero before) (levels Zero now) s.bus0 ≡ true) × (is_light (levels One before) (levels One now) s.bus1 ≡ false) }
-    ensures { result ≡ sampled address before now s }
-{
-    let old0 = s.bus0;
-    let old1 = s.bus1;
-    let t = heavily(Master::One, address, levels_1(before), levels_1(now), old1);
-    let bus0 = with_bit(levels_0(before), levels_0(now), old0);
-    let bus1 = t.bus;
-    let given1 = t.given;
-    let both = Both { bus0, bus1 };
-    Heard {
-        both,
-        given0: Given::Nothing,
-        given1,
-    }
-}
-
-#[tactic(auto, using(crate::proofs::Heavy::light_at, crate::proofs::Heavy::both_heard))]
-fn heavy_both(address: u8, before: u8, now: u8, s: Both) -> Heard
-    requires { (is_light (levels Zero before) (levels Zero now) s.bus0 ≡ false) × (is_light (levels One before) (levels One now) s.bus1 ≡ false) }
-    ensures { result ≡ sampled address before now s }
-{
-    let old0 = s.bus0;
-    let old1 = s.bus1;
-    let t = heavily(Master::Zero, address, levels_0(before), levels_0(now), old0);
-    let u = heavily(Master::One, address, levels_1(before), levels_1(now), old1);
-    let bus0 = t.bus;
-    let bus1 = u.bus;
-    let given0 = t.given;
-    let given1 = u.given;
-    let both = Both { bus0, bus1 };
-    Heard {
-        both,
-        given0,
-        given1,
-    }
-}
-
-#[tactic(auto, using(crate::proofs::Heavy::light_at, crate::proofs::Heavy::other_heavy))]
-fn not_light(address: u8, before: u8, now: u8, s: Both) -> Heard
-    requires { are_light before now s ≡ false }
-    ensures { result ≡ sampled address before now s }
-{
-    let bus0 = s.bus0;
-    let bus1 = s.bus1;
-    if is_light(levels_1(before), levels_1(now), bus1) {
-        heavy_0(address, before, now, s)
-    } else if is_light(levels_0(before), levels_0(now), bus0) {
-        heavy_1(address, before, now, s)
-    } else {
-        heavy_both(address, before, now, s)
-    }
-}
-
-// One sample after the one before it, on both buses.
-#[tactic(auto, using(crate::proofs::Light::still_sampled, crate::proofs::Light::light_sampled))]
-pub fn hear_sample(address: u8, before: u8, now: u8, s: Both) -> Heard
-    ensures { result ≡ sampled address before now s }
-{
-    if is_still(before, now) {
-        nothing_given(s)
-    } else if are_light(before, now, s) {
-        nothing_given(with_bits(before, now, s))
-    } else {
-        not_light(address, before, now, s)
-    }
-}
-
-// ---- for a listener
-
-// One bus. The ways for a capture are inlined as they stand there only if nobody else calls them, and then its walk is twice as fast; so a listener has a
-// shorter one.
 #[tactic(auto, using(crate::proofs::Light::light_heard, crate::proofs::Light::light_gives))]
 fn hear_one(m: Master, address: u8, was: Levels, now: Levels, l: Listener) -> Told
     ensures { (result.bus ≡ heard address (sign was now) l) × (result.given ≡ gives m (sign was now) l) }
@@ -213,7 +119,7 @@ fn hear_one(m: Master, address: u8, was: Levels, now: Levels, l: Listener) -> To
     if is_light(was, now, l) {
         Told {
             bus: with_bit(was, now, l),
-            given: Given::Nothing,
+            given: None,
         }
     } else {
         heavily(m, address, was, now, l)
@@ -225,18 +131,40 @@ fn hear_one(m: Master, address: u8, was: Levels, now: Levels, l: Listener) -> To
 pub fn hear_watched(address: u8, before: u8, now: u8, s: Both) -> Heard
     ensures { result ≡ sampled address before now s }
 {
-    let old0 = s.bus0;
-    let old1 = s.bus1;
-    let t = hear_one(Master::Zero, address, levels_0(before), levels_0(now), old0);
-    let u = hear_one(Master::One, address, levels_1(before), levels_1(now), old1);
-    let bus0 = t.bus;
-    let bus1 = u.bus;
-    let given0 = t.given;
-    let given1 = u.given;
-    let both = Both { bus0, bus1 };
+    let t = hear_one(
+        Master::Zero,
+        address,
+        levels(Master::Zero, before),
+        levels(Master::Zero, now),
+        s.bus0,
+    );
+    let u = hear_one(
+        Master::One,
+        address,
+        levels(Master::One, before),
+        levels(Master::One, now),
+        s.bus1,
+    );
     Heard {
-        both,
-        given0,
-        given1,
+        both: Both {
+            bus0: t.bus,
+            bus1: u.bus,
+        },
+        given0: t.given,
+        given1: u.given,
+    }
+}
+
+// One sample after the one before it, on both buses, for a capture: most of its samples are still or light, and both buses are seldom heavy at once.
+#[tactic(auto, using(crate::proofs::Light::still_sampled, crate::proofs::Light::light_sampled))]
+pub fn hear_sample(address: u8, before: u8, now: u8, s: Both) -> Heard
+    ensures { result ≡ sampled address before now s }
+{
+    if is_still(before, now) {
+        nothing_given(s)
+    } else if are_light(before, now, s) {
+        nothing_given(with_bits(before, now, s))
+    } else {
+        hear_watched(address, before, now, s)
     }
 }

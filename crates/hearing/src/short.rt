@@ -5,26 +5,23 @@ ghost use Rattle.capture.specs.OneBus.{levels, rises, shifted};
 ghost use Rattle.hearing.specs.Light.{is_still, is_marked, has_room, is_light, lightly, are_light, both_lightly};
 
 use crate::ends::is_outside;
-use bits::worth_of;
+use arbiter::Master;
 use capture::{Both, Levels, Listener};
 
 // ---- two samples after each other
 
-pub(crate) fn levels_0(x: u8) -> Levels
-    ensures { result ≡ levels Zero x }
+pub(crate) fn levels(m: Master, x: u8) -> Levels
+    ensures { result ≡ levels m x }
 {
-    Levels {
-        scl: x / 1 % 2 == 1,
-        sda: x / 2 % 2 == 1,
-    }
-}
-
-pub(crate) fn levels_1(x: u8) -> Levels
-    ensures { result ≡ levels One x }
-{
-    Levels {
-        scl: x / 4 % 2 == 1,
-        sda: x / 8 % 2 == 1,
+    match m {
+        Master::Zero => Levels {
+            scl: x % 2 == 1,
+            sda: x / 2 % 2 == 1,
+        },
+        Master::One => Levels {
+            scl: x / 4 % 2 == 1,
+            sda: x / 8 % 2 == 1,
+        },
     }
 }
 
@@ -32,7 +29,7 @@ pub(crate) fn levels_1(x: u8) -> Levels
 fn is_marked(was: Levels, now: Levels) -> bool
     ensures { result ≡ is_marked was now }
 {
-    was.scl & now.scl & ((was.sda & !now.sda) | (!was.sda & now.sda))
+    was.scl & now.scl & (was.sda != now.sda)
 }
 
 fn is_rise(was: Levels, now: Levels) -> bool
@@ -47,15 +44,14 @@ fn is_rise(was: Levels, now: Levels) -> bool
 pub(crate) fn is_still(before: u8, now: u8) -> bool
     ensures { result ≡ is_still before now }
 {
-    (before == now) | (!(now / 1 % 2 == 1) & !(now / 4 % 2 == 1))
+    (before == now) | (!(now % 2 == 1) & !(now / 4 % 2 == 1))
 }
 
 #[tactic(auto, unfolding(crate::specs::Light::has_room))]
 fn has_room(l: Listener) -> bool
     ensures { result ≡ has_room l }
 {
-    let awaited = l.awaited;
-    !is_outside(awaited) & (l.clocks < 8)
+    !is_outside(l.awaited) & (l.clocks < 8)
 }
 
 // By branches and not by one formula, so that a bus where SCL does not rise is not asked for its byte.
@@ -74,13 +70,15 @@ pub(crate) fn is_light(was: Levels, now: Levels, l: Listener) -> bool
 pub(crate) fn are_light(before: u8, now: u8, s: Both) -> bool
     ensures { result ≡ are_light before now s }
 {
-    let bus0 = s.bus0;
-    let bus1 = s.bus1;
-    if is_light(levels_0(before), levels_0(now), bus0) {
-        is_light(levels_1(before), levels_1(now), bus1)
-    } else {
-        false
-    }
+    is_light(
+        levels(Master::Zero, before),
+        levels(Master::Zero, now),
+        s.bus0,
+    ) && is_light(
+        levels(Master::One, before),
+        levels(Master::One, now),
+        s.bus1,
+    )
 }
 
 #[tactic(auto, unfolding(capture::specs::OneBus::shifted))]
@@ -88,13 +86,10 @@ fn on_bit(b: bool, l: Listener) -> Listener
     requires { l.clocks < 8 }
     ensures { result ≡ shifted b l }
 {
-    let awaited = l.awaited;
     Listener {
-        awaited,
         clocks: l.clocks + 1,
-        value: l.value % 128 * 2 + worth_of(1, b),
-        owed: l.owed,
-        broken: l.broken,
+        value: l.value % 128 * 2 + u8::from(b),
+        ..l
     }
 }
 
@@ -115,9 +110,16 @@ pub(crate) fn with_bits(before: u8, now: u8, s: Both) -> Both
     requires { are_light before now s ≡ true }
     ensures { result ≡ both_lightly before now s }
 {
-    let old0 = s.bus0;
-    let old1 = s.bus1;
-    let bus0 = with_bit(levels_0(before), levels_0(now), old0);
-    let bus1 = with_bit(levels_1(before), levels_1(now), old1);
-    Both { bus0, bus1 }
+    Both {
+        bus0: with_bit(
+            levels(Master::Zero, before),
+            levels(Master::Zero, now),
+            s.bus0,
+        ),
+        bus1: with_bit(
+            levels(Master::One, before),
+            levels(Master::One, now),
+            s.bus1,
+        ),
+    }
 }

@@ -1,9 +1,11 @@
--- A short buffer and the same with 0 after it are read as one device.
+-- A short buffer and the same with 0 after it are read as one device, and so are a long one and its first 38 bytes.
 -- Assumes nothing.
-use Prim.Native.Nat.{ℕ, zero, suc}
+use Prim.Native.Nat.{ℕ, zero, suc, ◌<◌}
 use mathlib.Core.Path.{◌≡◌, refl}
 use mathlib.Core.List.{List, [], ◌∷◌, ◌++◌}
-use lib.ListN.{length, drop, replicate}
+use native.Mathlib.Omega.{arith}
+use lib.ListN.{length, take, drop, replicate}
+use lib.Seq.{get_or-take}
 use Rattle.arbiter.specs.Traces.{byte_at}
 use Rattle.layout.specs.Layout.{side_in, bus_in, arb_in, device_in}
 
@@ -28,10 +30,54 @@ followed (x ∷ b) zero (suc i) = ended b i
     ended (y ∷ l) (suc j) = ended l j
 followed (x ∷ b) (suc n) (suc i) = followed b n i
 
--- a device is read off the bytes of a buffer alone
-same_device : (l m : List ℕ) → ((i : ℕ) → byte_at i l ≡ byte_at i m) → device_in l ≡ device_in m
+-- a device is read off the first 38 bytes of a buffer alone
+same_device : (l m : List ℕ) → ((i : ℕ) → i < 38 → byte_at i l ≡ byte_at i m) → device_in l ≡ device_in m
 unfolding device_in side_in bus_in arb_in
-same_device l m h = simp h
+same_device l m h =
+    simp (
+      h 0 (omega arith),
+      h 1 (omega arith),
+      h 2 (omega arith),
+      h 3 (omega arith),
+      h 4 (omega arith),
+      h 5 (omega arith),
+      h 6 (omega arith),
+      h 7 (omega arith),
+      h 8 (omega arith),
+      h 9 (omega arith),
+      h 10 (omega arith),
+      h 11 (omega arith),
+      h 12 (omega arith),
+      h 13 (omega arith),
+      h 14 (omega arith),
+      h 15 (omega arith),
+      h 16 (omega arith),
+      h 17 (omega arith),
+      h 18 (omega arith),
+      h 19 (omega arith),
+      h 20 (omega arith),
+      h 21 (omega arith),
+      h 22 (omega arith),
+      h 23 (omega arith),
+      h 24 (omega arith),
+      h 25 (omega arith),
+      h 26 (omega arith),
+      h 27 (omega arith),
+      h 28 (omega arith),
+      h 29 (omega arith),
+      h 30 (omega arith),
+      h 31 (omega arith),
+      h 32 (omega arith),
+      h 33 (omega arith),
+      h 34 (omega arith),
+      h 35 (omega arith),
+      h 36 (omega arith),
+      h 37 (omega arith),
+    )
 
 pub padded : (b : List ℕ) (n : ℕ) → device_in (b ++ drop (length b) (none n)) ≡ device_in b
-padded b n = same_device (b ++ drop (length b) (none n)) b (followed b n)
+padded b n = same_device (b ++ drop (length b) (none n)) b (λ i p. followed b n i)
+
+-- and so off the image that a longer buffer begins with
+pub begun : (b : List ℕ) → device_in (take 38 b) ≡ device_in b
+begun b = same_device (take 38 b) b (λ i p. get_or-take 38 b i 0 p)

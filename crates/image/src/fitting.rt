@@ -1,42 +1,43 @@
-// Whether every field of an image is in its range.
+// Whether every field of an image is in its range. A line for each row of the table, as crates/layout/specs/Layout.antt has them.
 ghost use Rattle.std.specs.Prelude.{◌<◌, ◌≡◌, not, ◌&&◌, leb};
 ghost use Rattle.arbiter.specs.Words.{bit};
 ghost use Rattle.arbiter.specs.Traces.{byte_at};
 ghost use Rattle.arbiter.specs.declared.Master.{Master};
-ghost use Rattle.arbiter.specs.declared.Master.TheVariants.{Zero, One};
 ghost use Rattle.layout.specs.Layout.{registers, counts, shared, port, word_at, rows_fit, image_in_range};
 
-use crate::{kind_in, word_at};
+use crate::{kind_in, word_in};
 use arbiter::{HOLD_TICKS, SCL_HUNG_LIMIT, SDA_HUNG_LIMIT};
 use fields::limit_of;
-use format::byte_at;
+use layout::IMAGE_LENGTH;
 
 // A field of one byte is no more than its top.
-fn fits(at: usize, top: u8, b: &[u8]) -> bool
+fn fits(at: usize, top: u8, b: &[u8; IMAGE_LENGTH]) -> bool
+    requires { at < 38 }
     ensures { result ≡ leb (byte_at at b.now) top }
 {
-    byte_at(at, b) <= top
+    b[at] <= top
 }
 
 // And one of two bytes.
-fn word_fits(at: usize, top: u16, b: &[u8]) -> bool
-    requires { at < 38 }
+fn word_fits(at: usize, top: u16, b: &[u8; IMAGE_LENGTH]) -> bool
+    requires { at < 37 }
     ensures { result ≡ (leb (byte_at at b.now) 255 && leb (word_at at b.now) top) }
 {
-    fits(at, 255, b) & (word_at(at, b) <= top)
+    fits(at, 255, b) & (word_in(at, b) <= top)
 }
 
 // CONTR has bit 1 clear.
-fn contr_fits(at: usize, b: &[u8]) -> bool
+fn contr_fits(at: usize, b: &[u8; IMAGE_LENGTH]) -> bool
+    requires { at < 38 }
     ensures { result ≡ (leb (byte_at at b.now) 255 && not (bit 1 (byte_at at b.now))) }
 {
-    fits(at, 255, b) & !(byte_at(at, b) / 2 % 2 == 1)
+    fits(at, 255, b) & !(b[at] / 2 % 2 == 1)
 }
 
 // The registers of either master, from its first one on.
 #[tactic(auto, unfolding(layout::specs::Layout::rows_fit_too))]
-fn registers_fit(at: usize, b: &[u8]) -> bool
-    requires { at < 38 }
+fn registers_fit(at: usize, b: &[u8; IMAGE_LENGTH]) -> bool
+    requires { at < 32 }
     ensures { (m : Master) → result ≡ rows_fit at (registers m) b.now }
 {
     contr_fits(at, b)
@@ -49,7 +50,7 @@ fn registers_fit(at: usize, b: &[u8]) -> bool
 }
 
 #[tactic(auto, unfolding(layout::specs::Layout::rows_fit_too))]
-fn counts_fit(b: &[u8]) -> bool
+fn counts_fit(b: &[u8; IMAGE_LENGTH]) -> bool
     ensures { result ≡ rows_fit 14 counts b.now }
 {
     let limit = limit_of(kind_in(b));
@@ -61,7 +62,7 @@ fn counts_fit(b: &[u8]) -> bool
 }
 
 #[tactic(auto, unfolding(layout::specs::Layout::rows_fit_too))]
-fn shared_fit(b: &[u8]) -> bool
+fn shared_fit(b: &[u8; IMAGE_LENGTH]) -> bool
     ensures { result ≡ rows_fit 21 shared b.now }
 {
     fits(21, 1, b)
@@ -76,22 +77,17 @@ fn shared_fit(b: &[u8]) -> bool
         & fits(30, 1, b)
 }
 
+// The port of either master, from its first byte on.
 #[tactic(auto, unfolding(layout::specs::Layout::rows_fit_too))]
-fn port_0_fits(b: &[u8]) -> bool
-    ensures { result ≡ rows_fit 32 (port Zero) b.now }
+fn port_fits(at: usize, b: &[u8; IMAGE_LENGTH]) -> bool
+    requires { at < 36 }
+    ensures { (m : Master) → result ≡ rows_fit at (port m) b.now }
 {
-    fits(32, 2, b) & fits(33, 7, b) & fits(34, 1, b)
-}
-
-#[tactic(auto, unfolding(layout::specs::Layout::rows_fit_too))]
-fn port_1_fits(b: &[u8]) -> bool
-    ensures { result ≡ rows_fit 35 (port One) b.now }
-{
-    fits(35, 2, b) & fits(36, 7, b) & fits(37, 1, b)
+    fits(at, 2, b) & fits(at + 1, 7, b) & fits(at + 2, 1, b)
 }
 
 // Every field of an image is in its range.
-pub(crate) fn in_range(b: &[u8]) -> bool
+pub(crate) fn in_range(b: &[u8; IMAGE_LENGTH]) -> bool
     ensures { result ≡ image_in_range b.now }
 {
     registers_fit(0, b)
@@ -99,6 +95,6 @@ pub(crate) fn in_range(b: &[u8]) -> bool
         & counts_fit(b)
         & shared_fit(b)
         & fits(31, 1, b)
-        & port_0_fits(b)
-        & port_1_fits(b)
+        & port_fits(32, b)
+        & port_fits(35, b)
 }

@@ -5,30 +5,21 @@
 mod fitting;
 mod numbers;
 
-ghost use Rattle.std.specs.Prelude.{◌+◌, ◌<◌, ◌≤◌, ◌≡◌, length};
+ghost use Rattle.std.specs.Prelude.{◌<◌, ◌≡◌};
 ghost use Rattle.arbiter.specs.Registers.{register_byte, reads_at};
-ghost use Rattle.layout.specs.Layout.{image_length, kind_in, word_at, flag_at, side_in, bus_in, arb_in, device_in};
-ghost use Rattle.arbiter.specs.Traces.{byte_at};
-ghost use Rattle.layout.specs.Images.{image_number, shown_number, shown};
+ghost use Rattle.layout.specs.Layout.{kind_in, word_at, flag_at, side_in, bus_in, arb_in, device_in};
+ghost use Rattle.layout.specs.Images.{image_number, shown};
+ghost use Rattle.layout.specs.Refusals.{number_of, shown_of};
 
 use crate::fitting::in_range;
 use crate::numbers::{control_of, last_numbered, port_numbered, switch_numbered, turn_numbered};
 use arbiter::{Arbitration, Bus, Device, Kind, Mailbox, Master, Register, Side};
-use bits::wide_u16;
-use fields::{arb_with, master_of, owns_turn, port_of, register_at, side_with, turn_of};
+use fields::{master_of, owns_turn, register_at};
 use format::{byte_at, kind_of};
-use layout::{IMAGE_LENGTH, Shown};
+use layout::{IMAGE_LENGTH, ImageRefusal};
 use registers::register_byte;
 
 // ---- bytes
-
-// Two bytes, the low one first.
-pub(crate) fn word_at(at: usize, b: &[u8]) -> u16
-    requires { at < 38 }
-    ensures { result ≡ word_at at b.now }
-{
-    wide_u16(byte_at(at, b)) + 256 * wide_u16(byte_at(at + 1, b))
-}
 
 // A byte that stands for a bit: 1 is true.
 pub fn flag_at(at: usize, b: &[u8]) -> bool
@@ -37,97 +28,85 @@ pub fn flag_at(at: usize, b: &[u8]) -> bool
     byte_at(at, b) == 1
 }
 
-pub(crate) fn kind_in(b: &[u8]) -> Kind
+// The same of an image: its length is in its type, and asked once.
+fn flag_in(at: usize, b: &[u8; IMAGE_LENGTH]) -> bool
+    requires { at < 38 }
+    ensures { result ≡ flag_at at b.now }
+{
+    b[at] == 1
+}
+
+// Two bytes, the low one first.
+pub(crate) fn word_in(at: usize, b: &[u8; IMAGE_LENGTH]) -> u16
+    requires { at < 37 }
+    ensures { result ≡ word_at at b.now }
+{
+    u16::from_le_bytes([b[at], b[at + 1]])
+}
+
+pub(crate) fn kind_in(b: &[u8; IMAGE_LENGTH]) -> Kind
     ensures { result ≡ kind_in b.now }
 {
-    kind_of(byte_at(31, b))
+    kind_of(b[31])
 }
 
 // ---- read
 
-// The same of a buffer that is long enough: its length is asked once, and not at each byte.
-fn byte_in(at: usize, b: &[u8]) -> u8
-    requires { at < length b.now }
-    ensures { result ≡ byte_at at b.now }
-{
-    b[at]
-}
-
-fn word_in(at: usize, b: &[u8]) -> u16
-    requires { at + 1 < length b.now }
-    ensures { result ≡ word_at at b.now }
-{
-    wide_u16(byte_in(at, b)) + 256 * wide_u16(byte_in(at + 1, b))
-}
-
-fn flag_in(at: usize, b: &[u8]) -> bool
-    requires { at < length b.now }
-    ensures { result ≡ flag_at at b.now }
-{
-    byte_in(at, b) == 1
-}
-
-fn mail_with(low: u8, high: u8, full: bool) -> Mailbox
-    ensures { result ≡ record { low = low; high = high; full = full } }
-{
-    Mailbox { low, high, full }
-}
-
 // A master's registers from `at` on, and its port from `port` on.
 #[tactic(auto, unfolding(layout::specs::Layout::side_in))]
-fn side_in(at: usize, port: usize, b: &[u8]) -> Side
-    requires { (at < 32) × (port < 36) × (image_length ≤ length b.now) }
+fn side_in(at: usize, port: usize, b: &[u8; IMAGE_LENGTH]) -> Side
+    requires { (at < 32) × (port < 36) }
     ensures { result ≡ side_in at port b.now }
 {
-    side_with(
-        register_at(byte_in(port + 1, b)),
-        byte_in(at + 1, b),
-        control_of(byte_in(at, b)),
-        byte_in(at + 2, b),
-        mail_with(byte_in(at + 4, b), byte_in(at + 5, b), flag_in(at + 6, b)),
-        flag_in(port + 2, b),
-        port_numbered(byte_in(port, b)),
-        byte_in(at + 3, b),
-    )
+    Side {
+        contr: control_of(b[at]),
+        rt: b[at + 1],
+        ints: b[at + 2],
+        mask: b[at + 3],
+        mail: Mailbox {
+            low: b[at + 4],
+            high: b[at + 5],
+            full: flag_in(at + 6, b),
+        },
+        port: port_numbered(b[port]),
+        pointer: register_at(b[port + 1]),
+        auto: flag_in(port + 2, b),
+    }
 }
 
 #[tactic(auto, unfolding(layout::specs::Layout::bus_in))]
-fn bus_in(b: &[u8]) -> Bus
-    requires { image_length ≤ length b.now }
+fn bus_in(b: &[u8; IMAGE_LENGTH]) -> Bus
     ensures { result ≡ bus_in b.now }
 {
     Bus {
+        hold: b[15],
+        lowscl: word_in(16, b),
+        lowsda: word_in(18, b),
+        idle: b[20],
         outscl: flag_in(21, b),
         outsda: flag_in(22, b),
         intin: flag_in(23, b),
         drivescl: flag_in(24, b),
         drivesda: flag_in(25, b),
         busy: flag_in(26, b),
-        hold: byte_in(15, b),
-        idle: byte_in(20, b),
-        lowscl: word_in(16, b),
-        lowsda: word_in(18, b),
     }
 }
 
 #[tactic(auto, unfolding(layout::specs::Layout::arb_in))]
-fn arb_in(b: &[u8]) -> Arbitration
-    requires { image_length ≤ length b.now }
+fn arb_in(b: &[u8; IMAGE_LENGTH]) -> Arbitration
     ensures { result ≡ arb_in b.now }
 {
-    arb_with(
-        last_numbered(byte_in(28, b)),
-        flag_in(30, b),
-        switch_numbered(byte_in(29, b)),
-        byte_in(14, b),
-        turn_numbered(byte_in(27, b)),
-    )
+    Arbitration {
+        reserve: b[14],
+        turn: turn_numbered(b[27]),
+        last: last_numbered(b[28]),
+        switch: switch_numbered(b[29]),
+        initfail: flag_in(30, b),
+    }
 }
 
-// The device of a buffer that is long enough.
 #[tactic(auto, unfolding(layout::specs::Layout::device_in))]
-fn device_in(b: &[u8]) -> Device
-    requires { image_length ≤ length b.now }
+fn device_in(b: &[u8; IMAGE_LENGTH]) -> Device
     ensures { result ≡ device_in b.now }
 {
     Device {
@@ -143,26 +122,33 @@ fn device_in(b: &[u8]) -> Device
 pub fn read_image(b: &[u8]) -> Device
     ensures { result ≡ device_in b.now }
 {
+    let mut image = [0; IMAGE_LENGTH];
     if b.len() < IMAGE_LENGTH {
-        let mut bytes = [0u8; 38];
-        bytes[..b.len()].copy_from_slice(b);
-        device_in(&bytes)
+        image[..b.len()].copy_from_slice(b);
+        device_in(&image)
     } else {
-        device_in(b)
+        image.copy_from_slice(&b[..IMAGE_LENGTH]);
+        device_in(&image)
     }
 }
 
 // ---- whether it is one
 
-// 0 for an image with every field in its range; 9 for a buffer of another length, and then 16.
-#[tactic(auto, unfolding(layout::specs::Images::image_number))]
-pub fn image_number(b: &[u8]) -> u8
-    ensures { result ≡ image_number b.now }
+// An image has its length, and every field in its range.
+#[tactic(auto, unfolding(layout::specs::Images::image_number, layout::specs::Refusals::number_of))]
+pub fn check_image(b: &[u8]) -> Result<(), ImageRefusal>
+    ensures { number_of result ≡ image_number b.now }
 {
-    if b.len() == IMAGE_LENGTH {
-        if in_range(b) { 0 } else { 16 }
+    if b.len() != IMAGE_LENGTH {
+        return Err(ImageRefusal::Length);
+    }
+    // Copied: compiled for wasm32, a slice that is tried as an array of its length is refused.
+    let mut image = [0; IMAGE_LENGTH];
+    image.copy_from_slice(b);
+    if in_range(&image) {
+        Ok(())
     } else {
-        9
+        Err(ImageRefusal::Range)
     }
 }
 
@@ -181,53 +167,31 @@ fn reads(
 ) -> u8
     ensures { result ≡ register_byte r granted theirs own other b initfail }
 {
-    let at = side_with(
-        r,
-        own.rt,
-        own.contr,
-        own.ints,
-        own.mail,
-        own.auto,
-        port_of(own),
-        own.mask,
-    );
+    let at = Side { pointer: r, ..own };
     register_byte(granted, theirs, at, other, b, initfail)
 }
 
 fn reads_at(r: Register, m: Master, d: Device) -> u8
     ensures { result ≡ reads_at r m d }
 {
-    let zero = owns_turn(Master::Zero, turn_of(d.arb));
-    let one = owns_turn(Master::One, turn_of(d.arb));
+    let zero = owns_turn(Master::Zero, d.arb.turn);
+    let one = owns_turn(Master::One, d.arb.turn);
     match m {
         Master::Zero => reads(r, zero, one, d.side0, d.side1, d.bus, d.arb.initfail),
         Master::One => reads(r, one, zero, d.side1, d.side0, d.bus, d.arb.initfail),
     }
 }
 
-#[tactic(auto, unfolding(layout::specs::Images::shown_number))]
-fn shown_number(m: u8, r: u8, b: &[u8]) -> u8
-    ensures { result ≡ shown_number m r b.now }
+// What a master reads of a register of an image, without an event: nothing changes. Refused as an image is, and then for a master above 1 or a register
+// above 7.
+#[tactic(auto, using(layout::proofs::Once::is_good, layout::proofs::Once::is_bad), unfolding(layout::specs::Images::shown, layout::specs::Images::shown_number, layout::specs::Refusals::shown_of, layout::specs::Refusals::number_of))]
+pub fn read_register(m: u8, r: u8, b: &[u8]) -> Result<u8, ImageRefusal>
+    ensures { shown_of result ≡ shown m r b.now }
 {
-    let number = image_number(b);
-    if number == 0 {
-        if (m < 2) & (r < 8) { 0 } else { 3 }
+    check_image(b)?;
+    if (m < 2) & (r < 8) {
+        Ok(reads_at(register_at(r), master_of(m), read_image(b)))
     } else {
-        number
-    }
-}
-
-// What a master reads of a register of an image, without an event: nothing changes. Refused by 9, 16, and then 3 for a master above 1 or a
-// register above 7.
-#[tactic(auto, unfolding(layout::specs::Images::shown))]
-pub fn read_register(m: u8, r: u8, b: &[u8]) -> Shown
-    ensures { result ≡ shown m r b.now }
-{
-    let number = shown_number(m, r, b);
-    if number == 0 {
-        let byte = reads_at(register_at(r), master_of(m), read_image(b));
-        Shown { number, byte }
-    } else {
-        Shown { number, byte: 0 }
+        Err(ImageRefusal::Argument)
     }
 }

@@ -1,9 +1,10 @@
-// What the numbers in an image stand for: a port, the last owner, the turn, the switch, CONTR.
+// What the numbers in an image stand for: a port, the last owner, the turn, the switch, CONTR. Functions and no `From<u8>`: the types are of `arbiter`,
+// and the numbers are an image's alone.
 ghost use Rattle.std.specs.Prelude.{◌≡◌};
 ghost use Rattle.arbiter.specs.Registers.{control_of};
 ghost use Rattle.layout.specs.Numbers.{port_of, last_of, turn_of, switch_of};
 
-use arbiter::{Control, Ground, Last, Master, Port, Switch, Turn};
+use arbiter::{Control, Ground, Master, Port, Switch, Turn};
 
 pub(crate) fn port_numbered(v: u8) -> Port
     ensures { result ≡ port_of v }
@@ -15,13 +16,13 @@ pub(crate) fn port_numbered(v: u8) -> Port
     }
 }
 
-pub(crate) fn last_numbered(v: u8) -> Last
+pub(crate) fn last_numbered(v: u8) -> Option<Master>
     ensures { result ≡ last_of v }
 {
     match v {
-        0 => Last::Never,
-        1 => Last::Was(Master::Zero),
-        _ => Last::Was(Master::One),
+        0 => None,
+        1 => Some(Master::Zero),
+        _ => Some(Master::One),
     }
 }
 
@@ -48,19 +49,12 @@ pub(crate) fn turn_numbered(v: u8) -> Turn
 pub(crate) fn switch_numbered(v: u8) -> Switch
     ensures { result ≡ switch_of v }
 {
-    if v == 0 {
-        return Switch::Apart;
-    }
-    if v == 1 {
-        return Switch::Closed(Master::Zero);
-    }
-    if v == 2 {
-        return Switch::Closed(Master::One);
-    }
-    if v < 12 {
-        Switch::Initialising(Master::Zero, v - 3)
-    } else {
-        Switch::Initialising(Master::One, v - 12)
+    match v {
+        0 => Switch::Apart,
+        1 => Switch::Closed(Master::Zero),
+        2 => Switch::Closed(Master::One),
+        3..=11 => Switch::Initialising(Master::Zero, v - 3),
+        _ => Switch::Initialising(Master::One, v - 12),
     }
 }
 
@@ -74,6 +68,6 @@ pub(crate) fn control_of(v: u8) -> Control
         swrst: v / 16 % 2 == 1,
         businit: v / 8 % 2 == 1,
         busconnect: v / 4 % 2 == 1,
-        lockreq: v / 1 % 2 == 1,
+        lockreq: v % 2 == 1,
     }
 }

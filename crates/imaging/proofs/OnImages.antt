@@ -19,13 +19,16 @@ use Rattle.layout.specs.Images.{is_image, image_run}
 use Rattle.layout.proofs.Fits.{record_fits, image_fits}
 use Rattle.layout.proofs.Back.{read_back, laid_out_back}
 use Rattle.layout.proofs.Steps.{steps_alike}
+use Rattle.std.specs.Prelude.{Result, Ok, Err}
+use Rattle.layout.specs.declared.ImageRefusal.{ImageRefusal}
+use Rattle.layout.specs.declared.ImageRefusal.TheVariants.{Length, Range, Argument}
+use Rattle.layout.proofs.Once.{result_of}
 use Rattle.quiet.specs.Quiet.{tick, ticks}
-use Rattle.advance.specs.declared.Advanced.{Advanced}
+use Rattle.advance.specs.Advance.{Advanced}
 use Rattle.advance.specs.Changes.{changes}
 use Rattle.advance.specs.Advance.{changing, most_ticks, advanced_with, advanced}
 use Rattle.advance.proofs.Answers.{answers}
-use Rattle.imaging.specs.declared.Told.{Told}
-use Rattle.imaging.specs.Advancing.{told_of, image_told, image_advanced}
+use Rattle.imaging.specs.Advancing.{Told, told_by, told_of, image_told, image_advanced}
 use Rattle.imaging.specs.Laws.{AdvancedAlike, AdvancedStays, NoneAdvanced, PastAdvanced, SixOnImages}
 
 -- ---- ticks keep the ranges
@@ -95,7 +98,7 @@ past_advanced b n h past =
 
 -- ---- what is reported is among the ticks
 
-one_at_most : (b : Bool) → worth 1 b ≤ 1
+pub one_at_most : (b : Bool) → worth 1 b ≤ 1
 one_at_most true = omega arith
 one_at_most false = omega arith
 
@@ -125,3 +128,19 @@ six_on_images k rs n bytes =
     let back = read_back (run k rs) fits in
     subst (λ (t : Told). t.reported ≤ 6) (sym (told_good (image_of (run k rs)) n (record_fits (run k rs) fits)))
     (subst (λ (d : Device). (advanced n d).reported ≤ 6) (sym back) (few_reported n (run k rs) (answers.six_at_most k rs n)))
+
+-- ---- what is told, and the result that tells it
+
+reported_by : Told → Result ℕ ImageRefusal
+reported_by t = result_of t.reported t.number
+
+of_told : (r : Result ℕ ImageRefusal) → reported_by (told_by r) ≡ r
+unfolding told_by reported_by
+of_told (Ok reported) = refl
+of_told (Err Length) = refl
+of_told (Err Range) = refl
+of_told (Err Argument) = refl
+
+-- an advance is told whole by its two numbers
+pub told_once : {t : Told} {x y : Result ℕ ImageRefusal} → told_by x ≡ t → told_by y ≡ t → x ≡ y
+told_once p q = sym (of_told _) ∙ ap reported_by (p ∙ sym q) ∙ of_told _

@@ -3,30 +3,23 @@
 
 pub mod advancing;
 
-ghost use Rattle.std.specs.Prelude.{◌+◌, ◌/◌, ◌%◌, ◌<◌, ◌≡◌, true, false, length};
+ghost use Rattle.std.specs.Prelude.{◌<◌, ◌≡◌, true, false, length};
 ghost use Rattle.arbiter.specs.Registers.{contr_byte};
 ghost use Rattle.arbiter.specs.Steps.{step};
 ghost use Rattle.ranges.specs.Ranges.{pulses, port_number, last_number, turn_number, state_number};
-ghost use Rattle.arbiter.specs.declared.Turn.TheVariants.{Claims, Owns};
-ghost use Rattle.layout.specs.Layout.{image_length, image_of, device_in};
+ghost use Rattle.layout.specs.Layout.{counts, image_length, laid_out, image_of, device_in};
+ghost use Rattle.layout.specs.Refusals.{number_of};
 ghost use Rattle.layout.specs.Images.{is_image, refused_by, image_answer, image_after, fresh_number, fresh_after};
 
-use arbiter::{Answer, Control, Device, Ground, Last, Master, Port, Raw, Switch, Turn};
-use bits::{byte_of, worth_of};
-use fields::{last_of, pointer_of, port_of, register_number, switch_of, turn_of};
+use arbiter::{Answer, Control, Device, Ground, Master, Port, Raw, Switch, Turn};
+use bits::byte_of;
+use fields::register_number;
 use format::{is_kind, kind_byte, kind_of};
-use image::{image_number, read_image};
-use layout::IMAGE_LENGTH;
+use image::{check_image, read_image};
+use layout::{IMAGE_LENGTH, ImageRefusal};
 use step::{fresh, step_device};
 
-// What an advance tells: its number, and how many of its ticks changed anything but counts.
-#[derive(Clone, Copy)]
-pub struct Told {
-    pub number: u8,
-    pub reported: u32,
-}
-
-// ---- the numbers of an image
+// ---- the numbers of an image: functions and no `From`, since the types are of `arbiter`, and the numbers are an image's alone
 
 fn port_number(p: Port) -> u8
     ensures { result ≡ port_number p }
@@ -38,49 +31,13 @@ fn port_number(p: Port) -> u8
     }
 }
 
-fn last_number(l: Last) -> u8
+fn last_number(l: Option<Master>) -> u8
     ensures { result ≡ last_number l }
 {
     match l {
-        Last::Never => 0,
-        Last::Was(m) => match m {
-            Master::Zero => 1,
-            Master::One => 2,
-        },
-    }
-}
-
-fn claims_number(m: Master, g: Ground) -> u8
-    ensures { result ≡ turn_number (Claims m g) }
-{
-    match m {
-        Master::Zero => match g {
-            Ground::Sole => 1,
-            Ground::Priority => 2,
-            Ground::LastGranted => 3,
-        },
-        Master::One => match g {
-            Ground::Sole => 4,
-            Ground::Priority => 5,
-            Ground::LastGranted => 6,
-        },
-    }
-}
-
-fn owns_number(m: Master, g: Ground) -> u8
-    ensures { result ≡ turn_number (Owns m g) }
-{
-    match m {
-        Master::Zero => match g {
-            Ground::Sole => 7,
-            Ground::Priority => 8,
-            Ground::LastGranted => 9,
-        },
-        Master::One => match g {
-            Ground::Sole => 10,
-            Ground::Priority => 11,
-            Ground::LastGranted => 12,
-        },
+        None => 0,
+        Some(Master::Zero) => 1,
+        Some(Master::One) => 2,
     }
 }
 
@@ -89,8 +46,18 @@ fn turn_number(t: Turn) -> u8
 {
     match t {
         Turn::Nobody => 0,
-        Turn::Claims(m, g) => claims_number(m, g),
-        Turn::Owns(m, g) => owns_number(m, g),
+        Turn::Claims(Master::Zero, Ground::Sole) => 1,
+        Turn::Claims(Master::Zero, Ground::Priority) => 2,
+        Turn::Claims(Master::Zero, Ground::LastGranted) => 3,
+        Turn::Claims(Master::One, Ground::Sole) => 4,
+        Turn::Claims(Master::One, Ground::Priority) => 5,
+        Turn::Claims(Master::One, Ground::LastGranted) => 6,
+        Turn::Owns(Master::Zero, Ground::Sole) => 7,
+        Turn::Owns(Master::Zero, Ground::Priority) => 8,
+        Turn::Owns(Master::Zero, Ground::LastGranted) => 9,
+        Turn::Owns(Master::One, Ground::Sole) => 10,
+        Turn::Owns(Master::One, Ground::Priority) => 11,
+        Turn::Owns(Master::One, Ground::LastGranted) => 12,
     }
 }
 
@@ -101,17 +68,14 @@ fn switch_number(w: Switch) -> u8
 {
     match w {
         Switch::Apart => 0,
-        Switch::Initialising(m, n) => match m {
-            Master::Zero => 3 + n,
-            Master::One => 12 + n,
-        },
-        Switch::Closed(m) => match m {
-            Master::Zero => 1,
-            Master::One => 2,
-        },
+        Switch::Closed(Master::Zero) => 1,
+        Switch::Closed(Master::One) => 2,
+        Switch::Initialising(Master::Zero, n) => 3 + n,
+        Switch::Initialising(Master::One, n) => 12 + n,
     }
 }
 
+#[tactic(auto, unfolding(arbiter::specs::Registers::contr_byte))]
 fn contr_number(c: Control) -> u8
     ensures { result ≡ contr_byte false c }
 {
@@ -127,25 +91,33 @@ fn contr_number(c: Control) -> u8
     )
 }
 
-pub(crate) fn low_of(n: u16) -> u8
-    ensures { result ≡ n % 256 }
-{
-    (n % 256) as u8
-}
-
-pub(crate) fn high_of(n: u16) -> u8
-    ensures { result ≡ n / 256 }
-{
-    (n / 256) as u8
-}
-
 // ---- written
 
-// The image of a device, by the table of crates/layout/specs/Layout.antt.
-fn image_of(d: Device) -> [u8; 38]
+// The counts, which a jump over quiet ticks writes alone.
+#[tactic(auto, unfolding(layout::specs::Layout::laid_out))]
+pub(crate) fn counts_of(d: Device) -> [u8; 7]
+    ensures { result ≡ laid_out counts d }
+{
+    let [scl_low, scl_high] = d.bus.lowscl.to_le_bytes();
+    let [sda_low, sda_high] = d.bus.lowsda.to_le_bytes();
+    [
+        d.arb.reserve,
+        d.bus.hold,
+        scl_low,
+        scl_high,
+        sda_low,
+        sda_high,
+        d.bus.idle,
+    ]
+}
+
+// The image of a device, by the table of crates/layout/specs/Layout.antt: a line for each byte of it, as it is printed.
+#[tactic(auto, unfolding(layout::specs::Layout::laid_out, layout::specs::Layout::image_of))]
+fn image_of(d: Device) -> [u8; IMAGE_LENGTH]
     requires { pulses d.arb.switch < 9 }
     ensures { result ≡ image_of d }
 {
+    let [reserve, hold, scl_low, scl_high, sda_low, sda_high, idle] = counts_of(d);
     [
         contr_number(d.side0.contr),
         d.side0.rt,
@@ -153,38 +125,38 @@ fn image_of(d: Device) -> [u8; 38]
         d.side0.mask,
         d.side0.mail.low,
         d.side0.mail.high,
-        worth_of(1, d.side0.mail.full),
+        u8::from(d.side0.mail.full),
         contr_number(d.side1.contr),
         d.side1.rt,
         d.side1.ints,
         d.side1.mask,
         d.side1.mail.low,
         d.side1.mail.high,
-        worth_of(1, d.side1.mail.full),
-        d.arb.reserve,
-        d.bus.hold,
-        low_of(d.bus.lowscl),
-        high_of(d.bus.lowscl),
-        low_of(d.bus.lowsda),
-        high_of(d.bus.lowsda),
-        d.bus.idle,
-        worth_of(1, d.bus.outscl),
-        worth_of(1, d.bus.outsda),
-        worth_of(1, d.bus.intin),
-        worth_of(1, d.bus.drivescl),
-        worth_of(1, d.bus.drivesda),
-        worth_of(1, d.bus.busy),
-        turn_number(turn_of(d.arb)),
-        last_number(last_of(d.arb)),
-        switch_number(switch_of(d.arb)),
-        worth_of(1, d.arb.initfail),
+        u8::from(d.side1.mail.full),
+        reserve,
+        hold,
+        scl_low,
+        scl_high,
+        sda_low,
+        sda_high,
+        idle,
+        u8::from(d.bus.outscl),
+        u8::from(d.bus.outsda),
+        u8::from(d.bus.intin),
+        u8::from(d.bus.drivescl),
+        u8::from(d.bus.drivesda),
+        u8::from(d.bus.busy),
+        turn_number(d.arb.turn),
+        last_number(d.arb.last),
+        switch_number(d.arb.switch),
+        u8::from(d.arb.initfail),
         kind_byte(d),
-        port_number(port_of(d.side0)),
-        register_number(pointer_of(d.side0)),
-        worth_of(1, d.side0.auto),
-        port_number(port_of(d.side1)),
-        register_number(pointer_of(d.side1)),
-        worth_of(1, d.side1.auto),
+        port_number(d.side0.port),
+        register_number(d.side0.pointer),
+        u8::from(d.side0.auto),
+        port_number(d.side1.port),
+        register_number(d.side1.pointer),
+        u8::from(d.side1.auto),
     ]
 }
 
@@ -193,32 +165,30 @@ pub fn write_image(d: Device, out: &mut [u8])
     requires { (pulses d.arb.switch < 9) × (length out.old ≡ image_length) }
     ensures { out.new ≡ image_of d }
 {
-    let bytes = image_of(d);
-    out.copy_from_slice(&bytes);
+    out.copy_from_slice(&image_of(d));
 }
 
 // ---- a fresh image
 
-// The image of a device of this kind after power-up. Refused by 9 for a buffer of another length and then by 3 for another kind, and the
-// buffer is left as it was.
-pub fn fresh_image(kind: u8, image: &mut [u8]) -> u8
-    ensures { (result ≡ fresh_number kind image.old) × (image.new ≡ fresh_after kind image.old) }
+// The image of a device of this kind after power-up. Refused for a buffer of another length and then for another kind, and the buffer is left
+// as it was.
+pub fn fresh_image(kind: u8, image: &mut [u8]) -> Result<(), ImageRefusal>
+    ensures { (number_of result ≡ fresh_number kind image.old) × (image.new ≡ fresh_after kind image.old) }
 {
-    if image.len() == IMAGE_LENGTH {
-        if is_kind(kind) {
-            write_image(fresh(kind_of(kind)), image);
-            0
-        } else {
-            3
-        }
+    if image.len() != IMAGE_LENGTH {
+        return Err(ImageRefusal::Length);
+    }
+    if is_kind(kind) {
+        write_image(fresh(kind_of(kind)), image);
+        Ok(())
     } else {
-        9
+        Err(ImageRefusal::Argument)
     }
 }
 
 // ---- a step
 
-// The answer of a refused image or row.
+// The answer of a refused image or row: a number, since an answer is document 01's four bytes, whatever refused.
 pub fn refused_by(number: u8) -> Answer
     ensures { result ≡ refused_by number }
 {
@@ -240,14 +210,13 @@ fn step_good(image: &mut [u8], r: Raw) -> Answer
 }
 
 // One event on an image, whatever its kind.
+#[tactic(auto, using(layout::proofs::Once::is_good, layout::proofs::Once::is_bad), unfolding(layout::specs::Images::image_answer, layout::specs::Images::image_after, layout::specs::Refusals::number_of))]
 pub(crate) fn step_any(image: &mut [u8], r: Raw) -> Answer
     ensures { (result ≡ image_answer image.old r) × (image.new ≡ image_after image.old r) }
 {
-    let number = image_number(image);
-    if number == 0 {
-        step_good(image, r)
-    } else {
-        refused_by(number)
+    match check_image(image) {
+        Ok(()) => step_good(image, r),
+        Err(refusal) => refused_by(u8::from(refusal)),
     }
 }
 
@@ -255,7 +224,7 @@ pub(crate) fn step_any(image: &mut [u8], r: Raw) -> Answer
 // a field outside its range, with 00, 00, 00 after the number, and the buffer is left as it was.
 //
 // Each kind has a call of its own, so that a compiler with room makes of each what is left of the step for that kind (docs/SPEED.md, "Single
-// steps"). For a microcontroller the calls are one.
+// steps"): 480 to 537 instructions, and 625 to 695 with one arm for all. For a microcontroller the calls are one.
 pub fn step_image(image: &mut [u8], r: Raw) -> Answer
     ensures { (result ≡ image_answer image.old r) × (image.new ≡ image_after image.old r) }
 {

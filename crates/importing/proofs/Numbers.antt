@@ -5,16 +5,16 @@ use mathlib.Core.Path.{◌≡◌, refl, sym, ap, ◌∙◌}
 use mathlib.Core.Bool.{Bool, true, false, ◌||◌}
 use mathlib.Core.List.{List, ◌++◌}
 use native.Mathlib.Omega.{arith}
-use lib.Dec.{eqb}
+use Rattle.std.specs.Prelude.{Result, Ok, Err}
 use lib.ListN.{length, drop}
 use borrow.Author.Tests.{lt-ltb, le-ltb}
 use Rattle.arbiter.specs.Straps.{in_range}
-use Rattle.arbiter.proofs.Choice.{if_false}
 use Rattle.capture.specs.declared.Both.{Both}
-use Rattle.capture.specs.declared.Imported.{Imported}
+use Rattle.capture.specs.declared.ImportFault.{ImportFault}
+use Rattle.capture.specs.declared.ImportFault.TheVariants.{TooLong, BadAddress, Cut, NoRoom}
 use Rattle.capture.specs.OneBus.{is_cut}
 use Rattle.capture.specs.Events.{captured, event_bytes}
-use Rattle.capture.specs.Import.{cut_on_either, import_number, imported_by, buffer_by, imported, imported_buffer}
+use Rattle.capture.specs.Import.{Imported, refusal_number, import_told, cut_on_either, import_number, imported_by, buffer_by, imported, imported_buffer}
 use Rattle.capture.specs.Samples.{both_after}
 use Rattle.capture.proofs.Joined.{cut_joined}
 
@@ -27,42 +27,44 @@ module _ (address : ℕ) (samples buffer : List ℕ) where
   number = import_number address samples (length buffer)
 
   -- what the call promises of its answer r, and of what is left in the buffer
-  abbrev Promised : Imported → List ℕ → Type 0
-  Promised r left = (r ≡ imported address samples buffer) × (left ≡ imported_buffer address samples buffer)
+  abbrev Promised : Result ℕ ImportFault → List ℕ → Type 0
+  Promised r left = (import_told r ≡ imported address samples buffer) × (left ≡ imported_buffer address samples buffer)
 
-  -- refused with k: no events, and the buffer as it was
-  refusal : (k : ℕ) (r : Imported) → eqb k 0 ≡ false → number ≡ k → (r.number ≡ k) × (r.count ≡ 0) → Promised r buffer
+  -- refused: no events, and the buffer as it was
+  by_number : (f : ImportFault) → (import_told (Err f) ≡ imported_by (refusal_number f) address samples)
+      × (buffer ≡ buffer_by (refusal_number f) address samples buffer)
+  by_number TooLong = (refl, refl)
+  by_number BadAddress = (refl, refl)
+  by_number Cut = (refl, refl)
+  by_number NoRoom = (refl, refl)
+
+  refusal : (f : ImportFault) → number ≡ refusal_number f → Promised (Err f) buffer
   unfolding imported imported_buffer
-  refusal k r t e h =
-      let c : r.count ≡ (imported_by k address samples).count = h.1 ∙ sym (if_false (length (captured address samples)) 0 t) in
-      let answer : r ≡ imported_by k address samples = λ j. record { number = h.0 j; count = c j } in
-      let kept : buffer ≡ buffer_by k address samples buffer =
-      sym (if_false (event_bytes (captured address samples) ++ drop (4 * length (captured address samples)) buffer) buffer t) in
-      (answer ∙ ap (λ (n : ℕ). imported_by n address samples) (sym e), kept ∙ ap (λ (n : ℕ). buffer_by n address samples buffer) (sym e))
+  refusal f e =
+      let told = by_number f in
+      (told.0 ∙ ap (λ (n : ℕ). imported_by n address samples) (sym e), told.1 ∙ ap (λ (n : ℕ). buffer_by n address samples buffer) (sym e))
 
-  pub refused_13 : (r : Imported) → 32768 < length samples → (r.number ≡ 13) × (r.count ≡ 0) → Promised r buffer
+  pub refused_13 : 32768 < length samples → Promised (Err TooLong) buffer
   unfolding import_number
-  refused_13 r long h = refusal 13 r refl (simp (lt-ltb _ _ long)) h
+  refused_13 long = refusal TooLong (simp (lt-ltb _ _ long))
 
   module _ (short : length samples ≤ 32768) where
-    pub refused_11 : (r : Imported) → in_range address ≡ false → (r.number ≡ 11) × (r.count ≡ 0) → Promised r buffer
+    pub refused_11 : in_range address ≡ false → Promised (Err BadAddress) buffer
     unfolding import_number
-    refused_11 r a h = refusal 11 r refl (simp (le-ltb _ _ short, a)) h
+    refused_11 a = refusal BadAddress (simp (le-ltb _ _ short, a))
 
     module _ (a : in_range address ≡ true) where
-      pub refused_12 : (r : Imported) → cut_on_either address samples ≡ true → (r.number ≡ 12) × (r.count ≡ 0) → Promised r buffer
+      pub refused_12 : cut_on_either address samples ≡ true → Promised (Err Cut) buffer
       unfolding import_number
-      refused_12 r x h = refusal 12 r refl (simp (le-ltb _ _ short, a, x)) h
+      refused_12 x = refusal Cut (simp (le-ltb _ _ short, a, x))
 
-      pub refused_9 : (r : Imported) → cut_on_either address samples ≡ false → length buffer < 4 * length (captured address samples)
-          → (r.number ≡ 9) × (r.count ≡ 0) → Promised r buffer
+      pub refused_9 : cut_on_either address samples ≡ false → length buffer < 4 * length (captured address samples) → Promised (Err NoRoom) buffer
       unfolding import_number
-      refused_9 r x room h = refusal 9 r refl (simp (le-ltb _ _ short, a, x, lt-ltb _ _ room)) h
+      refused_9 x room = refusal NoRoom (simp (le-ltb _ _ short, a, x, lt-ltb _ _ room))
 
       -- accepted: n bytes are those of n / 4 events, and they stand at the front
       pub accepted : (n : ℕ) (left : List ℕ) → cut_on_either address samples ≡ false → 4 * length (captured address samples) ≤ length buffer
-          → n ≡ 4 * length (captured address samples) → left ≡ event_bytes (captured address samples) ++ drop n buffer
-          → Promised (record { number = 0; count = n / 4 }) left
+          → n ≡ 4 * length (captured address samples) → left ≡ event_bytes (captured address samples) ++ drop n buffer → Promised (Ok (n / 4)) left
       unfolding import_number imported imported_buffer
       accepted n left x room e l =
           let zero : number ≡ 0 = simp (le-ltb _ _ short, a, x, le-ltb _ _ room) in

@@ -4,3 +4,5 @@ pub mod Back
 pub mod Steps
 pub mod Reached
 pub mod Answers
+pub mod Once
+pub mod Flags

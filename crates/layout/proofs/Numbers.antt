@@ -19,8 +19,8 @@ use Rattle.arbiter.specs.declared.Port.{Port}
 use Rattle.arbiter.specs.declared.Port.TheVariants.{Rest, Open, Writing}
 use Rattle.arbiter.specs.declared.Turn.{Turn}
 use Rattle.arbiter.specs.declared.Turn.TheVariants.{Nobody, Claims, Owns}
-use Rattle.arbiter.specs.declared.Last.{Last}
-use Rattle.arbiter.specs.declared.Last.TheVariants.{Never, Was}
+use Rattle.std.specs.Prelude.{Option, Some, None}
+use Rattle.arbiter.specs.declared.Master.{Master}
 use Rattle.arbiter.specs.declared.Switch.{Switch}
 use Rattle.arbiter.specs.declared.Switch.TheVariants.{Apart, Initialising, Closed}
 use Rattle.arbiter.specs.declared.Kind.{Kind}
@@ -68,10 +68,10 @@ turn_back (Owns One Sole) = (refl, refl)
 turn_back (Owns One Priority) = (refl, refl)
 turn_back (Owns One LastGranted) = (refl, refl)
 
-pub last_back : (l : Last) → (last_of (last_number l) ≡ l) × (leb (last_number l) 2 ≡ true)
-last_back Never = (refl, refl)
-last_back (Was Zero) = (refl, refl)
-last_back (Was One) = (refl, refl)
+pub last_back : (l : Option Master) → (last_of (last_number l) ≡ l) × (leb (last_number l) 2 ≡ true)
+last_back None = (refl, refl)
+last_back (Some Zero) = (refl, refl)
+last_back (Some One) = (refl, refl)
 
 pub kind_back : (k : Kind) → (kind_of (kind_number k) ≡ k) × (leb (kind_number k) 1 ≡ true)
 kind_back Pca9641 = (refl, refl)

@@ -18,12 +18,13 @@ use Rattle.arbiter.specs.declared.Raw.{Raw}
 use Rattle.arbiter.specs.declared.Event.{Event}
 use Rattle.arbiter.specs.declared.Answer.{Answer}
 use Rattle.arbiter.specs.declared.Stepped.{Stepped}
-use Rattle.arbiter.specs.declared.Decoded.{Decoded}
-use Rattle.arbiter.specs.declared.Decoded.TheVariants.{Reads, UnknownKind, BadField}
+use Rattle.std.specs.Prelude.{Result, Ok, Err}
+use Rattle.arbiter.specs.declared.Unread.TheVariants.{BadField, UnknownKind}
+use Rattle.arbiter.specs.declared.Unread.{Unread}
 use Rattle.arbiter.specs.declared.Outcome.{Outcome}
 use Rattle.arbiter.specs.declared.Outcome.TheVariants.{OutOfSequence}
 use Rattle.arbiter.proofs.Choice.{either, if_true}
-use Rattle.ranges.proofs.Fields.{Ok}
+use Rattle.ranges.proofs.Fields.{DeviceFits}
 use Rattle.ranges.proofs.Fits.{step_ok}
 use Rattle.ranges.proofs.Ranges.{Any, in_range_lem, stays_in_range}
 use Rattle.layout.specs.Layout.{image_of, device_in}
@@ -62,7 +63,7 @@ below v top h = let most : v ≤ top = leb-true v top h in omega arith
 few_pulses : (d : Device) (r : Raw) → in_range d ≡ true → pulses (step d r).device.arb.switch < 9
 few_pulses d r h =
     let (ints0, (mask0, (ints1, (mask1, (hold, (idle, (scl, (sda, (pulsed, _))))))))) = (held d h).0 in
-    let fits : Ok Any d = record {
+    let fits : DeviceFits Any d = record {
       zero = (below d.side0.ints 63 ints0, below d.side0.mask 127 mask0, tt, (tt, tt));
       one = (below d.side1.ints 63 ints1, below d.side1.mask 127 mask1, tt, (tt, tt));
       bus = (below d.bus.hold 35 hold, below d.bus.idle (idle_limit d) idle, below d.bus.lowscl 500 scl, below d.bus.lowsda 501 sda);
@@ -93,11 +94,11 @@ in_sequence_lem e d t =
 abbrev Kept : Device → Stepped → Type 0
 Kept d s = 1 < s.answer.outcome → (s.device ≡ d) × (s.answer ≡ answer s.answer.outcome 0 d)
 
-decoded_kept : (x : Decoded) (d : Device) → Kept d (step_decoded x d)
+decoded_kept : (x : Result Event Unread) (d : Device) → Kept d (step_decoded x d)
 unfolding step_decoded step_event refused taken
-decoded_kept (Reads e) d = either (Kept d) (in_sequence e d) (λ t h. absurd (in_sequence_lem e d t h)) (λ t h. (refl, refl))
-decoded_kept UnknownKind d = λ h. (refl, refl)
-decoded_kept BadField d = λ h. (refl, refl)
+decoded_kept (Ok e) d = either (Kept d) (in_sequence e d) (λ t h. absurd (in_sequence_lem e d t h)) (λ t h. (refl, refl))
+decoded_kept (Err UnknownKind) d = λ h. (refl, refl)
+decoded_kept (Err BadField) d = λ h. (refl, refl)
 
 step_kept : (d : Device) (r : Raw) → Kept d (step d r)
 unfolding step

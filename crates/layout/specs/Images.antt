@@ -9,8 +9,8 @@ use Rattle.arbiter.specs.Steps.{step}
 use Rattle.arbiter.specs.Traces.{is_kind, kind_of}
 use Rattle.arbiter.specs.declared.Raw.{Raw}
 use Rattle.arbiter.specs.declared.Answer.{Answer}
-use Rattle.layout.specs.declared.Shown.{Shown}
 use Rattle.layout.specs.Layout.{image_length, image_of, device_in, image_in_range}
+use Rattle.layout.specs.Refusals.{Shown}
 
 -- ---- the refusals of a buffer
 

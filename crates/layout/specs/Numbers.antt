@@ -9,16 +9,16 @@ use Rattle.arbiter.specs.declared.Port.{Port}
 use Rattle.arbiter.specs.declared.Port.TheVariants.{Rest, Open, Writing}
 use Rattle.arbiter.specs.declared.Turn.{Turn}
 use Rattle.arbiter.specs.declared.Turn.TheVariants.{Nobody, Claims, Owns}
-use Rattle.arbiter.specs.declared.Last.{Last}
-use Rattle.arbiter.specs.declared.Last.TheVariants.{Never, Was}
+use Rattle.std.specs.Prelude.{Option, Some, None}
+use Rattle.arbiter.specs.declared.Master.{Master}
 use Rattle.arbiter.specs.declared.Switch.{Switch}
 use Rattle.arbiter.specs.declared.Switch.TheVariants.{Apart, Initialising, Closed}
 
 abbrev pub port_of : ℕ → Port
 port_of v = if eqb v 0 then Rest else if eqb v 1 then Open else Writing
 
-abbrev pub last_of : ℕ → Last
-last_of v = if eqb v 0 then Never else if eqb v 1 then Was Zero else Was One
+abbrev pub last_of : ℕ → Option Master
+last_of v = if eqb v 0 then None else if eqb v 1 then Some Zero else Some One
 
 abbrev pub turn_of : ℕ → Turn
 turn_of v =

@@ -9,8 +9,9 @@ use Rattle.arbiter.specs.Effects.{effect}
 use Rattle.arbiter.specs.Steps.{parts, byte_read, owner_byte, lines_byte, answer, taken, refused, step_event, step_decoded, step}
 use Rattle.arbiter.specs.declared.Device.{Device}
 use Rattle.arbiter.specs.declared.Event.{Event}
-use Rattle.arbiter.specs.declared.Decoded.{Decoded}
-use Rattle.arbiter.specs.declared.Decoded.TheVariants.{Reads, UnknownKind, BadField}
+use Rattle.std.specs.Prelude.{Result, Ok, Err}
+use Rattle.arbiter.specs.declared.Unread.TheVariants.{BadField, UnknownKind}
+use Rattle.arbiter.specs.declared.Unread.{Unread}
 use Rattle.arbiter.specs.declared.Outcome.TheVariants.{OutOfSequence}
 use Rattle.arbiter.specs.declared.Answer.{Answer}
 use Rattle.arbiter.specs.declared.Stepped.{Stepped}
@@ -52,11 +53,11 @@ shows_event e d = go (in_sequence e d)
     go true = (refl, refl)
     go false = (refl, refl)
 
-shows_decoded : (x : Decoded) (d : Device) → Shows (step_decoded x d)
+shows_decoded : (x : Result Event Unread) (d : Device) → Shows (step_decoded x d)
 unfolding step_decoded refused
-shows_decoded (Reads e) d = shows_event e d
-shows_decoded UnknownKind d = (refl, refl)
-shows_decoded BadField d = (refl, refl)
+shows_decoded (Ok e) d = shows_event e d
+shows_decoded (Err UnknownKind) d = (refl, refl)
+shows_decoded (Err BadField) d = (refl, refl)
 
 pub answer_shows : AnswerShows
 unfolding step

@@ -12,7 +12,7 @@ use Rattle.arbiter.specs.declared.Master.{Master}
 use Rattle.arbiter.specs.declared.Ground.TheVariants.{Sole}
 use Rattle.arbiter.specs.declared.Turn.{Turn}
 use Rattle.arbiter.specs.declared.Turn.TheVariants.{Nobody, Claims, Owns}
-use Rattle.arbiter.specs.declared.Last.TheVariants.{Was}
+use Rattle.std.specs.Prelude.{Some}
 use Rattle.arbiter.specs.declared.Register.{Register}
 use Rattle.arbiter.specs.declared.Register.TheVariants.{Id, Contr, Status, Rt, IntStatus, IntMask, MailLow, MailHigh}
 use Rattle.arbiter.specs.declared.Port.TheVariants.{Rest}
@@ -39,7 +39,7 @@ switch_granted m c = if c.busconnect then (if c.businit then Initialising m 0 el
 -- the arbitration, s being the claimant's side; an initialisation that starts clears BUS_INIT_FAIL
 abbrev pub arb_granted : Master → Side → Arbitration → Arbitration
 arb_granted m s a =
-    record { last = Was m; initfail = not (s.contr.busconnect && s.contr.businit) && a.initfail; switch = switch_granted m s.contr; reserve = s.rt; turn = Owns m (ground_in a.turn) }
+    record { last = Some m; initfail = not (s.contr.busconnect && s.contr.businit) && a.initfail; switch = switch_granted m s.contr; reserve = s.rt; turn = Owns m (ground_in a.turn) }
 
 -- ---- the claim by a byte
 

@@ -7,17 +7,18 @@ ghost use Rattle.std.specs.Prelude.{IfSome, OnOk};
 ghost use Rattle.std.specs.Io.KnownBytes.{Appends};
 ghost use Rattle.arbiter.specs.Listing.{listing};
 
-use arbiter::TraceRead;
+use arbiter::{Accepted, Refusal};
 use format::{ANSWER_ROOM, MOST_BYTES};
 use printing::{print_listing, read_full};
 use std::io;
 use traces::reading::read_trace;
+use why::Reason;
 
 const NAME: &str = "listing";
 
-fn say_if_refused<W: io::Write>(errors: &mut W, read: TraceRead) -> io::Result<()> {
-    if let TraceRead::Refused(r) = read {
-        why::say(errors, r)?;
+fn say_if_refused<W: io::Write>(errors: &mut W, read: Result<Accepted, Refusal>) -> io::Result<()> {
+    if let Err(refusal) = read {
+        writeln!(errors, "refused: {}", Reason(refusal))?;
     }
     Ok(())
 }

@@ -19,7 +19,9 @@ use Rattle.arbiter.specs.declared.Master.TheVariants.{Zero, One}
 use Rattle.arbiter.specs.declared.Kind.{Kind}
 use Rattle.arbiter.specs.declared.Device.{Device}
 use Rattle.arbiter.specs.declared.Raw.{Raw}
-use Rattle.arbiter.specs.declared.TraceRead.{TraceRead}
+use Rattle.std.specs.Prelude.{Result}
+use Rattle.arbiter.specs.declared.Accepted.{Accepted}
+use Rattle.arbiter.specs.declared.Refusal.{Refusal}
 use Rattle.audit.specs.WorstWait.{reserves_within, delayed, stops_after}
 use Rattle.share.specs.States.{listed_if, states_from, tick_states, waits, front, longest}
 use Rattle.share.specs.Share.{shares_in, totals_of}
@@ -28,7 +30,7 @@ use Rattle.arbiter.proofs.Choice.{split}
 use Rattle.arbiter.proofs.Runs.{never_comes, now, hence}
 use Rattle.arbiter.proofs.Settled.{Ready, all_ready}
 use Rattle.arbiter.proofs.Tenure.{Owned, next_owned, run_owned}
-use Rattle.ranges.proofs.Fields.{Ok}
+use Rattle.ranges.proofs.Fields.{DeviceFits}
 use Rattle.ranges.proofs.Fits.{step_ok, power_up_ok}
 use Rattle.ranges.proofs.Ranges.{Any}
 use Rattle.share.proofs.Numbers.{larger_right, larger_most}
@@ -94,7 +96,7 @@ module _ (m : Master) (most more h b : ℕ) (some : 1 ≤ most) (held : h + more
 -- ---- the statements
 
 -- a hold is of 35 ticks at most,
-held_most : (rs : List Raw) (d : Device) → Ok Any d → throughout (held_within 35) d rs ≡ true
+held_most : (rs : List Raw) (d : Device) → DeviceFits Any d → throughout (held_within 35) d rs ≡ true
 unfolding throughout
 held_most [] d o = lt-ltb d.bus.hold 36 o.bus.0
 held_most (r ∷ rs) d o = ap₂ ◌&&◌ (lt-ltb d.bus.hold 36 o.bus.0) (held_most rs (next d r) (step_ok Any tt (λ n b. tt) d r (tt, tt) o))
@@ -145,4 +147,4 @@ unfolding totals_of
 trace_wait_bounded t address n k m most more busy a x =
     let low = longest_wait_bounded k (events_in n t) m most more busy x in
     subst (λ (j : ℕ). j ≤ 35 + most + more + busy)
-    (sym (ap (λ (y : TraceRead). longest_of (partner m) (totals_of y t)) a ∙ longest_in (partner m) (tick_states k (events_in n t)))) low
+    (sym (ap (λ (y : Result Accepted Refusal). longest_of (partner m) (totals_of y t)) a ∙ longest_in (partner m) (tick_states k (events_in n t)))) low

@@ -6,12 +6,11 @@ use Rattle.arbiter.specs.Words.{partner, of}
 use Rattle.arbiter.specs.State.{is_idle}
 use Rattle.arbiter.specs.Effects.{power_up}
 use Rattle.arbiter.specs.AuditWords.{next, requests, resting, reset, tick, never, throughout}
-use Rattle.arbiter.specs.Traces.{events_in}
+use Rattle.arbiter.specs.Traces.{events_in, accepted_with}
 use Rattle.arbiter.specs.declared.Master.{Master}
 use Rattle.arbiter.specs.declared.Kind.{Kind}
 use Rattle.arbiter.specs.declared.Device.{Device}
 use Rattle.arbiter.specs.declared.Raw.{Raw}
-use Rattle.arbiter.specs.declared.TraceRead.TheVariants.{Accepted}
 use Rattle.audit.specs.WorstWait.{reserves_within, sends_stops}
 use Rattle.share.specs.declared.Totals.{Totals}
 use Rattle.share.specs.States.{tick_states, waits, longest}
@@ -69,5 +68,5 @@ longest_of p x = of p x.longest0 x.longest1
 
 abbrev pub TraceWaitBounded : Type 0
 TraceWaitBounded =
-    (t : List ℕ) (address n : ℕ) (k : Kind) (m : Master) (most more busy : ℕ) → read_alone t ≡ Accepted address n k
+    (t : List ℕ) (address n : ℕ) (k : Kind) (m : Master) (most more busy : ℕ) → read_alone t ≡ accepted_with address n k
     → Meets k (events_in n t) m most more busy → longest_of (partner m) (totals_of (read_alone t) t) ≤ 35 + most + more + busy

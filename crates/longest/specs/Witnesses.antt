@@ -13,8 +13,9 @@ use Rattle.arbiter.specs.Witnesses.{number, sets_rt, sets_contr, stop_on, bus_st
 use Rattle.arbiter.specs.declared.Master.{Master}
 use Rattle.arbiter.specs.declared.Kind.{Kind}
 use Rattle.arbiter.specs.declared.Raw.{Raw}
-use Rattle.arbiter.specs.declared.TraceRead.{TraceRead}
-use Rattle.arbiter.specs.declared.TraceRead.TheVariants.{Accepted, Refused}
+use Rattle.std.specs.Prelude.{Result, Err, Ok}
+use Rattle.arbiter.specs.declared.Accepted.{Accepted}
+use Rattle.arbiter.specs.declared.Refusal.{Refusal}
 use Rattle.audit.specs.WorstWait.{reserves_within, sends_stops}
 use Rattle.audit.specs.WaitWitnesses.{after_hold, before_stop, late_stop, for_both}
 use Rattle.share.specs.States.{tick_states, waits, longest}
@@ -82,9 +83,9 @@ asks_anew m = sets_contr (partner m) 0x00 ++ sets_contr m 0x00 ++ sets_contr m 0
 -- ---- a trace of such a run, byte by byte
 
 -- accepted with this address, count and kind
-abbrev pub is_accepted : ℕ → ℕ → Kind → TraceRead → Bool
-is_accepted address n k (Accepted b c j) = eqb address b && eqb n c && eqb (kind_number k) (kind_number j)
-is_accepted address n k (Refused r) = false
+abbrev pub is_accepted : ℕ → ℕ → Kind → Result Accepted Refusal → Bool
+is_accepted address n k (Ok a) = eqb address a.address && eqb n a.events && eqb (kind_number k) (kind_number a.kind)
+is_accepted address n k (Err r) = false
 
 -- All is met by its events, and in its totals the longest wait is the figure but for one tick.
 abbrev pub trace_reaches : ℕ → Kind → Master → List Raw → Bool

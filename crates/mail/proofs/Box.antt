@@ -4,7 +4,7 @@ use mathlib.Core.Path.{◌≡◌, refl, sym, ap, ap₂, ◌∙◌}
 use mathlib.Core.Bool.{true≢false, false≢true}
 use Rattle.std.specs.Prelude.{◌&&◌, if◌then◌else◌}
 use Rattle.mail.specs.Names.{ℕ, Bool, true, false, not, Master, Zero, One, Register, Id, Contr, Status, Rt, IntStatus, IntMask, MailLow, MailHigh}
-use Rattle.mail.specs.Names.{Mailbox, Side, Device, Raw, Event, Command, Write, Read, Stop, Pair, Lines, Tick, Pulse, Reset, GeneralCall, Decoded, Reads}
+use Rattle.mail.specs.Names.{Mailbox, Side, Device, Raw, Event, Command, Write, Read, Stop, Pair, Lines, Tick, Pulse, Reset, GeneralCall, Result, Unread, Ok}
 use Rattle.mail.specs.Names.{partner, side, decode, is_mail_high, is_reset}
 use Rattle.mail.specs.Words.{box, byte_of, is_mail_low, mails_low, mails_high, lowers, fills, takes, empties, fill_of, emptying_of, decoded_byte, byte_by}
 use Rattle.mail.specs.Words.{box_after}
@@ -149,7 +149,7 @@ box_by now lo hi out v b =
     if now then mk 0 0 false else mk (if lo then v else b.low) (if hi then v else b.high) (if hi then true else if out then false else b.full)
 
 module _ (m : Master) (d : Device) (r : Raw) where
-  taken_box : (e : Event) → decode r ≡ Reads e → in_sequence e d ≡ true → box m (taken e d).device ≡ box_after m r d
+  taken_box : (e : Event) → decode r ≡ Ok e → in_sequence e d ≡ true → box m (taken e d).device ≡ box_after m r d
   unfolding taken
   taken_box e h s =
       let said = (taken_as e r d h s).same in
@@ -158,7 +158,7 @@ module _ (m : Master) (d : Device) (r : Raw) where
       let words : box_after m r d ≡ box_by (is_reset e) (lowers m e d) (fills m e d) (empties m e d) v b =
       ap₂ (λ (x y : Bool). box_by x y (fill_of m r d) (emptying_of m r d) (byte_by (partner m) r) b) (said λ f y. is_reset f) (said (lowers m))
       ∙ ap₂ (λ (x y : Bool). box_by (is_reset e) (lowers m e d) x y (byte_by (partner m) r) b) (said (fills m)) (said (empties m))
-      ∙ ap (λ (x : Decoded). box_by (is_reset e) (lowers m e d) (fills m e d) (empties m e d) (decoded_byte (partner m) x) b) h
+      ∙ ap (λ (x : Result Event Unread). box_by (is_reset e) (lowers m e d) (fills m e d) (empties m e d) (decoded_byte (partner m) x) b) h
       in
       let now : Bool → Mailbox = λ x. box_by x (lowers m e d) (fills m e d) (empties m e d) v b in
       ap (λ p. p.0) (parts_same m e d)

@@ -6,7 +6,7 @@ use mathlib.Core.Bool.{true≢false, false≢true, and-eq-true_iff}
 use mathlib.Core.List.{append_assoc, append-nil}
 use Rattle.std.specs.Prelude.{◌≤◌, ◌&&◌, ◌∷◌, ◌++◌, if◌then◌else◌}
 use Rattle.mail.specs.Names.{ℕ, Bool, true, false, not, List, [], length, drop, Master, Zero, One, MailHigh, Mailbox, Kind, Device}
-use Rattle.mail.specs.Names.{Raw, Pair, Decoded, Reads, partner, is_mail_high, power_up, run_from, run, next, reset, Word}
+use Rattle.mail.specs.Names.{Raw, Pair, partner, is_mail_high, power_up, run_from, run, next, reset, Word, Result, Event, Unread, Ok}
 use Rattle.mail.specs.Words.{box, full, word, held, at, fills, low_write_of, fill_of, emptying_of, decoded_byte, byte_by}
 use Rattle.mail.specs.Mail.{listed_from, filled, emptied, low_from, last_low, MailInOrder, PendingHeld, OnePending, LowKept, WordFilled, DropIsNothing}
 use Rattle.mail.specs.Mail.{ResetsEnd, ListsGrow, PairFillsBoth, EmptyingLeaves}
@@ -231,13 +231,13 @@ emptying_leaves m d r h =
 
 pub pair_fills_both : PairFillsBoth
 pair_fills_both d r v0 v1 h a p0 p1 f0 f1 =
-    let seq = ((and-eq-true_iff (in_sequence (Pair v0 v1) d) true).0 (sym (ap (λ (x : Decoded). accepted_as (λ e y. true) x d) h) ∙ a)).0 in
+    let seq = ((and-eq-true_iff (in_sequence (Pair v0 v1) d) true).0 (sym (ap (λ (x : Result Event Unread). accepted_as (λ e y. true) x d) h) ∙ a)).0 in
     let fill : (m : Master) → at (partner m) d ≡ MailHigh → full m d ≡ false → fill_of m r d ≡ true =
     λ m p f.
-    ap (λ (x : Decoded). accepted_as (fills m) x d) h
+    ap (λ (x : Result Event Unread). accepted_as (fills m) x d) h
     ∙ ap₂ (λ (x y : Bool). x && y) seq (ap₂ (λ (x y : Bool). x && not y) (ap is_mail_high p) f)
     in
-    let high : (m : Master) → fill_of m r d ≡ true → (box m (next d r)).high ≡ decoded_byte (partner m) (Reads (Pair v0 v1)) =
+    let high : (m : Master) → fill_of m r d ≡ true → (box m (next d r)).high ≡ decoded_byte (partner m) (Ok (Pair v0 v1)) =
     λ m y. ap (λ (b : Mailbox). b.high) (box_next m r d (fill_no_reset m r d y)) ∙ if_true _ _ y ∙ ap (decoded_byte (partner m)) h
     in
     (fill Zero p1 f0, fill One p0 f1, high Zero (fill Zero p1 f0), high One (fill One p0 f1))

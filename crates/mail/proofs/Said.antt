@@ -5,8 +5,8 @@ use mathlib.Core.Bool.{true≢false, false≢true, and-eq-true_iff, and-false}
 use borrow.Author.Tests.{not-true}
 use Rattle.std.specs.Prelude.{◌&&◌, ◌||◌}
 use Rattle.mail.specs.Names.{Bool, true, false, not, Master, Zero, One, Register, Id, Contr, Status, Rt, IntStatus, IntMask, MailLow}
-use Rattle.mail.specs.Names.{MailHigh, Device, Raw, Event, Command, Write, Read, Stop, Pair, Lines, Tick, Pulse, Reset, GeneralCall, Decoded, Reads}
-use Rattle.mail.specs.Names.{UnknownKind, BadField, partner, same_master, decode, is_mail_high, is_reset, accepted, reset}
+use Rattle.mail.specs.Names.{MailHigh, Device, Raw, Event, Command, Write, Read, Stop, Pair, Lines, Tick, Pulse, Reset, GeneralCall, Result, Unread, Ok}
+use Rattle.mail.specs.Names.{partner, same_master, decode, is_mail_high, is_reset, accepted, reset, Err, UnknownKind, BadField}
 use Rattle.mail.specs.Words.{full, at, writes, reads, is_mail_low, mails_low, mails_high, drops, lowers, fills, takes, empties, drop_of, low_write_of, fill_of}
 use Rattle.mail.specs.Words.{emptying_of}
 use Rattle.arbiter.specs.Events.{in_sequence}
@@ -20,32 +20,32 @@ pub from_accepted : {A : Type 0} (such : Event → Device → Bool) (r : Raw) (d
     → ((e : Event) → such e d ≡ true → A) → A
 from_accepted {A} such r d h f = go (decode r) h
   where
-    go : (x : Decoded) → accepted_as such x d ≡ true → A
-    go (Reads e) y = f e ((and-eq-true_iff (in_sequence e d) (such e d)).0 y).1
-    go UnknownKind y = absurd (false≢true y)
-    go BadField y = absurd (false≢true y)
+    go : (x : Result Event Unread) → accepted_as such x d ≡ true → A
+    go (Ok e) y = f e ((and-eq-true_iff (in_sequence e d) (such e d)).0 y).1
+    go (Err UnknownKind) y = absurd (false≢true y)
+    go (Err BadField) y = absurd (false≢true y)
 
 -- And if it makes it another such, or rules that out, so it does there.
 pub also_accepted : (such other : Event → Device → Bool) (r : Raw) (d : Device) → accepted such r d ≡ true
     → ((e : Event) → such e d ≡ true → other e d ≡ true) → accepted other r d ≡ true
 also_accepted such other r d h f = go (decode r) h
   where
-    go : (x : Decoded) → accepted_as such x d ≡ true → accepted_as other x d ≡ true
-    go (Reads e) y =
+    go : (x : Result Event Unread) → accepted_as such x d ≡ true → accepted_as other x d ≡ true
+    go (Ok e) y =
         let both = (and-eq-true_iff (in_sequence e d) (such e d)).0 y in
         (and-eq-true_iff (in_sequence e d) (other e d)).1 (both.0, f e both.1)
-    go UnknownKind y = absurd (false≢true y)
-    go BadField y = absurd (false≢true y)
+    go (Err UnknownKind) y = absurd (false≢true y)
+    go (Err BadField) y = absurd (false≢true y)
 
 pub not_accepted : (such other : Event → Device → Bool) (r : Raw) (d : Device) → accepted such r d ≡ true
     → ((e : Event) → such e d ≡ true → other e d ≡ false) → accepted other r d ≡ false
 not_accepted such other r d h f = go (decode r) h
   where
-    go : (x : Decoded) → accepted_as such x d ≡ true → accepted_as other x d ≡ false
-    go (Reads e) y =
+    go : (x : Result Event Unread) → accepted_as such x d ≡ true → accepted_as other x d ≡ false
+    go (Ok e) y =
         ap (λ (b : Bool). in_sequence e d && b) (f e ((and-eq-true_iff (in_sequence e d) (such e d)).0 y).1) ∙ and-false (in_sequence e d)
-    go UnknownKind y = refl
-    go BadField y = refl
+    go (Err UnknownKind) y = refl
+    go (Err BadField) y = refl
 
 -- ---- a write, a read
 

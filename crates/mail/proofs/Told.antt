@@ -5,7 +5,7 @@ use mathlib.Core.Path.{◌≡◌, refl, sym, ap, ap₂, ◌∙◌}
 use mathlib.Core.Bool.{true≢false, false≢true}
 use Rattle.std.specs.Prelude.{◌&&◌, ◌||◌, if◌then◌else◌}
 use Rattle.mail.specs.Names.{ℕ, Bool, true, false, not, Master, Zero, One, Register, Id, Contr, Status, Rt, IntStatus, IntMask, MailLow}
-use Rattle.mail.specs.Names.{MailHigh, Side, Device, Raw, Event, Command, Write, Read, Stop, Pair, Lines, Tick, Pulse, Reset, GeneralCall, Reads}
+use Rattle.mail.specs.Names.{MailHigh, Side, Device, Raw, Event, Command, Write, Read, Stop, Pair, Lines, Tick, Pulse, Reset, GeneralCall, Ok}
 use Rattle.mail.specs.Names.{bit, partner, side, decode, is_mail_high, is_reset, next, reset}
 use Rattle.mail.specs.Words.{full, at, empties, emptying_of}
 use Rattle.mail.specs.Using.{sees_emptied, is_int_status, clears, clearing_of}
@@ -147,7 +147,7 @@ module _ (s : Master) (d : Device) (r : Raw) where
   abbrev Follows : Stepped → Type 0
   Follows n = four (side s n.device) ≡ after (reset r d) (emptying_of (partner s) r d) (clearing_of s r d) (four (side s d))
 
-  taken_four : (e : Event) → decode r ≡ Reads e → in_sequence e d ≡ true → Follows (taken e d)
+  taken_four : (e : Event) → decode r ≡ Ok e → in_sequence e d ≡ true → Follows (taken e d)
   unfolding taken
   taken_four e h i =
       let said = (taken_as e r d h i).same in

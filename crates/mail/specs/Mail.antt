@@ -3,7 +3,7 @@
 -- device. proofs/Lists.antt and proofs/Box.antt prove them, under the same names in small letters; Assurance has them all.
 -- Assumes nothing.
 use Rattle.std.specs.Prelude.{◌≤◌, ◌≡◌, ◌∷◌, ◌++◌, if◌then◌else◌}
-use Rattle.mail.specs.Names.{ℕ, Bool, true, false, List, [], length, drop, Master, Zero, One, MailHigh, Kind, Device, Raw, Pair, Reads, partner, decode, power_up, run, next, is_accepted, reset, Word}
+use Rattle.mail.specs.Names.{ℕ, Bool, true, false, List, [], length, drop, Master, Zero, One, MailHigh, Kind, Device, Raw, Pair, partner, decode, power_up, run, next, is_accepted, reset, Word, Ok}
 use Rattle.mail.specs.Words.{box, full, word, held, at, drop_of, low_write_of, fill_of, emptying_of, byte_by, box_after}
 
 -- ---- the lists of a run
@@ -90,7 +90,7 @@ BoxChanges = (m : Master) (d : Device) (r : Raw) → box m (next d r) ≡ box_af
 -- One PAIR fills both boxes where both pointers are at 7 and neither box is full: each with the byte of the other's half.
 abbrev pub PairFillsBoth : Type 0
 PairFillsBoth =
-    (d : Device) (r : Raw) (v0 v1 : ℕ) → decode r ≡ Reads (Pair v0 v1) → is_accepted r d ≡ true
+    (d : Device) (r : Raw) (v0 v1 : ℕ) → decode r ≡ Ok (Pair v0 v1) → is_accepted r d ≡ true
     → at Zero d ≡ MailHigh → at One d ≡ MailHigh → full Zero d ≡ false → full One d ≡ false
     → (fill_of Zero r d ≡ true) × (fill_of One r d ≡ true) × ((box Zero (next d r)).high ≡ v1) × ((box One (next d r)).high ≡ v0)
 

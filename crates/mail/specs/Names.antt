@@ -14,8 +14,9 @@ pub use Rattle.arbiter.specs.declared.Device.{Device}
 pub use Rattle.arbiter.specs.declared.Raw.{Raw}
 pub use Rattle.arbiter.specs.declared.Event.{Event}
 pub use Rattle.arbiter.specs.declared.Event.TheVariants.{Command, Write, Read, Stop, Pair, Lines, Tick, Pulse, Reset, GeneralCall}
-pub use Rattle.arbiter.specs.declared.Decoded.{Decoded}
-pub use Rattle.arbiter.specs.declared.Decoded.TheVariants.{Reads, UnknownKind, BadField}
+pub use Rattle.std.specs.Prelude.{Result, Ok, Err}
+pub use Rattle.arbiter.specs.declared.Unread.TheVariants.{BadField, UnknownKind}
+pub use Rattle.arbiter.specs.declared.Unread.{Unread}
 pub use Rattle.arbiter.specs.Words.{bit, worth, partner, same_master, of, side}
 pub use Rattle.arbiter.specs.Registers.{reads_at}
 unfoldable pub use Rattle.arbiter.specs.Events.{decode}

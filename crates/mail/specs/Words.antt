@@ -2,7 +2,7 @@
 -- that m reads; its sender is m's partner. The quotes are of document 01's line on mail, and of the ruling on #111 where that is said.
 -- Assumes nothing.
 use Rattle.std.specs.Prelude.{◌&&◌, ◌||◌, if◌then◌else◌}
-use Rattle.mail.specs.Names.{ℕ, Bool, true, false, not, Master, Register, Id, Contr, Status, Rt, IntStatus, IntMask, MailLow, MailHigh, Mailbox, Device, Raw, Event, Command, Write, Read, Stop, Pair, Lines, Tick, Pulse, Reset, GeneralCall, Decoded, Reads, UnknownKind, BadField, partner, same_master, of, side, decode, is_mail_high, accepted, reset, Word}
+use Rattle.mail.specs.Names.{ℕ, Bool, true, false, not, Master, Register, Id, Contr, Status, Rt, IntStatus, IntMask, MailLow, MailHigh, Mailbox, Device, Raw, Event, Command, Write, Read, Stop, Pair, Lines, Tick, Pulse, Reset, GeneralCall, partner, same_master, of, side, decode, is_mail_high, accepted, reset, Word, Result, Unread, Ok, Err, UnknownKind, BadField}
 
 -- ---- a box in a state
 
@@ -117,10 +117,9 @@ abbrev pub emptying_of : Master → Raw → Device → Bool
 emptying_of m r d = accepted (empties m) r d
 
 -- the byte that k writes with them
-abbrev pub decoded_byte : Master → Decoded → ℕ
-decoded_byte k (Reads e) = byte_of k e
-decoded_byte k UnknownKind = 0
-decoded_byte k BadField = 0
+abbrev pub decoded_byte : Master → Result Event Unread → ℕ
+decoded_byte k (Ok e) = byte_of k e
+decoded_byte k (Err u) = 0
 
 abbrev pub byte_by : Master → Raw → ℕ
 byte_by k r = decoded_byte k (decode r)

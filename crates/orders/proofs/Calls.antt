@@ -4,7 +4,7 @@
 use mathlib.Core.Path.{◌≡◌, refl, sym, ap, ap₂, subst, ◌∙◌}
 use mathlib.Core.Bool.{Bool, true, false, not, ◌&&◌, ◌||◌, false≢true}
 use mathlib.Core.List.{List, [], ◌∷◌, ◌++◌, map}
-use Prim.Native.Nat.{ℕ, zero, suc, ◌≤◌, ◌<◌}
+use Prim.Native.Nat.{ℕ, zero, suc, ◌≤◌, ◌<◌, min}
 use native.Mathlib.Omega.{arith}
 use lib.Dec.{eqb, ltb}
 use lib.ListN.{length, take, drop, length-map}
@@ -18,9 +18,8 @@ use Rattle.arbiter.specs.declared.Kind.TheVariants.{Pca9641}
 use Rattle.arbiter.proofs.Choice.{either, split, if_true, if_false}
 use Rattle.orders.specs.Orders.{orders, number_of_orders, byte_from, order_bytes}
 use Rattle.orders.specs.Call.{most_scripted, script_in, in_fours, too_long, smaller, list_count, list_number}
-use Rattle.orders.specs.Call.{listed_with, listed_by, buffer_by, orders_listed, orders_buffer, Front, FrontOfAll}
+use Rattle.orders.specs.Call.{Listed, listed_with, listed_by, buffer_by, orders_listed, orders_buffer, Front, FrontOfAll}
 use Rattle.orders.specs.Walk.{reached_with, bytes_from, pour}
-use Rattle.orders.specs.declared.Listed.{Listed}
 use Rattle.orders.specs.declared.Reached.{Reached}
 use Rattle.orders.proofs.Numbers.{length_orders, at_most}
 use Rattle.orders.proofs.Bytes.{bytes_are}
@@ -45,6 +44,13 @@ smaller_below x y =
     split (ltb x y)
     (λ h. omega (arith, if_true x y h, ltb-true x y h))
     (λ h. omega (arith, if_false x y h))
+
+-- as the library says it
+pub min_smaller : (x y : ℕ) → min x y ≡ smaller x y
+min_smaller x y =
+    split (ltb x y)
+    (λ h. let e : min x y ≡ x = omega (arith, ltb-true x y h) in e ∙ sym (if_true x y h))
+    (λ h. let e : min x y ≡ y = omega (arith, ltb-false x y h) in e ∙ sym (if_false x y h))
 
 take_smaller : (x : ℕ) (l : List ℕ) → take (smaller x (length l)) l ≡ take x l
 take_smaller x l =

@@ -1,6 +1,6 @@
 -- Bytes poured into a buffer up to a limit: one list after another, by which script has events left, and the front of all of them in the end.
 -- Assumes nothing.
-use mathlib.Core.Path.{◌≡◌, refl, sym, ap, ◌∙◌}
+use mathlib.Core.Path.{◌≡◌, refl, sym, ap, ap₂, ◌∙◌}
 use mathlib.Core.Bool.{Bool, true, false}
 use mathlib.Core.List.{List, [], ◌∷◌, ◌++◌, append_assoc, append-nil}
 use Prim.Native.Nat.{ℕ, zero, suc, ◌+◌, ◌*◌, ◌-◌, ◌/◌, ◌≤◌, ◌<◌}
@@ -8,10 +8,13 @@ use native.Mathlib.Nat.{zero-add, le_of_eq, not-suc-le-zero}
 use native.Mathlib.Numerals.{add-one}
 use native.Mathlib.Omega.{arith}
 use lib.Dec.{leb}
-use lib.ListN.{length, get_or, take, drop, set, length-append, length-drop}
-use lib.Seq.{take_all, drop-cons, set_at}
-use borrow.Author.Tests.{le-leb, lt-leb, leb-true}
+use lib.ListN.{length, get_or, take, drop, set, length-append, length-drop, length-set, drop_of_length-le, take-append-drop}
+use lib.Seq.{take_all, drop-cons, set_at, length-take-le}
+use borrow.Author.Tests.{le-leb, lt-leb, leb-true, leb-false}
+use borrow.Rule.Slice.PartMut.{put_mid}
+use Rattle.std.proofs.lemmas.List.{set-append_left, set-append_right}
 use Rattle.std.specs.Prelude.{if◌then◌else◌}
+use Rattle.arbiter.proofs.Choice.{split, if_true, if_false}
 use Rattle.arbiter.specs.Traces.{event_bytes, raw_in, raws_in, event_count}
 use Rattle.orders.specs.Call.{script_in}
 use Rattle.orders.specs.Walk.{reached, bytes_from, pour}
@@ -35,6 +38,79 @@ pour_append l s [] ys = refl
 pour_append l s (x ∷ xs) ys =
     ap (λ (r : List ℕ × ℕ). if leb l s.1 then s else r) (pour_append l (set s.0 s.1 x, s.1 + 1) xs ys)
     ∙ full_still l s ys (leb l s.1) (pour l (set s.0 s.1 x, s.1 + 1) xs) refl
+
+-- ---- a part of the buffer by itself
+
+leb_after : (n l k : ℕ) → leb (n + l) (n + k) ≡ leb l k
+leb_after n l k = split (leb l k)
+    (λ t. let h : l ≤ k = leb-true l k t in le-leb (n + l) (n + k) (omega (arith, h)) ∙ sym t)
+    (λ t. let h : k < l = leb-false l k t in lt-leb (n + l) (n + k) (omega (arith, h)) ∙ sym t)
+
+set_after : (n k b : ℕ) (p q : List ℕ) → length p ≡ n → set (p ++ q) (n + k) b ≡ p ++ set q k b
+set_after n k b p q e =
+    set-append_right p q n (n + k) b e (omega arith)
+    ∙ ap (λ (j : ℕ). p ++ set q j b) (let back : n + k - n ≡ k = omega arith in back)
+
+-- after n bytes that stand already
+pour_after : (n l k : ℕ) (p q bs : List ℕ) → length p ≡ n → pour (n + l) (p ++ q, n + k) bs ≡ (p ++ (pour l (q, k) bs).0, n + (pour l (q, k) bs).1)
+unfolding pour
+pour_after n l k p q [] e = refl
+pour_after n l k p q (b ∷ bs) e = split (leb l k)
+    (λ t. if_true (p ++ q, n + k) _ (leb_after n l k ∙ t) ∙ sym (ap (λ (x : List ℕ × ℕ). (p ++ x.0, n + x.1)) (if_true (q, k) _ t)))
+    (λ t. if_false (p ++ q, n + k) _ (leb_after n l k ∙ t)
+    ∙ ap₂ (λ (x : List ℕ) (j : ℕ). pour (n + l) (x, j) bs) (set_after n k b p q e) (next n k)
+    ∙ pour_after n l (k + 1) p (set q k b) bs e ∙ sym (ap (λ (x : List ℕ × ℕ). (p ++ x.0, n + x.1)) (if_false (q, k) _ t)))
+  where
+    next : (n k : ℕ) → n + k + 1 ≡ n + (k + 1)
+    next n k = omega arith
+
+-- before bytes that are out of reach
+pour_before : (l k : ℕ) (q r bs : List ℕ) → length q ≡ l → pour l (q ++ r, k) bs ≡ ((pour l (q, k) bs).0 ++ r, (pour l (q, k) bs).1)
+unfolding pour
+pour_before l k q r [] e = refl
+pour_before l k q r (b ∷ bs) e = split (leb l k)
+    (λ t. if_true (q ++ r, k) _ t ∙ sym (ap (λ (x : List ℕ × ℕ). (x.0 ++ r, x.1)) (if_true (q, k) _ t)))
+    (λ t. let h : k < l = leb-false l k t in
+    if_false (q ++ r, k) _ t
+    ∙ ap (λ (x : List ℕ). pour l (x, k + 1) bs) (set-append_left q r k b (omega (arith, h, e)))
+    ∙ pour_before l (k + 1) (set q k b) r bs (length-set q k b ∙ e)
+    ∙ sym (ap (λ (x : List ℕ × ℕ). (x.0 ++ r, x.1)) (if_false (q, k) _ t)))
+
+-- what is poured into the buffer from its place n on, as it is poured into that part
+pub poured_on : (l n m : ℕ) (buffer left bs : List ℕ) → length buffer ≡ l → n ≤ l
+    → (left, m) ≡ pour (length (take (l - n) (drop n buffer))) (take (l - n) (drop n buffer), 0) bs
+    → (put_mid n (l - n) buffer left, n + m) ≡ pour l (buffer, n) bs
+poured_on l n m buffer left bs e h p =
+    ap (λ (x : List ℕ). (take n buffer ++ (left ++ x), n + m)) none
+    ∙ ap (λ (x : List ℕ). (take n buffer ++ x, n + m)) (append-nil left)
+    ∙ ap (λ (x : List ℕ × ℕ). (take n buffer ++ x.0, n + x.1))
+    (p ∙ ap (λ (q : List ℕ). pour (length q) (q, 0) bs) part ∙ ap (λ (k : ℕ). pour k (drop n buffer, 0) bs) size)
+    ∙ sym (pour_after n (l - n) 0 (take n buffer) (drop n buffer) bs (length-take-le n buffer (omega (arith, e, h))))
+    ∙ ap₂ (λ (x : List ℕ) (k : ℕ). pour (n + (l - n)) (x, k) bs) (take-append-drop n buffer) (last n)
+    ∙ ap (λ (k : ℕ). pour k (buffer, n) bs) (let whole : n + (l - n) ≡ l = omega (arith, h) in whole)
+  where
+    size : length (drop n buffer) ≡ l - n
+    size = length-drop n buffer ∙ ap (λ (k : ℕ). k - n) e
+
+    part : take (l - n) (drop n buffer) ≡ drop n buffer
+    part = take_all (l - n) (drop n buffer) (le_of_eq size)
+
+    none : drop (l - n) (drop n buffer) ≡ []
+    none = drop_of_length-le (drop n buffer) {i = l - n} (le_of_eq size)
+
+    last : (n : ℕ) → n + 0 ≡ n
+    last n = omega arith
+
+-- and into its front
+pub poured_before : (l m : ℕ) (buffer left bs : List ℕ) → l ≤ length buffer
+    → (left, m) ≡ pour (length (take l buffer)) (take l buffer, 0) bs → (put_mid 0 l buffer left, m) ≡ pour l (buffer, 0) bs
+poured_before l m buffer left bs h p =
+    ap (λ (x : List ℕ × ℕ). (x.0 ++ drop l buffer, x.1)) (p ∙ ap (λ (k : ℕ). pour k (take l buffer, 0) bs) size)
+    ∙ sym (pour_before l 0 (take l buffer) (drop l buffer) bs size)
+    ∙ ap (λ (x : List ℕ). pour l (x, 0) bs) (take-append-drop l buffer)
+  where
+    size : length (take l buffer) ≡ l
+    size = length-take-le l buffer h
 
 -- one byte stored right after what was written
 put_one : (p : List ℕ) (k b : ℕ) (buffer : List ℕ) → length p ≡ k → k < length buffer

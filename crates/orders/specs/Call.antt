@@ -1,10 +1,11 @@
 -- Request 109, the call: its refusals in their order, its answer, and what the lent buffer holds after it.
 -- Assumes nothing.
-use Rattle.std.specs.Prelude.{ℕ, ◌%◌, ◌≤◌, ◌≡◌, Bool, not, ◌&&◌, ◌||◌, List, ◌++◌, eqb, ltb, length, take, drop, if◌then◌else◌}
+use Rattle.std.specs.Prelude.{ℕ, ◌%◌, ◌≤◌, ◌≡◌, Bool, not, ◌&&◌, ◌||◌, List, ◌++◌, Result, Ok, Err, eqb, ltb, length, take, drop, if◌then◌else◌}
 use Rattle.arbiter.specs.Traces.{event_bytes, raws_in, event_count}
 use Rattle.arbiter.specs.declared.Raw.{Raw}
 use Rattle.orders.specs.Orders.{number_of_orders, order_bytes}
-use Rattle.orders.specs.declared.Listed.{Listed}
+use Rattle.orders.specs.declared.ScriptFault.{ScriptFault}
+use Rattle.orders.specs.declared.ScriptFault.TheVariants.{NotInFours, TooLong, NoRoom}
 
 -- "both controllers' scripts, up to six events each"
 abbrev pub most_scripted : ℕ
@@ -35,6 +36,11 @@ list_number script0 script1 limit room =
     else if ltb room (list_count script0 script1 limit) then 9
     else 0
 
+-- what the listing reports: its number, and how many orders it listed
+pub record Listed : Type 0 where
+  pub number : ℕ
+  pub count : ℕ
+
 abbrev pub listed_with : ℕ → ℕ → Listed
 listed_with number count = record { number = number; count = count }
 
@@ -53,6 +59,16 @@ orders_listed script0 script1 limit buffer = listed_by (list_number script0 scri
 
 unfoldable pub orders_buffer : List ℕ → List ℕ → ℕ → List ℕ → List ℕ
 orders_buffer script0 script1 limit buffer = buffer_by (list_number script0 script1 limit (length buffer)) script0 script1 limit buffer
+
+-- the answer as the code has it: how many were listed, or why none
+abbrev pub script_fault_number : ScriptFault → ℕ
+script_fault_number NotInFours = 5
+script_fault_number TooLong = 6
+script_fault_number NoRoom = 9
+
+abbrev pub listed_of : Result ℕ ScriptFault → Listed
+listed_of (Ok n) = listed_with 0 n
+listed_of (Err f) = listed_with (script_fault_number f) 0
 
 -- ---- what is proved of a call that is not refused: it lists the front of what a call without a limit lists, all of it where the limit is
 -- not under the number of orders, and leaves the rest of the buffer

@@ -7,11 +7,10 @@ ghost use Rattle.arbiter.specs.Steps.{owner_byte};
 ghost use Rattle.arbiter.specs.Traces.{event_bytes, raw_in};
 ghost use Rattle.arbiter.specs.declared.Kind.TheVariants.{Pca9641};
 ghost use Rattle.orders.specs.Orders.{number_of_orders};
-ghost use Rattle.orders.specs.Call.{most_scripted, script_in, listed_with, orders_listed, orders_buffer};
+ghost use Rattle.orders.specs.Call.{most_scripted, script_in, script_fault_number, listed_of, orders_listed, orders_buffer};
 ghost use Rattle.orders.specs.Walk.{reached_with, reached, bytes_from, pour};
 
 use arbiter::{Device, Kind};
-use bits::least_usize;
 use format::{EVENT_BYTES, event_at};
 use step::{fresh, step_device};
 
@@ -19,17 +18,28 @@ use step::{fresh, step_device};
 const MOST_SCRIPTED: usize = 6;
 
 // A point on the way through the orders: the device, and the third byte of the last answer.
-#[derive(Clone, Copy)]
+#[derive(Clone, Copy, PartialEq, Eq)]
 pub struct Reached {
     pub device: Device,
     pub byte: u8,
 }
 
-// What the listing reports: its number, and how many orders it listed.
-#[derive(Clone, Copy)]
-pub struct Listed {
-    pub number: u8,
-    pub count: usize,
+// Why no order is listed.
+#[derive(Clone, Copy, PartialEq, Eq)]
+pub enum ScriptFault {
+    NotInFours,
+    TooLong,
+    NoRoom,
+}
+
+pub fn script_fault_number(f: ScriptFault) -> u8
+    ensures { result ≡ script_fault_number f }
+{
+    match f {
+        ScriptFault::NotInFours => 5,
+        ScriptFault::TooLong => 6,
+        ScriptFault::NoRoom => 9,
+    }
 }
 
 // ---- how many orders there are
@@ -72,68 +82,56 @@ fn reach(c: Reached, script: &[u8]) -> Reached
     reached_with(s.device, s.answer.owner)
 }
 
-// The byte of each order of what is left of the two scripts, from `at` on and below the limit: the place after the last. With each event
-// taken there is one less left in both scripts together. The device goes by value, so a common beginning is stepped once.
-fn list_from(
-    c: Reached,
-    script0: &[u8],
-    script1: &[u8],
-    out: &mut [u8],
-    at: usize,
-    limit: usize,
-) -> usize
-    requires { limit ≤ length out.old }
-    ensures { (out.new, result) ≡ pour limit (out.old, at) (bytes_from c (script_in script0.now) (script_in script1.now)) }
+// The byte of each order of what is left of the two scripts, until the buffer is full: how many. With each event taken there is one less left in
+// both scripts together. The device goes by value, so a common beginning is stepped once.
+fn list_from(c: Reached, script0: &[u8], script1: &[u8], out: &mut [u8]) -> usize
+    ensures listed { (out.new, result) ≡ pour (length out.old) (out.old, 0) (bytes_from c (script_in script0.now) (script_in script1.now)) }
+    ensures within { result ≤ length out.old }
 {
-    if limit <= at {
-        return at;
+    if out.len() == 0 {
+        return 0;
     }
     if EVENT_BYTES <= script0.len() {
         let by0 = reach(c, script0);
-        let next = list_from(by0, &script0[EVENT_BYTES..], script1, out, at, limit);
+        let next = list_from(by0, &script0[EVENT_BYTES..], script1, out);
         if EVENT_BYTES <= script1.len() {
             let by1 = reach(c, script1);
-            return list_from(by1, script0, &script1[EVENT_BYTES..], out, next, limit);
+            return next + list_from(by1, script0, &script1[EVENT_BYTES..], &mut out[next..]);
         }
         return next;
     }
     if script1.len() < EVENT_BYTES {
-        out[at] = c.byte;
-        return at + 1;
+        out[0] = c.byte;
+        return 1;
     }
     let by1 = reach(c, script1);
-    list_from(by1, script0, &script1[EVENT_BYTES..], out, at, limit)
+    list_from(by1, script0, &script1[EVENT_BYTES..], out)
 }
 
 // ---- the call
 
-fn refused(number: u8) -> Listed
-    ensures { result ≡ listed_with number 0 }
-{
-    Listed { number, count: 0 }
-}
-
 // The third answer byte after the last event of each order of two scripts, script 0's next event first at each point, in the lent buffer,
-// until the limit; how many were listed, or the number of a refusal.
-pub fn list_orders(script0: &[u8], script1: &[u8], limit: usize, out: &mut [u8]) -> Listed
-    ensures { (result ≡ orders_listed script0.now script1.now limit out.old) × (out.new ≡ orders_buffer script0.now script1.now limit out.old) }
+// until the limit; how many were listed, or why none.
+pub fn list_orders(
+    script0: &[u8],
+    script1: &[u8],
+    limit: usize,
+    out: &mut [u8],
+) -> Result<usize, ScriptFault>
+    ensures { (listed_of result ≡ orders_listed script0.now script1.now limit out.old) × (out.new ≡ orders_buffer script0.now script1.now limit out.old) }
 {
     if (script0.len() % EVENT_BYTES == 0) & (script1.len() % EVENT_BYTES == 0) {
         let m = script0.len() / EVENT_BYTES;
         let n = script1.len() / EVENT_BYTES;
         if (MOST_SCRIPTED < m) | (MOST_SCRIPTED < n) {
-            return refused(6);
+            return Err(ScriptFault::TooLong);
         }
-        let count = least_usize(limit, orders_of(m, n));
+        let count = limit.min(orders_of(m, n));
         if out.len() < count {
-            return refused(9);
+            return Err(ScriptFault::NoRoom);
         }
-        let listed = list_from(start(), script0, script1, out, 0, count);
-        Listed {
-            number: 0,
-            count: listed,
-        }
+        Ok(list_from(start(), script0, script1, &mut out[..count]))
     } else {
-        refused(5)
+        Err(ScriptFault::NotInFours)
     }
 }

@@ -6,13 +6,14 @@ ghost use Rattle.capture.specs.Import.{imported, imported_buffer};
 ghost use Rattle.packed_captures.specs.Packed.{packed_import};
 
 use importing::import_capture;
-use packing::long_of;
 
 // The events of a capture, for a device of this address, into a lent buffer.
 #[tactic(auto, using(crate::proofs::Few::imported_few))]
 pub fn import_packed(samples: &[u8], address: u8, events: &mut [u8]) -> u64
     ensures { (result ≡ packed_import (imported address samples.now events.old)) × (events.new ≡ imported_buffer address samples.now events.old) }
 {
-    let r = import_capture(samples, address, events);
-    long_of(r.number) + 256 * (r.count as u64)
+    match import_capture(samples, address, events) {
+        Ok(count) => 256 * (count as u64),
+        Err(why) => u64::from(u8::from(why)),
+    }
 }

@@ -2,8 +2,8 @@
 -- `packing`'s.)
 -- Assumes nothing.
 use Rattle.std.specs.Prelude.{ℕ, ◌+◌, ◌*◌}
-use Rattle.layout.specs.declared.Shown.{Shown}
-use Rattle.imaging.specs.declared.Told.{Told}
+use Rattle.layout.specs.Refusals.{Shown}
+use Rattle.imaging.specs.Advancing.{Told}
 
 -- a register read of an image: the number, and from 256 on the byte (00h where it was refused)
 abbrev pub packed_shown : Shown → ℕ

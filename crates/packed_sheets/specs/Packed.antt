@@ -1,20 +1,20 @@
 -- Order sheets as the library tells of them to another language: document 02's number in the low byte, what was found above it.
 -- Assumes nothing.
-use Rattle.std.specs.Prelude.{ℕ, ◌+◌, ◌*◌}
-use Rattle.sheets.specs.Sheets.{place_number}
-use Rattle.sheets.specs.declared.Ordered.{Ordered}
+use Rattle.std.specs.Prelude.{ℕ, ◌+◌, ◌*◌, Ok, Err}
 use Rattle.sheets.specs.declared.Place.{Place}
-use Rattle.sheets.specs.declared.Place.TheVariants.{Board, House, Refused}
-use Rattle.sheets.specs.declared.Wait.{Wait}
+use Rattle.sheets.specs.Sheets.{OrFault, place_number}
+use Rattle.sheets.specs.Settings.{Ordered}
+use Rattle.sheets.specs.Waits.{Wait}
+use Rattle.sheets.specs.declared.Place.TheVariants.{Board, House}
 
 -- a box of an order sheet: the number; then the sheet, 1 the board sheet and 2 the house sheet; and from 65,536 on the byte of it at which the
 -- box starts (0 and 0 where there is none)
-abbrev pub packed_where : Place → ℕ
-packed_where (Board at) = 256 * 1 + 65536 * at
-packed_where (House at) = 256 * 2 + 65536 * at
-packed_where (Refused f) = 0
+abbrev pub packed_where : OrFault Place → ℕ
+packed_where (Ok (Board at)) = 256 * 1 + 65536 * at
+packed_where (Ok (House at)) = 256 * 2 + 65536 * at
+packed_where (Err f) = 0
 
-abbrev pub packed_box : Place → ℕ
+abbrev pub packed_box : OrFault Place → ℕ
 packed_box p = place_number p + packed_where p
 
 -- the events of two order sheets: the number, and from 256 on the count of events

@@ -9,7 +9,7 @@ ghost use Rattle.packing.specs.Packed.{packed_answer};
 use arbiter::Raw;
 use packing::packed_answer;
 use rowimage::slots::fresh_row;
-use rowimage::{show_row, step_row};
+use rowimage::{number_of, show_row, step_row};
 
 // One event on the devices of a row, by its four bytes and the address or place that it names.
 pub fn step_packed(name: u8, kind: u8, x: u8, y: u8, z: u8, row: &mut [u8]) -> u32
@@ -30,5 +30,5 @@ pub fn show_packed(place: u8, row: &[u8]) -> u32
 pub fn fresh_packed(slots: &[u8], row: &mut [u8]) -> u32
     ensures { (result ≡ fresh_row_number slots.now row.old) × (row.new ≡ fresh_row_buffer slots.now row.old) }
 {
-    fresh_row(slots, row) as u32
+    u32::from(number_of(fresh_row(slots, row)))
 }

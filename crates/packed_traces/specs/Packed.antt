@@ -2,8 +2,8 @@
 -- Assumes nothing.
 use Rattle.std.specs.Prelude.{ℕ, ◌+◌, ◌*◌}
 use Rattle.arbiter.specs.Traces.{kind_number}
-use Rattle.arbiter.specs.declared.Report.{Report}
-use Rattle.arbiter.specs.declared.Written.{Written}
+use Rattle.arbiter.specs.Types.{Report}
+use Rattle.arbiter.specs.Types.{Written}
 
 -- a report: the number, the address, from 65,536 on the count of events, and from 4,294,967,296 on the kind of part
 abbrev pub packed_report : Report → ℕ

@@ -1,14 +1,16 @@
 // Traces for Rust and C: what is reported of one packed in one number, its bytes in a lent buffer.
 #![tactic(auto)]
 
-ghost use Rattle.std.specs.Prelude.{◌≡◌, length};
-ghost use Rattle.arbiter.specs.Traces.{report, buffer_after};
+ghost use Rattle.std.specs.Prelude.{◌≡◌, ◌≤◌, length};
+ghost use Rattle.arbiter.specs.Traces.{most_bytes, report, buffer_after};
 ghost use Rattle.arbiter.specs.OldTraces.{conversion, buffer_converted};
 ghost use Rattle.arbiter.specs.Writing.{written, buffer_written};
+ghost use Rattle.format.specs.Refused.{written_of};
 ghost use Rattle.packed_traces.specs.Packed.{packed_report, packed_written};
 
-use arbiter::Pins;
+use arbiter::{Pins, Refusal};
 use converter::convert_trace;
+use format::{kind_number, refusal_number};
 use packing::long_of;
 use traces::answer_trace;
 use writer::write_trace;
@@ -17,11 +19,25 @@ use writer::write_trace;
 pub fn run_packed(t: &[u8], out: &mut [u8]) -> u64
     ensures { (result ≡ packed_report (report t.now out.old)) × (out.new ≡ buffer_after t.now out.old) }
 {
-    let r = answer_trace(t, out);
-    long_of(r.number)
-        + 256 * long_of(r.address)
-        + 65536 * (r.events as u64)
-        + 4294967296 * long_of(r.kind)
+    match answer_trace(t, out) {
+        Ok(head) => {
+            256 * long_of(head.address)
+                + 65536 * (head.events as u64)
+                + 4294967296 * long_of(kind_number(head.kind))
+        }
+        Err(why) => long_of(refusal_number(why)),
+    }
+}
+
+// The length of what was written, above the number; or the number of its refusal alone.
+fn packed_length(written: Result<usize, Refusal>) -> u64
+    requires { (written_of written).length ≤ most_bytes }
+    ensures { result ≡ packed_written (written_of written) }
+{
+    match written {
+        Ok(length) => 256 * (length as u64),
+        Err(refusal) => u64::from(refusal_number(refusal)),
+    }
 }
 
 // The trace of four pins, a kind of part and some events into a lent buffer.
@@ -36,14 +52,14 @@ pub fn write_packed(
 ) -> u64
     ensures { (result ≡ packed_written (written (record { ad3 = ad3; ad2 = ad2; ad1 = ad1; ad0 = ad0 }) kind events.now out.old)) × (out.new ≡ buffer_written (record { ad3 = ad3; ad2 = ad2; ad1 = ad1; ad0 = ad0 }) kind events.now out.old) }
 {
-    let w = write_trace(Pins { ad3, ad2, ad1, ad0 }, kind, events, out);
-    long_of(w.number) + 256 * (w.length as u64)
+    let written = write_trace(Pins { ad3, ad2, ad1, ad0 }, kind, events, out);
+    packed_length(written)
 }
 
 // A trace from before the kind of part, with the section of a PCA9641 added, into a lent buffer.
 pub fn convert_packed(old: &[u8], out: &mut [u8]) -> u64
     ensures { (result ≡ packed_written (conversion old.now out.old)) × (out.new ≡ buffer_converted old.now out.old) }
 {
-    let made = convert_trace(old, out);
-    long_of(made.number) + 256 * (made.length as u64)
+    let converted = convert_trace(old, out);
+    packed_length(converted)
 }

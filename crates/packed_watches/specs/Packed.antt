@@ -1,7 +1,7 @@
 -- What listening tells, as the library tells of it to another language: document 02's number in the low byte, what was taken above it.
 -- Assumes nothing.
 use Rattle.std.specs.Prelude.{ℕ, ◌+◌, ◌*◌, List, ltb, length, take, if◌then◌else◌}
-use Rattle.watchlayout.specs.declared.Heeded.{Heeded}
+use Rattle.watchlayout.specs.Refusals.{Heeded}
 
 -- a call hears so many samples at most; the others are left, as those after a sample that has something to tell
 abbrev pub most_at_once : ℕ

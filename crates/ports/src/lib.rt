@@ -8,27 +8,19 @@ ghost use Rattle.arbiter.specs.Effects.{commanded};
 ghost use Rattle.arbiter.specs.declared.Port.TheVariants.{Rest, Open, Writing};
 
 use arbiter::{Port, Side};
-use bits::pick_bool;
-use fields::{pick_register, pointer_of, register_at, side_with};
+use bits::pick;
+use fields::register_at;
 
 pub fn is_at_rest(p: Port) -> bool
     ensures { result ≡ at_rest p }
 {
-    match p {
-        Port::Rest => true,
-        Port::Open => false,
-        Port::Writing => false,
-    }
+    p == Port::Rest
 }
 
 pub fn is_for_writing(p: Port) -> bool
     ensures { result ≡ for_writing p }
 {
-    match p {
-        Port::Rest => false,
-        Port::Open => false,
-        Port::Writing => true,
-    }
+    p == Port::Writing
 }
 
 // ---- COMMAND
@@ -43,20 +35,17 @@ fn opened(for_writing: bool) -> Port
     }
 }
 
+#[tactic(auto, using(crate::proofs::Laws::commanded_law))]
 pub fn commanded_side(c: u8, s: Side) -> Side
     ensures { result ≡ commanded c s }
 {
     let good = c / 8 % 16 == 0;
-    side_with(
-        pick_register(good, register_at(c % 8), pointer_of(s)),
-        s.rt,
-        s.contr,
-        s.ints,
-        s.mail,
-        pick_bool(good, c / 128 % 2 == 1, s.auto),
-        opened(good),
-        s.mask,
-    )
+    Side {
+        pointer: pick(good, register_at(c % 8), s.pointer),
+        auto: pick(good, c / 128 % 2 == 1, s.auto),
+        port: opened(good),
+        ..s
+    }
 }
 
 // ---- STOP
@@ -64,14 +53,8 @@ pub fn commanded_side(c: u8, s: Side) -> Side
 pub fn stopped_side(s: Side) -> Side
     ensures { result ≡ with_port Rest s }
 {
-    side_with(
-        pointer_of(s),
-        s.rt,
-        s.contr,
-        s.ints,
-        s.mail,
-        s.auto,
-        Port::Rest,
-        s.mask,
-    )
+    Side {
+        port: Port::Rest,
+        ..s
+    }
 }

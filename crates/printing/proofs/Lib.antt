@@ -1,2 +1,3 @@
-mod Filled
+pub mod Filled
 pub mod Listed
+pub mod Text

@@ -1,12 +1,25 @@
 // What the programs share: a stream read into a buffer, and the listing of a trace on a stream.
 #![tactic(auto)]
 
-ghost use Rattle.std.specs.Prelude.{◌≡◌, ◌≤◌, ◌<◌, length, take, IfOk, IfSome, OnOk};
+ghost use Rattle.std.specs.Prelude.{◌≡◌, ◌≤◌, ◌<◌, length, take, Some, IfOk, IfSome, OnOk};
 ghost use Rattle.std.specs.Io.KnownBytes.{Appends, Consumes, IsAtEnd};
-ghost use Rattle.arbiter.specs.Listing.{most_chars, listing};
+ghost use Rattle.arbiter.specs.Listing.{hex2, listing};
 
-use std::io;
+use std::{fmt, io};
 use text::{LISTING_ROOM, list_trace};
+
+// A byte in two digits of capital hex.
+#[derive(Clone, Copy)]
+pub struct Hex(pub u8);
+
+impl fmt::Display for Hex {
+    ghost output = { λ h. Some (hex2 h.0) };
+
+    fn fmt<W: fmt::Write>(&self, f: &mut fmt::Formatter<W>) -> fmt::Result {
+        let v = self.0;
+        write!(f, "{v:02X}")
+    }
+}
 
 // Reads until the buffer is full or the stream ends, and answers how many bytes it put at the buffer's front. Where the stream's bytes are known
 // they are its next ones, and fewer than the buffer has room for only at its end.
@@ -17,6 +30,7 @@ pub fn read_full<R: io::Read>(from: &mut R, buffer: &mut [u8]) -> io::Result<usi
     ensures end { IfOk result (λ n. n < length buffer.new → IsAtEnd (R.remaining from.new)) }
 {
     let mut done = 0;
+    // (A loop of its own: read_exact does not tell how many bytes came before the end, and read_to_end wants a Vec.)
     while done < buffer.len() {
         let n = from.read(&mut buffer[done..])?;
         if n == 0 {
@@ -27,25 +41,11 @@ pub fn read_full<R: io::Read>(from: &mut R, buffer: &mut [u8]) -> io::Result<usi
     Ok(done)
 }
 
-// Room for any listing.
-fn text_room() -> [u8; LISTING_ROOM]
-    ensures { most_chars ≡ length result }
-{
-    [0; LISTING_ROOM]
-}
-
-fn print_by<W: io::Write>(out: &mut W, trace: &[u8], text: &mut [u8]) -> io::Result<()>
-    requires { most_chars ≤ length text.old }
-    ensures { OnOk result (Appends (W.contents out.old) (W.contents out.new) (listing trace.now)) }
-{
-    let n = list_trace(trace, text);
-    out.write_all(&text[..n])
-}
-
 // Writes the listing of a trace to a stream. What the operating system took no contract can say.
 pub fn print_listing<W: io::Write>(out: &mut W, trace: &[u8]) -> io::Result<()>
     ensures { OnOk result (Appends (W.contents out.old) (W.contents out.new) (listing trace.now)) }
 {
-    let mut text = text_room();
-    print_by(out, trace, &mut text)
+    let mut text = [0u8; LISTING_ROOM];
+    let n = list_trace(trace, &mut text);
+    out.write_all(&text[..n])
 }

@@ -5,12 +5,13 @@ ghost use Rattle.std.specs.Prelude.{◌-◌, ◌≡◌};
 ghost use Rattle.quiet.specs.Counts.{risen, counted_bus, with_counts, after_ticks};
 ghost use Rattle.quiet.specs.Quiet.{hold_left, scl_left, sda_left, idle_left, owner_left, turn_left, is_still, is_calm, counts_left, quiet_ticks};
 
-use arbiter::{Bus, CUT_TICKS, Device, Master, SCL_HUNG_LIMIT, SDA_HUNG_LIMIT, Side, Turn};
+use arbiter::{
+    Arbitration, Bus, CUT_TICKS, Device, Master, SCL_HUNG_LIMIT, SDA_HUNG_LIMIT, Side, Turn,
+};
 use arbitration::claims::{no_claim, no_grant};
-use bits::{least_u16, less_one};
 use bus::{is_idle, scl_high, sda_high};
 use connection::switch_stays;
-use fields::{arb_with, device_with, idle_limit, last_of, switch_of, turn_of};
+use fields::{idle_limit, side_of};
 
 // Stands for no end in sight: no_end in specs/Quiet.
 pub const NO_END: u16 = 65535;
@@ -20,7 +21,11 @@ pub const NO_END: u16 = 65535;
 pub fn hold_ticks(hold: u8) -> u16
     ensures { result ≡ hold_left hold }
 {
-    if hold == 0 { NO_END } else { (hold as u16) - 1 }
+    if hold == 0 {
+        NO_END
+    } else {
+        u16::from(hold - 1)
+    }
 }
 
 pub fn scl_ticks(high: bool, low: u16) -> u16
@@ -28,16 +33,12 @@ pub fn scl_ticks(high: bool, low: u16) -> u16
 {
     if high {
         NO_END
+    } else if low < CUT_TICKS {
+        CUT_TICKS - 1 - low
+    } else if low < SCL_HUNG_LIMIT {
+        SCL_HUNG_LIMIT - 1 - low
     } else {
-        if low < CUT_TICKS {
-            CUT_TICKS - 1 - low
-        } else {
-            if low < SCL_HUNG_LIMIT {
-                SCL_HUNG_LIMIT - 1 - low
-            } else {
-                NO_END
-            }
-        }
+        NO_END
     }
 }
 
@@ -46,12 +47,10 @@ pub fn sda_ticks(high: bool, low: u16) -> u16
 {
     if high {
         NO_END
+    } else if low < SDA_HUNG_LIMIT {
+        SDA_HUNG_LIMIT - 1 - low
     } else {
-        if low < SDA_HUNG_LIMIT {
-            SDA_HUNG_LIMIT - 1 - low
-        } else {
-            NO_END
-        }
+        NO_END
     }
 }
 
@@ -59,14 +58,12 @@ pub fn sda_ticks(high: bool, low: u16) -> u16
 pub fn idle_ticks(limit: u8, timer: bool, idle: u8) -> u16
     ensures { result ≡ idle_left limit timer idle }
 {
-    if timer {
-        if idle < limit {
-            (limit - 1 - idle) as u16
-        } else {
-            0
-        }
-    } else {
+    if !timer {
         NO_END
+    } else if idle < limit {
+        u16::from(limit - 1 - idle)
+    } else {
+        0
     }
 }
 
@@ -74,14 +71,12 @@ pub fn idle_ticks(limit: u8, timer: bool, idle: u8) -> u16
 pub fn owner_ticks(limit: u8, s: Side, reserve: u8, b: Bus) -> u16
     ensures { result ≡ owner_left limit s reserve b }
 {
-    if is_idle(b) {
-        if s.rt == 0 {
-            idle_ticks(limit, s.contr.idletimer, b.idle)
-        } else {
-            less_one(reserve) as u16
-        }
-    } else {
+    if !is_idle(b) {
         NO_END
+    } else if s.rt == 0 {
+        idle_ticks(limit, s.contr.idletimer, b.idle)
+    } else {
+        u16::from(reserve.saturating_sub(1))
     }
 }
 
@@ -90,12 +85,8 @@ fn turn_ticks(t: Turn, d: Device) -> u16
 {
     let limit = idle_limit(d);
     match t {
-        Turn::Nobody => NO_END,
-        Turn::Claims(_, _) => NO_END,
-        Turn::Owns(m, _) => match m {
-            Master::Zero => owner_ticks(limit, d.side0, d.arb.reserve, d.bus),
-            Master::One => owner_ticks(limit, d.side1, d.arb.reserve, d.bus),
-        },
+        Turn::Nobody | Turn::Claims(_, _) => NO_END,
+        Turn::Owns(m, _) => owner_ticks(limit, side_of(m, d), d.arb.reserve, d.bus),
     }
 }
 
@@ -120,21 +111,23 @@ pub fn is_calm(t: Turn, d: Device) -> bool
 // ---- how many
 
 // Of a device that is known to be settled it is all that is asked.
+#[tactic(auto, unfolding(crate::specs::Quiet::counts_left))]
 pub fn counts_left(d: Device) -> u16
     ensures { result ≡ counts_left d }
 {
     let hold = hold_ticks(d.bus.hold);
-    let turn = turn_ticks(turn_of(d.arb), d);
+    let turn = turn_ticks(d.arb.turn, d);
     let scl = scl_ticks(scl_high(d.bus), d.bus.lowscl);
     let sda = sda_ticks(sda_high(d.bus), d.bus.lowsda);
-    least_u16(least_u16(hold, turn), least_u16(scl, sda))
+    hold.min(turn).min(scl.min(sda))
 }
 
 // So many TICKs from here on change nothing but counts: each is answered 0, 0 and the last two bytes of now.
+#[tactic(auto, unfolding(crate::specs::Quiet::quiet_ticks))]
 pub fn quiet_ticks(d: Device) -> u16
     ensures { result ≡ quiet_ticks d }
 {
-    if is_still(d.bus) & is_calm(turn_of(d.arb), d) {
+    if is_still(d.bus) & is_calm(d.arb.turn, d) {
         counts_left(d)
     } else {
         0
@@ -144,40 +137,18 @@ pub fn quiet_ticks(d: Device) -> u16
 // ---- the device after them
 
 // A count that stops at 0.
-fn fallen_u8(j: u16, n: u8) -> u8
+fn fallen(j: u16, n: u8) -> u8
     ensures { result ≡ n - j }
 {
-    if j < (n as u16) { n - (j as u8) } else { 0 }
+    u16::from(n).saturating_sub(j) as u8
 }
 
-// Counts that stop at their top.
-fn risen_u8(top: u8, up: bool, j: u16, n: u8) -> u8
+// A count that stops at its top. One of a byte goes by its wider type.
+fn risen(top: u16, up: bool, j: u16, n: u16) -> u16
     ensures { result ≡ risen top up j n }
 {
-    if up {
-        if n < top {
-            if j < ((top - n) as u16) {
-                n + (j as u8)
-            } else {
-                top
-            }
-        } else {
-            n
-        }
-    } else {
-        n
-    }
-}
-
-fn risen_u16(top: u16, up: bool, j: u16, n: u16) -> u16
-    ensures { result ≡ risen top up j n }
-{
-    if up {
-        if n < top {
-            if j < top - n { n + j } else { top }
-        } else {
-            n
-        }
+    if up & (n < top) {
+        n.saturating_add(j).min(top)
     } else {
         n
     }
@@ -187,39 +158,28 @@ fn counted_bus(hold: u8, idle: u8, lowscl: u16, lowsda: u16, b: Bus) -> Bus
     ensures { result ≡ counted_bus hold idle lowscl lowsda b }
 {
     Bus {
-        outscl: b.outscl,
-        outsda: b.outsda,
-        intin: b.intin,
-        drivescl: b.drivescl,
-        drivesda: b.drivesda,
-        busy: b.busy,
         hold,
         idle,
         lowscl,
         lowsda,
+        ..b
     }
 }
 
 // The device with these counts.
+#[tactic(auto, unfolding(crate::specs::Counts::with_counts))]
 fn with_counts(reserve: u8, hold: u8, idle: u8, lowscl: u16, lowsda: u16, d: Device) -> Device
     ensures { result ≡ with_counts reserve hold idle lowscl lowsda d }
 {
-    device_with(
-        d.side0,
-        d.side1,
-        counted_bus(hold, idle, lowscl, lowsda, d.bus),
-        arb_with(
-            last_of(d.arb),
-            d.arb.initfail,
-            switch_of(d.arb),
-            reserve,
-            turn_of(d.arb),
-        ),
-        d,
-    )
+    Device {
+        bus: counted_bus(hold, idle, lowscl, lowsda, d.bus),
+        arb: Arbitration { reserve, ..d.arb },
+        ..d
+    }
 }
 
 // The device after j quiet ticks: its counts moved on, each stopping at its top or at 0.
+#[tactic(auto, unfolding(crate::specs::Counts::after_ticks))]
 pub fn after_ticks(j: u16, d: Device) -> Device
     ensures { result ≡ after_ticks j d }
 {
@@ -227,11 +187,11 @@ pub fn after_ticks(j: u16, d: Device) -> Device
     let scl = scl_high(d.bus);
     let sda = sda_high(d.bus);
     with_counts(
-        fallen_u8(j, d.arb.reserve),
-        fallen_u8(j, d.bus.hold),
-        risen_u8(idle_limit(d), idle, j, d.bus.idle),
-        risen_u16(SCL_HUNG_LIMIT, !scl, j, d.bus.lowscl),
-        risen_u16(SDA_HUNG_LIMIT, !sda, j, d.bus.lowsda),
+        fallen(j, d.arb.reserve),
+        fallen(j, d.bus.hold),
+        risen(u16::from(idle_limit(d)), idle, j, u16::from(d.bus.idle)) as u8,
+        risen(SCL_HUNG_LIMIT, !scl, j, d.bus.lowscl),
+        risen(SDA_HUNG_LIMIT, !sda, j, d.bus.lowsda),
         d,
     )
 }

@@ -19,7 +19,7 @@ use Rattle.arbiter.specs.Effects.{commanded, writer_side, partner_side, written_
 use Rattle.arbiter.specs.Effects.{lined}
 use Rattle.arbiter.specs.Effects.{counted_to, ticked, fresh_side, was_reset, effect}
 use Rattle.arbiter.proofs.Choice.{either}
-use Rattle.ranges.proofs.Fields.{raised_fits, cleared_fits, BusOk, SideOk, Ok, ok_side, ok_device, ok_with, ok_ints}
+use Rattle.ranges.proofs.Fields.{raised_fits, cleared_fits, BusOk, SideOk, DeviceFits, ok_side, ok_device, ok_with, ok_ints}
 
 -- ---- a written byte
 
@@ -58,7 +58,7 @@ module _ (B : ℕ → Type 0) where
   drives_ok limit g c MailLow v b h = h
   drives_ok limit g c MailHigh v b h = h
 
-  writer_ok : (m : Master) (v : ℕ) (d : Device) → B v → Ok B d → SideOk B (writer_side m v d)
+  writer_ok : (m : Master) (v : ℕ) (d : Device) → B v → DeviceFits B d → SideOk B (writer_side m v d)
   writer_ok m v d b h =
       let s : Side = side m d in
       let n : Side = own_written (owns m d) s.pointer v s in
@@ -89,11 +89,11 @@ module _ (B : ℕ → Type 0) (none : B 0) (less : (n : ℕ) → B n → B (n - 
   unfolding fresh_side
   fresh_ok = (omega arith, omega arith, none, (none, none))
 
-  reset_ok : (hold : ℕ) (d : Device) → hold < 36 → Ok B (was_reset hold d)
+  reset_ok : (hold : ℕ) (d : Device) → hold < 36 → DeviceFits B (was_reset hold d)
   unfolding was_reset
   reset_ok hold d h = record { zero = fresh_ok; one = fresh_ok; bus = (h, omega arith, omega arith, omega arith); arb = (omega arith, none) }
 
-  tick_ok : (d : Device) → Ok B d → Ok B (ticked d)
+  tick_ok : (d : Device) → DeviceFits B d → DeviceFits B (ticked d)
   unfolding ticked
   tick_ok d h =
       let b : Bus = d.bus in
@@ -108,7 +108,7 @@ module _ (B : ℕ → Type 0) (none : B 0) (less : (n : ℕ) → B n → B (n - 
         arb = (h.arb.0, less d.arb.reserve h.arb.1);
       }
 
-  pub effect_ok : (e : Event) (d : Device) → EventOk B e → Ok B d → Ok B (effect e d)
+  pub effect_ok : (e : Event) (d : Device) → EventOk B e → DeviceFits B d → DeviceFits B (effect e d)
   unfolding effect commanded written was_read paired lined EventOk
   effect_ok (Command m c) d b h = ok_with B m (commanded c (side m d)) d (either (SideOk B) (good_command c) (λ x. ok_side B m d h) (λ x. ok_side B m d h)) h
   effect_ok (Write m v) d b h =
@@ -147,5 +147,5 @@ module _ (B : ℕ → Type 0) (none : B 0) (less : (n : ℕ) → B n → B (n - 
   effect_ok (Pulse sda) d b h = h
   effect_ok Reset d b h = reset_ok 0 d (omega arith)
   effect_ok (GeneralCall m c) d b h =
-      either (Ok B) (soft_reset c)
+      either (DeviceFits B) (soft_reset c)
       (λ x. reset_ok _ d (either (λ (n : ℕ). n < 36) (side m d).contr.swrst (λ y. omega arith) (λ y. omega arith))) (λ x. h)

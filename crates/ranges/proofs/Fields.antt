@@ -68,22 +68,22 @@ module _ (B : ℕ → Type 0) where
   abbrev pub ArbOk : Arbitration → Type 0
   ArbOk a = (pulses a.switch < 9) × B a.reserve
 
-  pub record Ok (d : Device) : Type 0 where
+  pub record DeviceFits (d : Device) : Type 0 where
     pub zero : SideOk d.side0
     pub one : SideOk d.side1
     pub bus : BusOk (idle_limit d) d.bus
     pub arb : ArbOk d.arb
 
-  pub ok_side : (m : Master) (d : Device) → Ok d → SideOk (side m d)
+  pub ok_side : (m : Master) (d : Device) → DeviceFits d → SideOk (side m d)
   ok_side Zero d h = h.zero
   ok_side One d h = h.one
 
   pub ok_device : (m : Master) (s p : Side) (b : Bus) (a : Arbitration) (d : Device)
-      → SideOk s → SideOk p → BusOk (idle_limit d) b → ArbOk a → Ok (device m s p b a d)
+      → SideOk s → SideOk p → BusOk (idle_limit d) b → ArbOk a → DeviceFits (device m s p b a d)
   ok_device Zero s p b a d hs hp hb ha = record { zero = hs; one = hp; bus = hb; arb = ha }
   ok_device One s p b a d hs hp hb ha = record { zero = hp; one = hs; bus = hb; arb = ha }
 
-  pub ok_with : (m : Master) (s : Side) (d : Device) → SideOk s → Ok d → Ok (with_side m s d)
+  pub ok_with : (m : Master) (s : Side) (d : Device) → SideOk s → DeviceFits d → DeviceFits (with_side m s d)
   ok_with m s d hs h = ok_device m s (side (partner m) d) d.bus d.arb d hs (ok_side (partner m) d h) h.bus h.arb
 
   -- a side with other interrupts
@@ -92,7 +92,7 @@ module _ (B : ℕ → Type 0) where
 
   -- ---- as the tests have it
 
-  pub ok_narrow : (d : Device) → Ok d → all_fit narrow d ≡ true
+  pub ok_narrow : (d : Device) → DeviceFits d → all_fit narrow d ≡ true
   ok_narrow d h =
       let (ints0, mask0, _, _) = h.zero in
       let (ints1, mask1, _, _) = h.one in

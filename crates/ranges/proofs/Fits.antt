@@ -5,14 +5,14 @@ use mathlib.Core.Bool.{Bool, ◌&&◌}
 use native.Mathlib.Omega.{arith}
 use Rattle.std.specs.Prelude.{◌-◌, ◌∷◌}
 use Rattle.ranges.specs.Names.{ℕ, List, [], eqb, Kind, Device, Raw, Event, Command, Write, Read, Stop, Pair, Lines, Tick, Pulse, Reset}
-use Rattle.ranges.specs.Names.{GeneralCall, Decoded, Reads, UnknownKind, BadField, Stepped}
+use Rattle.ranges.specs.Names.{GeneralCall, Stepped, Result, Event, Unread, Ok, Err, UnknownKind, BadField}
 use Rattle.arbiter.specs.Events.{fitting, zero_or_one, unused, master, level, decode}
 use Rattle.arbiter.specs.Effects.{power_up, effect}
 use Rattle.arbiter.specs.Order.{is_reset, is_tick, clock_of, levels, losses, cut, claim, grant, connect}
 use Rattle.arbiter.specs.Steps.{parts, taken, refused, step, run_from, run}
 use Rattle.arbiter.proofs.Choice.{either}
 use Rattle.arbiter.proofs.Cases.{step_cases}
-use Rattle.ranges.proofs.Fields.{Ok}
+use Rattle.ranges.proofs.Fields.{DeviceFits}
 use Rattle.ranges.proofs.EffectFits.{EventOk, fresh_ok, effect_ok}
 use Rattle.ranges.proofs.OrderFits.{levels_ok, losses_ok, cut_ok, claim_ok, grant_ok, connect_ok}
 
@@ -23,16 +23,16 @@ module _ (B : ℕ → Type 0) where
   abbrev pub RawOk : Raw → Type 0
   RawOk r = B r.x × B r.y
 
-  DecodedOk : Decoded → Type 0
-  DecodedOk (Reads e) = EventOk B e
-  DecodedOk UnknownKind = Unit {0}
-  DecodedOk BadField = Unit {0}
+  DecodedOk : Result Event Unread → Type 0
+  DecodedOk (Ok e) = EventOk B e
+  DecodedOk (Err UnknownKind) = Unit {0}
+  DecodedOk (Err BadField) = Unit {0}
 
   fitting_ok : (ok : Bool) (e : Event) → EventOk B e → DecodedOk (fitting ok e)
   unfolding DecodedOk
   fitting_ok ok e h = either DecodedOk ok (λ x. h) (λ x. tt)
 
-  unknown_ok : DecodedOk UnknownKind
+  unknown_ok : DecodedOk (Err UnknownKind)
   unfolding DecodedOk
   unknown_ok = tt
 
@@ -58,7 +58,7 @@ module _ (B : ℕ → Type 0) where
 -- ---- a step, and a run
 
 module _ (B : ℕ → Type 0) (none : B 0) (less : (n : ℕ) → B n → B (n - 1)) where
-  parts_ok : (e : Event) (d : Device) → EventOk B e → Ok B d → Ok B (parts e d)
+  parts_ok : (e : Event) (d : Device) → EventOk B e → DeviceFits B d → DeviceFits B (parts e d)
   unfolding parts losses cut grant connect
   parts_ok e d b h =
       let one : Device = effect e d in
@@ -67,19 +67,19 @@ module _ (B : ℕ → Type 0) (none : B 0) (less : (n : ℕ) → B n → B (n - 
       let four : Device = cut (is_tick e) three in
       let five : Device = claim four in
       let six : Device = grant five in
-      let h2 : Ok B two = levels_ok B (is_reset e) d.bus one (effect_ok B none less e d b h) in
-      let h3 : Ok B three = losses_ok B two.arb.turn two h2 in
-      let h4 : Ok B four = cut_ok B (is_tick e) three.arb.turn three h3 in
-      let h5 : Ok B five = claim_ok B four h4 in
-      let h6 : Ok B six = grant_ok B five.arb.turn five h5 in
+      let h2 : DeviceFits B two = levels_ok B (is_reset e) d.bus one (effect_ok B none less e d b h) in
+      let h3 : DeviceFits B three = losses_ok B two.arb.turn two h2 in
+      let h4 : DeviceFits B four = cut_ok B (is_tick e) three.arb.turn three h3 in
+      let h5 : DeviceFits B five = claim_ok B four h4 in
+      let h6 : DeviceFits B six = grant_ok B five.arb.turn five h5 in
       connect_ok B (clock_of e) six.arb.turn six h6
 
-  pub step_ok : (d : Device) (r : Raw) → RawOk B r → Ok B d → Ok B (step d r).device
+  pub step_ok : (d : Device) (r : Raw) → RawOk B r → DeviceFits B d → DeviceFits B (step d r).device
   unfolding taken refused DecodedOk
   step_ok d r b h =
-      step_cases (λ (s : Stepped). Ok B s.device) d r (λ e x s. parts_ok e d (subst (DecodedOk B) x (decoded_ok B r b)) h) (λ n u. h)
+      step_cases (λ (s : Stepped). DeviceFits B s.device) d r (λ e x s. parts_ok e d (subst (DecodedOk B) x (decoded_ok B r b)) h) (λ n u. h)
 
-  pub power_up_ok : (k : Kind) → Ok B (power_up k)
+  pub power_up_ok : (k : Kind) → DeviceFits B (power_up k)
   unfolding power_up
   power_up_ok k = record {
     zero = fresh_ok B none less;
@@ -88,11 +88,11 @@ module _ (B : ℕ → Type 0) (none : B 0) (less : (n : ℕ) → B n → B (n - 
     arb = (omega arith, none);
   }
 
-  from_ok : (rs : List Raw) (d : Device) → RawsOk B rs → Ok B d → Ok B (run_from d rs)
+  from_ok : (rs : List Raw) (d : Device) → RawsOk B rs → DeviceFits B d → DeviceFits B (run_from d rs)
   unfolding run_from
   from_ok [] d b h = h
   from_ok (r ∷ rs) d b h = from_ok rs (step d r).device b.1 (step_ok d r b.0 h)
 
-  pub run_ok : (k : Kind) (rs : List Raw) → RawsOk B rs → Ok B (run k rs)
+  pub run_ok : (k : Kind) (rs : List Raw) → RawsOk B rs → DeviceFits B (run k rs)
   unfolding run
   run_ok k rs b = from_ok rs (power_up k) b (power_up_ok k)

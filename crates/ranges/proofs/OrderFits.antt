@@ -20,7 +20,7 @@ use Rattle.arbiter.specs.Order.{failed_side, clocked, kept_joined, connect_from}
 use Rattle.ranges.specs.Ranges.{pulses}
 use Rattle.arbiter.proofs.Choice.{either}
 use Rattle.arbiter.proofs.Cases.{joined_by}
-use Rattle.ranges.proofs.Fields.{raised_fits, Ok, ok_side, ok_device, ok_with, ok_ints}
+use Rattle.ranges.proofs.Fields.{raised_fits, DeviceFits, ok_side, ok_device, ok_with, ok_ints}
 
 kept_or_zero : (top : ℕ) (t : Bool) (n : ℕ) → n < top + 1 → (if t then n else 0) < top + 1
 kept_or_zero top true n h = h
@@ -31,7 +31,7 @@ zero_or_kept top true n h = omega arith
 zero_or_kept top false n h = h
 
 module _ (B : ℕ → Type 0) where
-  pub levels_ok : (reset : Bool) (before : Bus) (d : Device) → Ok B d → Ok B (levels reset before d)
+  pub levels_ok : (reset : Bool) (before : Bus) (d : Device) → DeviceFits B d → DeviceFits B (levels reset before d)
   unfolding levels
   levels_ok reset before d h =
       let b : Bus = d.bus in
@@ -45,32 +45,32 @@ module _ (B : ℕ → Type 0) where
         arb = h.arb;
       }
 
-  lost_ok : (m : Master) (d : Device) → Ok B d → Ok B (lost m d)
+  lost_ok : (m : Master) (d : Device) → DeviceFits B d → DeviceFits B (lost m d)
   unfolding lost
   lost_ok m d h =
       ok_device B m (disconnected (loser (side m d))) (side (partner m) d) (released d.bus) (with_turn Nobody d.arb) d
       (ok_ints B _ (side m d) (raised_fits lost_int refl refl true (side m d).ints (ok_side B m d h).0) (ok_side B m d h))
       (ok_side B (partner m) d h) h.bus h.arb
 
-  pub losses_ok : (t : Turn) (d : Device) → Ok B d → Ok B (losses_from t d)
+  pub losses_ok : (t : Turn) (d : Device) → DeviceFits B d → DeviceFits B (losses_from t d)
   unfolding losses_from
   losses_ok Nobody d h = h
   losses_ok (Claims m g) d h = h
-  losses_ok (Owns m g) d h = either (Ok B) (runs_out (idle_limit d) (side m d) d.arb.reserve d.bus) (λ x. lost_ok m d h) (λ x. h)
+  losses_ok (Owns m g) d h = either (DeviceFits B) (runs_out (idle_limit d) (side m d) d.arb.reserve d.bus) (λ x. lost_ok m d h) (λ x. h)
 
-  pub cut_ok : (tick : Bool) (t : Turn) (d : Device) → Ok B d → Ok B (cut_from tick t d)
+  pub cut_ok : (tick : Bool) (t : Turn) (d : Device) → DeviceFits B d → DeviceFits B (cut_from tick t d)
   unfolding cut_from
   cut_ok tick Nobody d h = h
   cut_ok tick (Claims m g) d h = h
   cut_ok tick (Owns m g) d h =
-      either (Ok B) (tick && eqb d.bus.lowscl cut_ticks && (side m d).contr.smbusdis)
+      either (DeviceFits B) (tick && eqb d.bus.lowscl cut_ticks && (side m d).contr.smbusdis)
       (λ x. ok_with B m (disconnected (side m d)) d (ok_side B m d h) h) (λ x. h)
 
-  pub claim_ok : (d : Device) → Ok B d → Ok B (claim d)
+  pub claim_ok : (d : Device) → DeviceFits B d → DeviceFits B (claim d)
   unfolding claim
   claim_ok d h = record { zero = h.zero; one = h.one; bus = h.bus; arb = h.arb }
 
-  granted_ok : (m : Master) (g : Ground) (d : Device) → Ok B d → Ok B (granted m g d)
+  granted_ok : (m : Master) (g : Ground) (d : Device) → DeviceFits B d → DeviceFits B (granted m g d)
   unfolding granted
   granted_ok m g d h =
       let b = h.bus in
@@ -79,23 +79,23 @@ module _ (B : ℕ → Type 0) where
       (ok_ints B _ (side m d) (raised_fits granted_int refl refl true (side m d).ints (ok_side B m d h).0) (ok_side B m d h)) (ok_side B (partner m) d h)
       (b.0, omega arith, b.2, b.3) (h.arb.0, (ok_side B m d h).2)
 
-  pub grant_ok : (t : Turn) (d : Device) → Ok B d → Ok B (grant_from t d)
+  pub grant_ok : (t : Turn) (d : Device) → DeviceFits B d → DeviceFits B (grant_from t d)
   unfolding grant_from
   grant_ok Nobody d h = h
-  grant_ok (Claims m g) d h = either (Ok B) (at_rest (side m d).port && eqb d.bus.hold 0) (λ x. granted_ok m g d h) (λ x. h)
+  grant_ok (Claims m g) d h = either (DeviceFits B) (at_rest (side m d).port && eqb d.bus.hold 0) (λ x. granted_ok m g d h) (λ x. h)
   grant_ok (Owns m g) d h = h
 
   -- part 7 sets the switch and BUS_INIT_FAIL
-  ok_joined : (w : Switch) (fail : Bool) (d : Device) → pulses w < 9 → Ok B d → Ok B (joined_by w fail d)
+  ok_joined : (w : Switch) (fail : Bool) (d : Device) → pulses w < 9 → DeviceFits B d → DeviceFits B (joined_by w fail d)
   ok_joined w fail d n h = record { zero = h.zero; one = h.one; bus = h.bus; arb = (n, h.arb.1) }
 
-  joined_ok : (m : Master) (d : Device) → Ok B d → Ok B (joined m d)
+  joined_ok : (m : Master) (d : Device) → DeviceFits B d → DeviceFits B (joined m d)
   unfolding joined
   joined_ok m d h =
-      either (Ok B) (side m d).contr.businit (λ x. ok_joined (Initialising m 0) false d (omega arith) h)
+      either (DeviceFits B) (side m d).contr.businit (λ x. ok_joined (Initialising m 0) false d (omega arith) h)
       (λ x. ok_joined (Closed m) d.arb.initfail d (omega arith) h)
 
-  clocked_ok : (c : Clock) (m : Master) (n : ℕ) (d : Device) → Ok B d → Ok B (clocked c m n d)
+  clocked_ok : (c : Clock) (m : Master) (n : ℕ) (d : Device) → DeviceFits B d → DeviceFits B (clocked c m n d)
   unfolding clocked
   clocked_ok NoClock m n d h = h
   clocked_ok ClockHigh m n d h =
@@ -103,18 +103,18 @@ module _ (B : ℕ → Type 0) where
       ok_joined (Closed m) d.arb.initfail (with_side m s d) (omega arith) (ok_with B m s d (ok_side B m d h) h)
   clocked_ok ClockLow m n d h =
       let s : Side = failed_side (side m d) in
-      either (Ok B) (ltb n 8) (λ x. let l = ltb-true n 8 x in ok_joined (Initialising m (n + 1)) d.arb.initfail d (omega arith) h)
+      either (DeviceFits B) (ltb n 8) (λ x. let l = ltb-true n 8 x in ok_joined (Initialising m (n + 1)) d.arb.initfail d (omega arith) h)
       (λ x. ok_joined Apart true (with_side m s d) (omega arith) (ok_with B m s d (ok_side B m d h) h))
 
-  kept_ok : (c : Clock) (m : Master) (w : Switch) (d : Device) → Ok B d → Ok B (kept_joined c m w d)
+  kept_ok : (c : Clock) (m : Master) (w : Switch) (d : Device) → DeviceFits B d → DeviceFits B (kept_joined c m w d)
   unfolding kept_joined
   kept_ok c m Apart d h = joined_ok m d h
-  kept_ok c m (Initialising k n) d h = either (Ok B) (same_master m k) (λ x. clocked_ok c m n d h) (λ x. joined_ok m d h)
-  kept_ok c m (Closed k) d h = either (Ok B) (same_master m k) (λ x. h) (λ x. joined_ok m d h)
+  kept_ok c m (Initialising k n) d h = either (DeviceFits B) (same_master m k) (λ x. clocked_ok c m n d h) (λ x. joined_ok m d h)
+  kept_ok c m (Closed k) d h = either (DeviceFits B) (same_master m k) (λ x. h) (λ x. joined_ok m d h)
 
-  pub connect_ok : (c : Clock) (t : Turn) (d : Device) → Ok B d → Ok B (connect_from c t d)
+  pub connect_ok : (c : Clock) (t : Turn) (d : Device) → DeviceFits B d → DeviceFits B (connect_from c t d)
   unfolding connect_from
   connect_ok c Nobody d h = ok_joined Apart d.arb.initfail d (omega arith) h
   connect_ok c (Claims m g) d h = ok_joined Apart d.arb.initfail d (omega arith) h
   connect_ok c (Owns m g) d h =
-      either (Ok B) (side m d).contr.busconnect (λ x. kept_ok c m d.arb.switch d h) (λ x. ok_joined Apart d.arb.initfail d (omega arith) h)
+      either (DeviceFits B) (side m d).contr.busconnect (λ x. kept_ok c m d.arb.switch d h) (λ x. ok_joined Apart d.arb.initfail d (omega arith) h)

@@ -10,7 +10,7 @@ use Rattle.ranges.specs.Names.{ℕ, List, [], ltb, Kind, Device, Raw}
 use Rattle.arbiter.specs.Steps.{run}
 use Rattle.arbiter.specs.AuditWords.{next}
 use Rattle.ranges.specs.Ranges.{narrow, bytes, all_fit, in_range, is_bytes, are_bytes, InRange, NarrowInRange, StaysInRange}
-use Rattle.ranges.proofs.Fields.{fit_all, all_fit_lem, Ok, ok_narrow}
+use Rattle.ranges.proofs.Fields.{fit_all, all_fit_lem, DeviceFits, ok_narrow}
 use Rattle.ranges.proofs.Fits.{RawOk, step_ok, RawsOk, run_ok}
 
 -- ---- of any events
@@ -22,7 +22,7 @@ any_raws : (rs : List Raw) → RawsOk Any rs
 any_raws [] = tt
 any_raws (r ∷ rs) = ((tt, tt), any_raws rs)
 
-pub any_ok : (k : Kind) (rs : List Raw) → Ok Any (run k rs)
+pub any_ok : (k : Kind) (rs : List Raw) → DeviceFits Any (run k rs)
 any_ok k rs = run_ok Any tt (λ n b. tt) k rs (any_raws rs)
 
 pub narrow_in_range : NarrowInRange
@@ -41,7 +41,7 @@ byte_less n h = omega arith
 
 -- every number in its range
 abbrev Fits : Device → Type 0
-Fits d = Ok Byte d
+Fits d = DeviceFits Byte d
 
 fits_in : (d : Device) → Fits d → in_range d ≡ true
 unfolding in_range

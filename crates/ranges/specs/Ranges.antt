@@ -2,7 +2,7 @@
 -- exact. proofs/Ranges.antt proves that no run leaves them, and RangeWitnesses has runs that reach every value in them.
 -- Assumes nothing.
 use Rattle.std.specs.Prelude.{◌≡◌, ◌+◌, ◌&&◌, ◌||◌, ◌∷◌, ◌++◌}
-use Rattle.ranges.specs.Names.{ℕ, Bool, true, false, not, List, [], ltb, Master, Zero, One, Sole, Priority, LastGranted, Turn, Nobody, Claims, Owns, Last, Never, Was, Port, Rest, Open, Writing, IntStatus, IntMask, Switch, Apart, Initialising, Closed, Kind, Device, Raw}
+use Rattle.ranges.specs.Names.{ℕ, Bool, true, false, not, List, [], ltb, Master, Zero, One, Sole, Priority, LastGranted, Turn, Nobody, Claims, Owns, Port, Rest, Open, Writing, IntStatus, IntMask, Switch, Apart, Initialising, Closed, Kind, Device, Raw, Option, None, Some}
 use Rattle.arbiter.specs.Rules.{limit_of}
 use Rattle.arbiter.specs.Words.{bit, worth, of, side}
 use Rattle.arbiter.specs.State.{bus_hung}
@@ -69,10 +69,10 @@ port_number Rest = 0
 port_number Open = 1
 port_number Writing = 2
 
-abbrev pub last_number : Last → ℕ
-last_number Never = 0
-last_number (Was Zero) = 1
-last_number (Was One) = 2
+abbrev pub last_number : Option Master → ℕ
+last_number None = 0
+last_number (Some Zero) = 1
+last_number (Some One) = 2
 
 -- nobody; master 0 claims, master 1 claims, master 0 owns, master 1 owns, each on one of the three grounds
 abbrev pub turn_number : Turn → ℕ

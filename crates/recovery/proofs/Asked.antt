@@ -5,7 +5,7 @@ use mathlib.Core.Bool.{true≢false, and-eq-true_iff, and-false}
 use borrow.Author.Tests.{eq-eqb}
 use Rattle.std.specs.Prelude.{◌&&◌, ◌||◌, ◌∷◌, ◌++◌}
 use Rattle.ranges.specs.Names.{ℕ, zero, suc, Bool, true, false, not, List, [], eqb, Master, Zero, One, Contr, Bus, Device, Raw, Event}
-use Rattle.ranges.specs.Names.{Command, Write, Stop, Lines, Decoded, Reads}
+use Rattle.ranges.specs.Names.{Command, Write, Stop, Lines, Result, Event, Unread, Ok}
 use Rattle.arbiter.specs.State.{owns, scl_high, sda_high, at_rest}
 use Rattle.arbiter.specs.Events.{decode, in_sequence}
 use Rattle.arbiter.specs.Effects.{outside, lined, effect}
@@ -25,9 +25,9 @@ use Rattle.recovery.proofs.Ticks.{quiet}
 -- ---- p asks
 
 -- what is not said of the event is not said of its four bytes
-unsaid : (such : Event → Device → Bool) (e : Event) (r : Raw) (d : Device) → decode r ≡ Reads e → such e d ≡ false → accepted such r d ≡ false
+unsaid : (such : Event → Device → Bool) (e : Event) (r : Raw) (d : Device) → decode r ≡ Ok e → such e d ≡ false → accepted such r d ≡ false
 unsaid such e r d h s =
-    ap (λ (x : Decoded). accepted_as such x d) h ∙ ap (λ (b : Bool). in_sequence e d && b) s ∙ and-false (in_sequence e d)
+    ap (λ (x : Result Event Unread). accepted_as such x d) h ∙ ap (λ (b : Bool). in_sequence e d && b) s ∙ and-false (in_sequence e d)
 
 abbrev pub ask : Master → List Raw
 ask p = sets (number p) 1 0x01

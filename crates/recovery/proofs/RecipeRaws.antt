@@ -6,8 +6,8 @@ use mathlib.Core.Bool.{true≢false, false≢true, or-true}
 use native.Mathlib.Omega.{arith}
 use borrow.Author.Tests.{eqb-true, le-ltb}
 use Rattle.std.specs.Prelude.{◌&&◌, ◌||◌, ◌∷◌}
-use Rattle.ranges.specs.Names.{ℕ, Bool, true, false, not, List, [], eqb, Master, Zero, One, Device, Raw, Event, Decoded, Reads, UnknownKind}
-use Rattle.ranges.specs.Names.{BadField}
+use Rattle.ranges.specs.Names.{ℕ, Bool, true, false, not, List, [], eqb, Master, Zero, One, Device, Raw, Event, Result, Unread, Ok, Err, UnknownKind}
+use Rattle.ranges.specs.Names.{Err, BadField}
 use Rattle.arbiter.specs.Words.{partner}
 use Rattle.arbiter.specs.Events.{decode}
 use Rattle.arbiter.specs.AuditWords.{accepted_as}
@@ -54,10 +54,10 @@ between_by n r h = ap (λ (b : Bool). b && eqb r.x n) (le-ltb r.kind 4 (go r.kin
         (λ b. let is : k ≡ 6 = eqb-true k 6 (sym (ap (λ (x : Bool). x || eqb k 6) b) ∙ e) in omega arith)
 
 -- Bytes that read as no event are taken for none.
-unread : (such : Event → Device → Bool) (x : Decoded) (d : Device) → is_unread x ≡ true → accepted_as such x d ≡ false
-unread such (Reads e) d h = absurd (false≢true h)
-unread such UnknownKind d h = refl
-unread such BadField d h = refl
+unread : (such : Event → Device → Bool) (x : Result Event Unread) (d : Device) → is_unread x ≡ true → accepted_as such x d ≡ false
+unread such (Ok e) d h = absurd (false≢true h)
+unread such (Err UnknownKind) d h = refl
+unread such (Err BadField) d h = refl
 
 pub quiet_foreign : (m : Master) (r : Raw) (d : Device) → is_quiet r ≡ true → Foreign m r d
 quiet_foreign m r d h =

@@ -2,7 +2,7 @@
 -- RecipeRaws.antt, RecipeWalk.antt, RecipeEnd.antt and Recipe.antt.
 -- Assumes nothing.
 use Rattle.std.specs.Prelude.{◌-◌, ◌<◌, ◌≡◌, ◌+◌, ◌&&◌, ◌||◌, ◌∷◌, ◌++◌, if◌then◌else◌}
-use Rattle.ranges.specs.Names.{ℕ, Bool, true, false, not, List, [], eqb, ltb, Master, Kind, Device, Raw, Decoded, Reads, UnknownKind, BadField}
+use Rattle.ranges.specs.Names.{ℕ, Bool, true, false, not, List, [], eqb, ltb, Master, Kind, Device, Raw, Result, Event, Unread, Ok, Err, UnknownKind, BadField}
 use Rattle.arbiter.specs.Words.{side}
 use Rattle.arbiter.specs.State.{owns, claims}
 use Rattle.arbiter.specs.Events.{decode}
@@ -23,10 +23,9 @@ abbrev pub recipe : Master → Setting → List Raw
 recipe p s = general_call (number p) 0x06 ∷ setting_events (number p) s
 
 -- four bytes that read as no event: of an unknown kind, or with a field out of range
-abbrev pub is_unread : Decoded → Bool
-is_unread (Reads e) = false
-is_unread UnknownKind = true
-is_unread BadField = true
+abbrev pub is_unread : Result Event Unread → Bool
+is_unread (Ok e) = false
+is_unread (Err u) = true
 
 abbrev pub is_none : Raw → Bool
 is_none r = is_unread (decode r)

@@ -7,9 +7,8 @@ ghost use Rattle.arbiter.specs.Effects.{after_read, is_mail_high, empties, reade
 ghost use Rattle.registers.specs.Boxes.{mail_unless};
 
 use arbiter::{Bus, Control, Mailbox, Port, Register, Side};
-use bits::{byte_of, worth_of};
+use bits::{byte_of, pick, worth_of};
 use bus::{bus_hung, scl_high, sda_high};
-use fields::{pick_register, pointer_of, port_of, side_with};
 
 // ---- interrupts
 
@@ -37,16 +36,10 @@ pub fn is_asserted_by(hung: bool, ints: u8, mask: u8) -> bool
 pub fn fallen_side(fell: bool, s: Side) -> Side
     ensures { result ≡ int_in_fallen fell s }
 {
-    side_with(
-        pointer_of(s),
-        s.rt,
-        s.contr,
-        raised_in(s.ints, 0x01, fell),
-        s.mail,
-        s.auto,
-        port_of(s),
-        s.mask,
-    )
+    Side {
+        ints: raised_in(s.ints, 0x01, fell),
+        ..s
+    }
 }
 
 // ---- the byte read
@@ -91,6 +84,7 @@ fn status_byte(theirs: bool, own: Side, other: Side, b: Bus, initfail: bool) -> 
 }
 
 // What a master reads at its own pointer.
+#[tactic(auto, unfolding(arbiter::specs::Registers::register_byte))]
 pub fn register_byte(
     granted: bool,
     theirs: bool,
@@ -101,7 +95,7 @@ pub fn register_byte(
 ) -> u8
     ensures { result ≡ register_byte own.pointer granted theirs own other b initfail }
 {
-    let at = pointer_of(own);
+    let at = own.pointer;
     match at {
         Register::Id => 0x38,
         Register::Contr => contr_byte(granted, own.contr),
@@ -135,60 +129,40 @@ pub fn after_read(r: Register) -> Register
 fn is_mail_high(r: Register) -> bool
     ensures { result ≡ is_mail_high r }
 {
-    match r {
-        Register::Id => false,
-        Register::Contr => false,
-        Register::Status => false,
-        Register::Rt => false,
-        Register::IntStatus => false,
-        Register::IntMask => false,
-        Register::MailLow => false,
-        Register::MailHigh => true,
-    }
+    r == Register::MailHigh
 }
 
 pub fn empties_own(s: Side) -> bool
     ensures { result ≡ empties s }
 {
-    is_mail_high(pointer_of(s)) & s.mail.full
+    is_mail_high(s.pointer) & s.mail.full
 }
 
 fn emptied_if(emptied: bool, m: Mailbox) -> Mailbox
     ensures { result ≡ mail_unless emptied m }
 {
     Mailbox {
-        low: m.low,
-        high: m.high,
         full: m.full & !emptied,
+        ..m
     }
 }
 
 pub fn reader_side(s: Side) -> Side
     ensures { result ≡ reader_side s }
 {
-    side_with(
-        pick_register(s.auto, after_read(pointer_of(s)), pointer_of(s)),
-        s.rt,
-        s.contr,
-        s.ints,
-        emptied_if(empties_own(s), s.mail),
-        s.auto,
-        Port::Open,
-        s.mask,
-    )
+    Side {
+        pointer: pick(s.auto, after_read(s.pointer), s.pointer),
+        mail: emptied_if(empties_own(s), s.mail),
+        port: Port::Open,
+        ..s
+    }
 }
 
 pub fn sender_side(emptied: bool, s: Side) -> Side
     ensures { result ≡ sender_side emptied s }
 {
-    side_with(
-        pointer_of(s),
-        s.rt,
-        s.contr,
-        raised_in(s.ints, 0x10, emptied),
-        s.mail,
-        s.auto,
-        port_of(s),
-        s.mask,
-    )
+    Side {
+        ints: raised_in(s.ints, 0x10, emptied),
+        ..s
+    }
 }

@@ -1,43 +1,47 @@
--- Texts that are put one after the other stand one after the other.
+-- What is printed: a line a controller, and R6 after them past 65,535 traces.
 -- Assumes nothing.
-use Prim.Native.Nat.{ℕ, ◌+◌}
-use mathlib.Core.Path.{◌≡◌, sym, ap, ◌∙◌}
-use mathlib.Core.List.{List, [], ◌∷◌, ◌++◌, append_assoc, append-nil}
-use mathlib.Core.Bool.{Bool, true, false}
+use Rattle.std.proofs.Common.{ℕ, ◌+◌, ◌^◌, ◌<◌, ◌≡◌, sym, ap, ◌∙◌, subst, List, [], ◌∷◌, ◌++◌, Bool, true, false, append_assoc, append-nil}
+use Rattle.std.specs.declared.option.Option.{Option}
+use Rattle.std.specs.Io.KnownBytes.{Appends}
+use Rattle.std.specs.Fmt
+use Rattle.std.proofs.KnownBytes.{Appends-trans}
+use Rattle.std.proofs.lemmas.Fmt.{decimal_digit}
 use Rattle.std.specs.Prelude.{if◌then◌else◌}
 use Rattle.share.specs.declared.Totals.{Totals}
-use Rattle.report.specs.Report.{digit, field, space, line_end, line, past_line, report_text}
+use Rattle.report.specs.Report.{decimal, field, space, line_end, line, past_line, report_text}
+use Rattle.report.proofs.Decimal.{printed_number}
 
--- first p, then q
-pub two_put : (a b c p q : List ℕ) → b ≡ a ++ p → c ≡ b ++ q → c ≡ a ++ (p ++ q)
-two_put a b c p q e f = f ∙ ap (λ (m : List ℕ). m ++ q) e ∙ append_assoc a p q
+fields : (o c w : ℕ) → decimal o ++ (space ∷ (decimal c ++ (space ∷ (decimal w ++ line_end ∷ [])))) ≡ (field o space ++ field c space) ++ field w line_end
+fields o c w =
+    sym (append_assoc (field o space) (field c space) (field w line_end)
+    ∙ append_assoc (decimal o) (space ∷ []) (field c space ++ field w line_end)
+    ∙ ap (λ (l : List ℕ). decimal o ++ (space ∷ l)) (append_assoc (decimal c) (space ∷ []) (field w line_end)))
 
--- a line: what stands after its digit, its space and each of its numbers
-pub line_put : (m owned connected waited b : ℕ) (l0 l1 l2 l3 l4 l5 : List ℕ) → b ≡ 48 + m → l1 ≡ l0 ++ b ∷ [] → l2 ≡ l1 ++ space ∷ [] → l3 ≡ l2
-    ++ field owned space
-    → l4 ≡ l3 ++ field connected space → l5 ≡ l4 ++ field waited line_end → l5 ≡ l0 ++ line m owned connected waited
+pub line_printed : (m o c w : ℕ) → m < 10 → o < 2 ^ 64 → c < 2 ^ 64 → w < 2 ^ 64
+    → Fmt.decimal m ++ (space ∷ (Fmt.decimal o ++ (space ∷ (Fmt.decimal c ++ (space ∷ (Fmt.decimal w ++ line_end ∷ [])))))) ≡ line m o c w
 unfolding line
-line_put m owned connected waited b l0 l1 l2 l3 l4 l5 e e1 e2 e3 e4 e5 =
-    two_put l0 l4 l5 _ (field waited line_end)
-    (two_put l0 l3 l4 _ (field connected space)
-    (two_put l0 l2 l3 (digit m ∷ space ∷ []) (field owned space)
-    (two_put l0 l1 l2 (digit m ∷ []) (space ∷ []) (e1 ∙ ap (λ (c : ℕ). l0 ++ c ∷ []) e) e2) e3) e4) e5
+line_printed m o c w hm ho hc hw =
+    ap (λ (l : List ℕ). l ++ (space ∷ (Fmt.decimal o ++ (space ∷ (Fmt.decimal c ++ (space ∷ (Fmt.decimal w ++ line_end ∷ []))))))) (decimal_digit m hm)
+    ∙ ap (λ (l : List ℕ). (48 + m) ∷ space ∷ (l ++ (space ∷ (Fmt.decimal c ++ (space ∷ (Fmt.decimal w ++ line_end ∷ [])))))) (printed_number o ho)
+    ∙ ap (λ (l : List ℕ). (48 + m) ∷ space ∷ (decimal o ++ (space ∷ (l ++ (space ∷ (Fmt.decimal w ++ line_end ∷ [])))))) (printed_number c hc)
+    ∙ ap (λ (l : List ℕ). (48 + m) ∷ space ∷ (decimal o ++ (space ∷ (decimal c ++ (space ∷ (l ++ line_end ∷ [])))))) (printed_number w hw)
+    ∙ ap (λ (l : List ℕ). (48 + m) ∷ space ∷ l) (fields o c w)
 
 -- the two lines, with R6 after them or without
-module _ (x : Totals) (past : Bool) where
-  abbrev line0 : List ℕ
-  line0 = line 0 x.owned0 x.connected0 x.waited0
+module _ (x : Totals) (past : Bool) (a b c : Option (List ℕ)) (first : Appends a b (line 0 x.owned0 x.connected0 x.waited0))
+    (second : Appends b c (line 1 x.owned1 x.connected1 x.waited1)) where
+  abbrev lines : List ℕ
+  lines = line 0 x.owned0 x.connected0 x.waited0 ++ line 1 x.owned1 x.connected1 x.waited1
 
-  abbrev line1 : List ℕ
-  line1 = line 1 x.owned1 x.connected1 x.waited1
+  both : Appends a c lines
+  both = Appends-trans a b c _ _ first second
 
-  pub past_report : (l1 l2 l3 : List ℕ) → past ≡ true → l1 ≡ line0 → l2 ≡ l1 ++ line1 → l3 ≡ l2 ++ past_line → l3 ≡ report_text x past
+  with_rest : (t : Bool) → past ≡ t → lines ++ (if t then past_line else []) ≡ report_text x past
   unfolding report_text
-  past_report l1 l2 l3 h e1 e2 e3 =
-      e3 ∙ ap (λ (m : List ℕ). m ++ past_line) (e2 ∙ ap (λ (m : List ℕ). m ++ line1) e1)
-      ∙ ap (λ (b : Bool). line0 ++ line1 ++ (if b then past_line else [])) (sym h)
+  with_rest t h = ap (λ (u : Bool). lines ++ (if u then past_line else [])) (sym h)
 
-  pub whole_report : (l1 l2 : List ℕ) → past ≡ false → l1 ≡ line0 → l2 ≡ l1 ++ line1 → l2 ≡ report_text x past
-  unfolding report_text
-  whole_report l1 l2 h e1 e2 =
-      e2 ∙ ap (λ (m : List ℕ). m ++ line1) e1 ∙ sym (append-nil (line0 ++ line1)) ∙ ap (λ (b : Bool). line0 ++ line1 ++ (if b then past_line else [])) (sym h)
+  pub without_past : past ≡ false → Appends a c (report_text x past)
+  without_past h = subst (Appends a c) (sym (append-nil lines) ∙ with_rest false h) both
+
+  pub with_past : (d : Option (List ℕ)) → past ≡ true → Appends c d past_line → Appends a d (report_text x past)
+  with_past d h p = subst (Appends a d) (with_rest true h) (Appends-trans a c d lines past_line both p)

@@ -7,11 +7,11 @@ ghost use Rattle.arbiter.specs.Effects.{fresh_side, fresh_arb, was_reset, hold_a
 ghost use Rattle.resets.specs.Left.{bus_left};
 
 use arbiter::{
-    Arbitration, Bus, Control, Device, HOLD_TICKS, Kind, Last, Mailbox, Master, Port, Register,
-    Side, Switch, Turn,
+    Arbitration, Bus, Control, Device, HOLD_TICKS, Kind, Mailbox, Master, Port, Register, Side,
+    Switch, Turn,
 };
 use bits::worth_of;
-use fields::device_with;
+use fields::side_of;
 
 fn fresh_side() -> Side
     ensures { result ≡ fresh_side }
@@ -44,7 +44,7 @@ fn fresh_arb() -> Arbitration
     ensures { result ≡ fresh_arb }
 {
     Arbitration {
-        last: Last::Never,
+        last: None,
         initfail: false,
         switch: Switch::Apart,
         reserve: 0,
@@ -71,25 +71,23 @@ fn fresh_bus(scl: bool, sda: bool, intin: bool, hold: u8) -> Bus
 }
 
 // A reset keeps the outside levels and the kind of part alone, and SCL may be held for so many ticks.
+#[tactic(auto, unfolding(arbiter::specs::Effects::was_reset))]
 pub fn reset_device(hold: u8, d: Device) -> Device
     ensures { result ≡ was_reset hold d }
 {
-    device_with(
-        fresh_side(),
-        fresh_side(),
-        fresh_bus(d.bus.outscl, d.bus.outsda, d.bus.intin, hold),
-        fresh_arb(),
-        d,
-    )
+    Device {
+        side0: fresh_side(),
+        side1: fresh_side(),
+        bus: fresh_bus(d.bus.outscl, d.bus.outsda, d.bus.intin, hold),
+        arb: fresh_arb(),
+        ..d
+    }
 }
 
 fn swrst_of(m: Master, d: Device) -> bool
     ensures { result ≡ (side m d).contr.swrst }
 {
-    match m {
-        Master::Zero => d.side0.contr.swrst,
-        Master::One => d.side1.contr.swrst,
-    }
+    side_of(m, d).contr.swrst
 }
 
 // After a soft reset by m, SCL is held if m had SMBUS_SWRST set.

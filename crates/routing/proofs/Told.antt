@@ -9,19 +9,21 @@ use lib.Dec.{eqb, ltb}
 use lib.ListN.{length, get_or, set, take, length-set, length-append}
 use lib.Seq.{take-suc, take-length, length-take-le}
 use borrow.Author.Tests.{eqb-true, eqb-false, ltb-true, ltb-false, eq-eqb, ne_eqb, lt-ltb, le-ltb}
-use Rattle.std.specs.Prelude.{if◌then◌else◌}
+use Rattle.std.specs.Prelude.{Option, Some, None, Result, Ok, Err, if◌then◌else◌}
+use Rattle.std.specs.List.{list_any}
 use Rattle.arbiter.specs.declared.Raw.{Raw}
 use Rattle.arbiter.proofs.Choice.{split, if_true, if_false}
 use Rattle.shelf.specs.declared.Record.{Record}
 use Rattle.shelf.specs.declared.Naming.{Naming}
 use Rattle.shelf.specs.declared.Naming.TheVariants.{AnAddress, APlace, Nothing}
+use Rattle.shelf.specs.declared.Fault.{Fault}
 use Rattle.shelf.specs.declared.Fault.TheVariants.{EmptyRow, TooMany, EqualAddresses, NotInRow}
 use Rattle.shelf.specs.declared.Reach.{Reach}
-use Rattle.shelf.specs.declared.Reach.TheVariants.{At, Everyone, Refused}
+use Rattle.shelf.specs.declared.Reach.TheVariants.{At, Everyone}
 use Rattle.shelf.specs.Shelf.{addresses_of, record_at, naming, is_in, two_equal, further, place_of, reach_by, reach_of, reaches}
 use Rattle.shelf.proofs.Rows.{addresses_length}
 use Rattle.routing.specs.declared.Seen.{Seen}
-use Rattle.routing.specs.Deciding.{start_of, among_first, first_at, see_of, seen_to, seen_of, place_below, named_in, reach_for, reach_in}
+use Rattle.routing.specs.Deciding.{start_of, among_first, first_at, see_of, seen_to, seen_of, place_in, place_below, named_in, reach_for, reach_in}
 
 -- ---- one address more at the end
 
@@ -42,12 +44,17 @@ in_last x a (b ∷ p) = ap (λ (z : Bool). eqb b x || z) (in_last x a p) ∙ one
     one_by_one true v w = refl
     one_by_one false v w = refl
 
-among_in : (a : ℕ) (l : List ℕ) (n : ℕ) → n ≤ length l → among_first a l n ≡ is_in a (take n l)
+pub among_in : (a : ℕ) (l : List ℕ) (n : ℕ) → n ≤ length l → among_first a l n ≡ is_in a (take n l)
 unfolding among_first
 among_in a l zero h = refl
 among_in a l (suc n) h =
     ap (λ (b : Bool). b || eqb (get_or l n 0) a) (among_in a l n (omega arith))
     ∙ sym (in_last a (get_or l n 0) (take n l)) ∙ ap (λ (q : List ℕ). is_in a q) (sym (take-suc l n 0 h))
+
+-- as the library looks for it
+pub any_in : (a : ℕ) (p : List ℕ) → list_any (λ y. eqb y a) p ≡ is_in a p
+any_in a [] = refl
+any_in a (b ∷ p) = ap (λ (z : Bool). eqb b a || z) (any_in a p)
 
 equal_last : (a : ℕ) (p : List ℕ) → two_equal (p ++ a ∷ []) ≡ two_equal p || is_in a p
 equal_last a [] = refl
@@ -63,22 +70,32 @@ equal_last a (b ∷ p) =
     crossed false true false x = refl
     crossed false false w x = refl
 
-further_last : (w : Reach) (hit : Bool) (n : ℕ) → further (first_at w hit n) ≡ first_at (further w) hit (suc n)
-unfolding first_at
-further_last (At i) hit n = refl
-further_last Everyone hit n = refl
-further_last (Refused f) true n = refl
-further_last (Refused f) false n = refl
+-- one place more, of what is reached so far
+abbrev or_here : Result Reach Fault → Bool → ℕ → Result Reach Fault
+or_here (Ok (At i)) hit n = Ok (At i)
+or_here (Ok Everyone) hit n = Ok Everyone
+or_here (Err f) hit n = if hit then Ok (At n) else Err f
 
-place_last : (name a : ℕ) (p : List ℕ) → place_of name (p ++ a ∷ []) ≡ first_at (place_of name p) (eqb a name) (length p)
+found_here : (place : Option ℕ) (hit : Bool) (n : ℕ) → place_in (first_at place hit n) ≡ or_here (place_in place) hit n
 unfolding first_at
+found_here (Some i) hit n = refl
+found_here None true n = refl
+found_here None false n = refl
+
+further_last : (w : Result Reach Fault) (hit : Bool) (n : ℕ) → further (or_here w hit n) ≡ or_here (further w) hit (suc n)
+further_last (Ok (At i)) hit n = refl
+further_last (Ok Everyone) hit n = refl
+further_last (Err f) true n = refl
+further_last (Err f) false n = refl
+
+place_last : (name a : ℕ) (p : List ℕ) → place_of name (p ++ a ∷ []) ≡ or_here (place_of name p) (eqb a name) (length p)
 place_last name a [] = refl
 place_last name a (b ∷ p) = split (eqb b name)
-    (λ q. if_true (At 0) (further (place_of name (p ++ a ∷ []))) q
-    ∙ ap (λ (w : Reach). first_at w (eqb a name) (suc (length p))) (sym (if_true (At 0) (further (place_of name p)) q)))
-    (λ q. if_false (At 0) (further (place_of name (p ++ a ∷ []))) q
+    (λ q. if_true (Ok (At 0)) (further (place_of name (p ++ a ∷ []))) q
+    ∙ ap (λ (w : Result Reach Fault). or_here w (eqb a name) (suc (length p))) (sym (if_true (Ok (At 0)) (further (place_of name p)) q)))
+    (λ q. if_false (Ok (At 0)) (further (place_of name (p ++ a ∷ []))) q
     ∙ ap further (place_last name a p) ∙ further_last (place_of name p) (eqb a name) (length p)
-    ∙ ap (λ (w : Reach). first_at w (eqb a name) (suc (length p))) (sym (if_false (At 0) (further (place_of name p)) q)))
+    ∙ ap (λ (w : Result Reach Fault). or_here w (eqb a name) (suc (length p))) (sym (if_false (Ok (At 0)) (further (place_of name p)) q)))
 
 -- ---- what is known after the addresses p, of which there are no more than 16
 
@@ -88,7 +105,7 @@ pub record Tells (name : ℕ) (s : Seen) (p : List ℕ) : Type 0 where
   pub kept : take (length p) s.addresses ≡ p
   pub room : length s.addresses ≡ 16
   pub equals : s.equal ≡ two_equal p
-  pub placed : s.place ≡ place_of name p
+  pub placed : place_in s.place ≡ place_of name p
 
 tells_start : (name : ℕ) → Tells name (start_of name) []
 unfolding start_of
@@ -131,9 +148,10 @@ tells_next name a s p t h =
           ∙ ap (λ (q : List ℕ). s.equal || is_in a q) t.kept
           ∙ ap (λ (b : Bool). b || is_in a p) t.equals ∙ sym (equal_last a p);
       placed =
-          ap (λ (w : Reach). first_at w (eqb a s.name) s.count) t.placed
-          ∙ ap (λ (k : ℕ). first_at (place_of name p) (eqb a k) s.count) t.named
-          ∙ ap (λ (n : ℕ). first_at (place_of name p) (eqb a name) n) t.counted ∙ sym (place_last name a p);
+          found_here s.place (eqb a s.name) s.count
+          ∙ ap (λ (w : Result Reach Fault). or_here w (eqb a s.name) s.count) t.placed
+          ∙ ap (λ (k : ℕ). or_here (place_of name p) (eqb a k) s.count) t.named
+          ∙ ap (λ (n : ℕ). or_here (place_of name p) (eqb a name) n) t.counted ∙ sym (place_last name a p);
     })
   where
     more : Seen
@@ -208,26 +226,26 @@ named_is : (n : Naming) (name : ℕ) (s : Seen) (p : List ℕ) → Tells name s 
 unfolding named_in place_below
 named_is AnAddress name s p t = t.placed
 named_is APlace name s p t =
-    ap (λ (k : ℕ). if ltb k s.count then At k else Refused NotInRow) t.named
-    ∙ ap (λ (n : ℕ). if ltb name n then At name else Refused NotInRow) t.counted
+    ap (λ (k : ℕ). if ltb k s.count then Ok (At k) else Err NotInRow) t.named
+    ∙ ap (λ (n : ℕ). if ltb name n then Ok (At name) else Err NotInRow) t.counted
 named_is Nothing name s p t = refl
 
 tells_reach : (n : Naming) (name : ℕ) (s : Seen) (p : List ℕ) → Tells name s p → reach_for s n ≡ reach_of n name p
 unfolding reach_for
 tells_reach n name s p t =
-    ap (λ (k : ℕ). if eqb k 0 then Refused EmptyRow else if ltb 16 k then Refused TooMany else if s.equal then Refused EqualAddresses else named_in n s)
+    ap (λ (k : ℕ). if eqb k 0 then Err EmptyRow else if ltb 16 k then Err TooMany else if s.equal then Err EqualAddresses else named_in n s)
     t.counted
-    ∙ ap (λ (b : Bool). past (if b then Refused EqualAddresses else named_in n s)) t.equals
-    ∙ ap (λ (w : Reach). past (if two_equal p then Refused EqualAddresses else w)) (named_is n name s p t)
+    ∙ ap (λ (b : Bool). past (if b then Err EqualAddresses else named_in n s)) t.equals
+    ∙ ap (λ (w : Result Reach Fault). past (if two_equal p then Err EqualAddresses else w)) (named_is n name s p t)
   where
-    past : Reach → Reach
-    past w = if eqb (length p) 0 then Refused EmptyRow else if ltb 16 (length p) then Refused TooMany else w
+    past : Result Reach Fault → Result Reach Fault
+    past w = if eqb (length p) 0 then Err EmptyRow else if ltb 16 (length p) then Err TooMany else w
 
 too_many : (n : Naming) (name : ℕ) (s : Seen) (p : List ℕ) → s.count ≡ 17 → 16 < length p → reach_for s n ≡ reach_of n name p
 unfolding reach_for
 too_many n name s p e h =
-    ap (λ (k : ℕ). if eqb k 0 then Refused EmptyRow else if ltb 16 k then Refused TooMany else if s.equal then Refused EqualAddresses else named_in n s) e
-    ∙ sym (if_false (Refused EmptyRow) _ (ne_eqb (length p) 0 (λ z. omega arith)) ∙ if_true (Refused TooMany) _ (lt-ltb 16 (length p) h))
+    ap (λ (k : ℕ). if eqb k 0 then Err EmptyRow else if ltb 16 k then Err TooMany else if s.equal then Err EqualAddresses else named_in n s) e
+    ∙ sym (if_false (Err EmptyRow) _ (ne_eqb (length p) 0 (λ z. omega arith)) ∙ if_true (Err TooMany) _ (lt-ltb 16 (length p) h))
 
 pub reach_for_is : (n : Naming) (name : ℕ) (row : List Record) → reach_for (seen_of name row) n ≡ reach_of n name (addresses_of row)
 unfolding seen_of

@@ -5,6 +5,7 @@ use Rattle.routing.proofs.start.Reads as start
 use Rattle.routing.proofs.see.Reads as see
 use Rattle.routing.proofs.see_record.Reads as see-record
 use Rattle.routing.proofs.reach_for.Reads as reach-for
+use Rattle.routing.proofs.fault_number.Reads as fault-number
 use Rattle.routing.proofs.fault_answer.Reads as fault-answer
 use Rattle.routing.proofs.no_answer.Reads as no_answer
 use Rattle.routing.proofs.plan_of.Reads as plan-of
@@ -20,6 +21,9 @@ see_record_once κ a x y s t p q = once p q
 
 pub reach_for_once : OneResult reach-for.Post
 reach_for_once κ a x y s t p q = once p q
+
+pub fault_number_once : OneResult fault-number.Post
+fault_number_once κ a x y s t p q = once p q
 
 pub fault_answer_once : OneResult fault-answer.Post
 fault_answer_once κ a x y s t p q = once p q

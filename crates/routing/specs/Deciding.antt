@@ -1,20 +1,17 @@
 -- What the code decides on plain values, in the shape in which it decides it.
 -- Assumes nothing.
-use Rattle.arbiter.specs.Steps.{step}
-use Rattle.std.specs.Prelude.{ℕ, zero, suc, ◌+◌, Bool, true, false, ◌||◌, List, [], ◌∷◌, eqb, ltb, length, get_or, set, if◌then◌else◌}
-use Rattle.arbiter.specs.declared.Raw.{Raw}
+use Rattle.std.specs.Prelude.{ℕ, zero, suc, ◌+◌, Bool, true, false, ◌||◌, List, [], ◌∷◌, Option, Some, None, Result, Ok, Err, eqb, ltb, length, get_or, set, if◌then◌else◌}
+use Rattle.std.specs.declared.ops.Range.{Range}
 use Rattle.arbiter.specs.declared.Answer.{Answer}
 use Rattle.shelf.specs.declared.Record.{Record}
 use Rattle.shelf.specs.declared.Naming.{Naming}
 use Rattle.shelf.specs.declared.Naming.TheVariants.{AnAddress, APlace, Nothing}
+use Rattle.shelf.specs.declared.Fault.{Fault}
 use Rattle.shelf.specs.declared.Fault.TheVariants.{EmptyRow, TooMany, EqualAddresses, NotInRow}
 use Rattle.shelf.specs.declared.Reach.{Reach}
-use Rattle.shelf.specs.declared.Reach.TheVariants.{At, Everyone, Refused}
-use Rattle.shelf.specs.Shelf.{record_at, naming, fault_answer, step_record}
+use Rattle.shelf.specs.declared.Reach.TheVariants.{At, Everyone}
+use Rattle.shelf.specs.Shelf.{record_at, naming}
 use Rattle.routing.specs.declared.Seen.{Seen}
-use Rattle.routing.specs.declared.Task.{Task}
-use Rattle.routing.specs.declared.Plan.{Plan}
-use Rattle.routing.specs.declared.Visited.{Visited}
 
 -- ---- what is known of a row after some of its records
 
@@ -22,13 +19,12 @@ abbrev pub no_addresses : List ℕ
 no_addresses = 0 ∷ 0 ∷ 0 ∷ 0 ∷ 0 ∷ 0 ∷ 0 ∷ 0 ∷ 0 ∷ 0 ∷ 0 ∷ 0 ∷ 0 ∷ 0 ∷ 0 ∷ 0 ∷ []
 
 unfoldable pub start_of : ℕ → Seen
-start_of name = record { name = name; count = 0; equal = false; place = Refused NotInRow; addresses = no_addresses }
+start_of name = record { name = name; count = 0; equal = false; place = None; addresses = no_addresses }
 
 -- the place that was found first stays
-unfoldable pub first_at : Reach → Bool → ℕ → Reach
-first_at (At i) hit n = At i
-first_at Everyone hit n = Everyone
-first_at (Refused f) hit n = if hit then At n else Refused f
+unfoldable pub first_at : Option ℕ → Bool → ℕ → Option ℕ
+first_at (Some i) hit n = Some i
+first_at None hit n = if hit then Some n else None
 
 -- a is among the first n of them
 unfoldable pub among_first : ℕ → List ℕ → ℕ → Bool
@@ -57,22 +53,27 @@ seen_of name row = seen_to (length row) name row
 
 -- ---- whom an event reaches
 
-unfoldable pub place_below : ℕ → ℕ → Reach
-place_below name count = if ltb name count then At name else Refused NotInRow
+-- a place that was found
+abbrev pub place_in : Option ℕ → Result Reach Fault
+place_in (Some i) = Ok (At i)
+place_in None = Err NotInRow
 
-unfoldable pub named_in : Naming → Seen → Reach
-named_in AnAddress s = s.place
+unfoldable pub place_below : ℕ → ℕ → Result Reach Fault
+place_below name count = if ltb name count then Ok (At name) else Err NotInRow
+
+unfoldable pub named_in : Naming → Seen → Result Reach Fault
+named_in AnAddress s = place_in s.place
 named_in APlace s = place_below s.name s.count
-named_in Nothing s = Everyone
+named_in Nothing s = Ok Everyone
 
-unfoldable pub reach_for : Seen → Naming → Reach
+unfoldable pub reach_for : Seen → Naming → Result Reach Fault
 reach_for s n =
-    if eqb s.count 0 then Refused EmptyRow
-    else if ltb 16 s.count then Refused TooMany
-    else if s.equal then Refused EqualAddresses
+    if eqb s.count 0 then Err EmptyRow
+    else if ltb 16 s.count then Err TooMany
+    else if s.equal then Err EqualAddresses
     else named_in n s
 
-unfoldable pub reach_in : Seen → ℕ → Reach
+unfoldable pub reach_in : Seen → ℕ → Result Reach Fault
 reach_in s kind = reach_for s (naming kind)
 
 -- ---- what is to be done
@@ -80,24 +81,23 @@ reach_in s kind = reach_for s (naming kind)
 abbrev pub no_answer : Answer
 no_answer = record { outcome = 0; read = 0; owner = 0; lines = 0 }
 
-unfoldable pub plan_with : ℕ → ℕ → Raw → Answer → Plan
-plan_with from to event answer = record { from = from; to = to; task = record { event = event; told = false; answer = answer } }
+-- the places from one to below another
+abbrev pub places : ℕ → ℕ → Range ℕ
+places from to = record { start = from; end = to }
 
-unfoldable pub plan_by : Reach → ℕ → Raw → Plan
-plan_by (At i) count r = plan_with i (i + 1) r no_answer
-plan_by Everyone count r = plan_with 0 count r no_answer
-plan_by (Refused f) count r = plan_with 0 0 r (fault_answer f)
+abbrev pub plan_by : Reach → ℕ → Range ℕ
+plan_by (At i) count = places i (i + 1)
+plan_by Everyone count = places 0 count
 
-unfoldable pub plan_of : Seen → Raw → Plan
-plan_of s r = plan_by (reach_in s r.kind) s.count r
+abbrev pub plan_in : Result Reach Fault → ℕ → Result (Range ℕ) Fault
+plan_in (Ok w) count = Ok (plan_by w count)
+plan_in (Err f) count = Err f
 
--- ---- what one record does, and what it hands on
+unfoldable pub plan_of : Seen → ℕ → Result (Range ℕ) Fault
+plan_of s kind = plan_in (reach_in s kind) s.count
 
-abbrev pub first_answer : Bool → Answer → Answer → Answer
-first_answer told before now = if told then before else now
+-- ---- what one record answers where others did so before it: the first one answers
 
-unfoldable pub visit_of : Record → Task → Visited
-visit_of c t = record {
-  stepped = step_record t.event c;
-  task = record { event = t.event; told = true; answer = first_answer t.told t.answer (step c.device t.event).answer };
-}
+abbrev pub first_answer : Option Answer → Answer → Answer
+first_answer (Some before) now = before
+first_answer None now = now

@@ -1,13 +1,14 @@
-// What is decided for a shelf's row, on plain values: what is known of it once it has been looked at, whom an event reaches, and what is to be done
-// then. The crate `showing` has what one record does, and the crate `rows` goes through the row.
+// What is decided for a shelf's row, on plain values: what is known of it once it has been looked at, whom an event reaches, and which places make
+// the step. The crate `showing` has what one record does, and the crate `rows` goes through the row.
 #![tactic(auto)]
 
-ghost use Rattle.std.specs.Prelude.{◌≡◌, ◌≤◌};
-ghost use Rattle.shelf.specs.Shelf.{naming, fault_number, fault_answer};
-ghost use Rattle.routing.specs.Deciding.{start_of, among_first, first_at, see_of, place_below, named_in, reach_for, reach_in, no_answer, plan_with, plan_by, plan_of};
+ghost use Rattle.std.specs.Prelude.{◌≡◌};
+ghost use Rattle.shelf.specs.Shelf.{is_in, naming, fault_number, fault_answer};
+ghost use Rattle.routing.specs.Deciding.{start_of, first_at, see_of, place_in, place_below, named_in, reach_for, reach_in, no_answer, plan_by, plan_of};
 
-use arbiter::{Answer, Raw};
+use arbiter::Answer;
 use shelf::{Fault, Naming, Reach, Record};
+use std::ops::Range;
 
 // What is known of a row after some records: the name that is looked for and its place, how many records there are (17 for any more than
 // 16), their addresses, and whether two of these are equal.
@@ -16,35 +17,14 @@ pub struct Seen {
     pub name: u8,
     pub count: u8,
     pub equal: bool,
-    pub place: Reach,
+    pub place: Option<u8>,
+    // An array with a count: there is no heap, and the addresses of a row of bytes stand in no slice of their own.
     pub addresses: [u8; 16],
-}
-
-// What is handed from record to record: the event, whether one has answered already, and the answer.
-#[derive(Clone, Copy)]
-pub struct Task {
-    pub event: Raw,
-    pub told: bool,
-    pub answer: Answer,
-}
-
-// Which places are to make the step, from one to below another.
-#[derive(Clone, Copy)]
-pub struct Plan {
-    pub from: usize,
-    pub to: usize,
-    pub task: Task,
-}
-
-// A record after its step, and what it hands on.
-#[derive(Clone, Copy)]
-pub struct Visited {
-    pub stepped: Record,
-    pub task: Task,
 }
 
 // ---- whom an event reaches
 
+#[tactic(auto, unfolding(crate::specs::Deciding::start_of))]
 pub fn start(name: u8) -> Seen
     ensures { result ≡ start_of name }
 {
@@ -52,65 +32,46 @@ pub fn start(name: u8) -> Seen
         name,
         count: 0,
         equal: false,
-        place: Reach::Refused(Fault::NotInRow),
+        place: None,
         addresses: [0; 16],
     }
 }
 
-// Is it among the first n?
-fn is_among(addresses: [u8; 16], n: usize, a: u8) -> bool
-    requires { n ≤ 16 }
-    ensures { result ≡ among_first a addresses n }
+#[tactic(auto, using(crate::proofs::Told::any_in))]
+fn is_among(addresses: &[u8], a: u8) -> bool
+    ensures { result ≡ is_in a addresses.now }
 {
-    let mut found = false;
-    let mut i: usize = 0;
-    while i < n {
-        found = found | (addresses[i] == a);
-        i = i + 1;
-    }
-    found
+    addresses.contains(&a)
 }
 
 // The first place stays.
-fn first_at(place: Reach, hit: bool, n: u8) -> Reach
+#[tactic(auto, unfolding(crate::specs::Deciding::first_at))]
+fn first_at(place: Option<u8>, hit: bool, n: u8) -> Option<u8>
     ensures { result ≡ first_at place hit n }
 {
-    match place {
-        Reach::At(_) => place,
-        Reach::Everyone => place,
-        Reach::Refused(_) => if hit { Reach::At(n) } else { place },
-    }
+    place.or(hit.then_some(n))
 }
 
 // One more record, with this address.
+#[tactic(auto, unfolding(crate::specs::Deciding::see_of))]
 pub fn see(s: Seen, address: u8) -> Seen
     ensures { result ≡ see_of s address }
 {
-    let n = s.count;
-    let at = n as usize;
-    let mut addresses = s.addresses;
+    let at = usize::from(s.count);
     if at < 16 {
-        let equal = s.equal | is_among(addresses, at, address);
-        let before = s.place;
-        let place = first_at(before, address == s.name, n);
+        let equal = s.equal | is_among(&s.addresses[..at], address);
+        let place = first_at(s.place, address == s.name, s.count);
+        let mut addresses = s.addresses;
         addresses[at] = address;
-        let count = n + 1;
         Seen {
             name: s.name,
-            count,
+            count: s.count + 1,
             equal,
             place,
             addresses,
         }
     } else {
-        let place = s.place;
-        Seen {
-            name: s.name,
-            count: 17,
-            equal: s.equal,
-            place,
-            addresses,
-        }
+        Seen { count: 17, ..s }
     }
 }
 
@@ -120,56 +81,65 @@ pub fn see_record(s: Seen, c: Record) -> Seen
     see(s, c.address)
 }
 
+#[tactic(auto, unfolding(shelf::specs::Shelf::naming))]
 fn naming_of(kind: u8) -> Naming
     ensures { result ≡ naming kind }
 {
-    if kind < 5 {
-        Naming::AnAddress
-    } else if (kind == 5) | (kind == 7) {
-        Naming::APlace
-    } else {
-        Naming::Nothing
+    match kind {
+        0..=4 => Naming::AnAddress,
+        5 | 7 => Naming::APlace,
+        _ => Naming::Nothing,
     }
+}
+
+// A place that was found.
+fn place_in(place: Option<u8>) -> Result<Reach, Fault>
+    ensures { result ≡ place_in place }
+{
+    place.map(Reach::At).ok_or(Fault::NotInRow)
 }
 
 // The place with this number, if there are so many.
-fn place_below(name: u8, count: u8) -> Reach
+#[tactic(auto, unfolding(crate::specs::Deciding::place_below))]
+fn place_below(name: u8, count: u8) -> Result<Reach, Fault>
     ensures { result ≡ place_below name count }
 {
     if name < count {
-        Reach::At(name)
+        Ok(Reach::At(name))
     } else {
-        Reach::Refused(Fault::NotInRow)
+        Err(Fault::NotInRow)
     }
 }
 
-fn named_in(n: Naming, s: Seen) -> Reach
+#[tactic(auto, unfolding(crate::specs::Deciding::named_in))]
+fn named_in(n: Naming, s: Seen) -> Result<Reach, Fault>
     ensures { result ≡ named_in n s }
 {
-    let place = s.place;
     match n {
-        Naming::AnAddress => place,
+        Naming::AnAddress => place_in(s.place),
         Naming::APlace => place_below(s.name, s.count),
-        Naming::Nothing => Reach::Everyone,
+        Naming::Nothing => Ok(Reach::Everyone),
     }
 }
 
 // The refusals of the shelf, in their order, or whom the name reaches.
-pub fn reach_for(s: Seen, n: Naming) -> Reach
+#[tactic(auto, unfolding(crate::specs::Deciding::reach_for))]
+pub fn reach_for(s: Seen, n: Naming) -> Result<Reach, Fault>
     ensures { result ≡ reach_for s n }
 {
     if s.count == 0 {
-        Reach::Refused(Fault::EmptyRow)
+        Err(Fault::EmptyRow)
     } else if 16 < s.count {
-        Reach::Refused(Fault::TooMany)
+        Err(Fault::TooMany)
     } else if s.equal {
-        Reach::Refused(Fault::EqualAddresses)
+        Err(Fault::EqualAddresses)
     } else {
         named_in(n, s)
     }
 }
 
-fn reach_in(s: Seen, kind: u8) -> Reach
+#[tactic(auto, unfolding(crate::specs::Deciding::reach_in))]
+fn reach_in(s: Seen, kind: u8) -> Result<Reach, Fault>
     ensures { result ≡ reach_in s kind }
 {
     reach_for(s, naming_of(kind))
@@ -177,7 +147,7 @@ fn reach_in(s: Seen, kind: u8) -> Reach
 
 // ---- what is to be done
 
-fn fault_number(f: Fault) -> u8
+pub fn fault_number(f: Fault) -> u8
     ensures { result ≡ fault_number f }
 {
     match f {
@@ -193,33 +163,7 @@ pub fn fault_answer(f: Fault) -> Answer
 {
     Answer {
         outcome: fault_number(f),
-        read: 0,
-        owner: 0,
-        lines: 0,
-    }
-}
-
-fn plan_with(from: usize, to: usize, event: Raw, answer: Answer) -> Plan
-    ensures { result ≡ plan_with from to event answer }
-{
-    Plan {
-        from,
-        to,
-        task: Task {
-            event,
-            told: false,
-            answer,
-        },
-    }
-}
-
-fn plan_by(w: Reach, count: u8, r: Raw) -> Plan
-    ensures { result ≡ plan_by w count r }
-{
-    match w {
-        Reach::At(i) => plan_with(i as usize, i as usize + 1, r, no_answer()),
-        Reach::Everyone => plan_with(0, count as usize, r, no_answer()),
-        Reach::Refused(f) => plan_with(0, 0, r, fault_answer(f)),
+        ..no_answer()
     }
 }
 
@@ -234,8 +178,20 @@ pub fn no_answer() -> Answer
     }
 }
 
-pub fn plan_of(s: Seen, r: Raw) -> Plan
-    ensures { result ≡ plan_of s r }
+fn plan_by(w: Reach, count: u8) -> Range<usize>
+    ensures { result ≡ plan_by w count }
 {
-    plan_by(reach_in(s, r.kind), s.count, r)
+    match w {
+        Reach::At(i) => usize::from(i)..usize::from(i) + 1,
+        Reach::Everyone => 0..usize::from(count),
+    }
+}
+
+// The places that are to make the step.
+#[tactic(auto, unfolding(crate::specs::Deciding::plan_of))]
+pub fn plan_of(s: Seen, kind: u8) -> Result<Range<usize>, Fault>
+    ensures { result ≡ plan_of s kind }
+{
+    let w = reach_in(s, kind)?;
+    Ok(plan_by(w, s.count))
 }

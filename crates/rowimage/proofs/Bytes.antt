@@ -3,7 +3,7 @@
 use Prim.Native.Nat.{ℕ, zero, suc, ◌+◌, ◌-◌, ◌*◌, ◌%◌, ◌<◌, ◌≤◌}
 use native.Mathlib.Omega.{arith}
 use mathlib.Core.Path.{◌≡◌, refl, sym, ap, ap₂, ◌∙◌}
-use mathlib.Core.Bool.{Bool, true, false, ◌&&◌, and-true, and-eq-true_iff}
+use mathlib.Core.Bool.{true, false, ◌&&◌, and-eq-true_iff}
 use mathlib.Core.List.{List, [], ◌∷◌, ◌++◌, append_assoc}
 use lib.Dec.{eqb}
 use lib.ListN.{length, take, drop, set, length-append, length-drop, take-append-drop}
@@ -138,18 +138,6 @@ pub records_length : (n : ℕ) (b : List ℕ) → length (records_to n b) ≡ n
 unfolding records_to
 records_length zero b = refl
 records_length (suc n) b = ap suc (records_length n (drop record_bytes b))
-
-pub images_more : (k : ℕ) (b : List ℕ) → images_fit (suc k) b ≡ images_fit k b && is_image (image_in (drop (record_bytes * k) b))
-unfolding images_fit
-images_more zero b = and-true (is_image (image_in b))
-images_more (suc k) b =
-    ap (λ (x : Bool). is_image (image_in b) && x)
-    (images_more k (drop record_bytes b) ∙ ap (λ (l : List ℕ). images_fit k (drop record_bytes b) && is_image (image_in l)) (next_place k b))
-    ∙ sym (and_assoc (is_image (image_in b)) (images_fit k (drop record_bytes b)) _)
-  where
-    and_assoc : (u v w : Bool) → (u && v) && w ≡ u && (v && w)
-    and_assoc true v w = refl
-    and_assoc false v w = refl
 
 -- ---- the image at a place of a row's bytes, and another in its stead
 

@@ -4,13 +4,13 @@ use Prim.Native.Nat.{ℕ, zero, suc, ◌+◌, ◌*◌, ◌/◌, ◌%◌, ◌<◌
 use native.Mathlib.Numerals.{add-one}
 use native.Mathlib.Omega.{arith}
 use mathlib.Core.Path.{◌≡◌, refl, sym, ap, ap₂, ◌∙◌}
-use mathlib.Core.Bool.{Bool, true, false, ◌&&◌, and-true, and-eq-true_iff}
+use mathlib.Core.Bool.{Bool, true, false, ◌&&◌, and-eq-true_iff}
 use mathlib.Core.List.{List, [], ◌∷◌, ◌++◌, append_assoc, append-nil}
 use lib.Dec.{eqb}
-use lib.ListN.{length, get_or, take, drop, set, length-drop, drop_of_length-le, length-map}
-use lib.Seq.{drop-drop, drop-cons, get_or-drop, take-append-add, drop-append-add, set_at, length-take-le}
+use lib.ListN.{length, get_or, take, drop, set, length-append, length-drop, drop_of_length-le, length-map}
+use lib.Seq.{drop-drop, drop-cons, drop_at, get_or-drop, take-append-add, drop-append-add, set_at, length-take-le}
 use borrow.Author.Tests.{eq-eqb, ne_eqb, eqb-true, eqb-false}
-use Rattle.std.specs.Prelude.{if◌then◌else◌}
+use Rattle.std.specs.Prelude.{Result, Ok, Err, if◌then◌else◌}
 use Rattle.arbiter.specs.Effects.{power_up}
 use Rattle.arbiter.specs.Traces.{byte_at, is_kind, kind_of}
 use Rattle.arbiter.proofs.Choice.{split, if_true, if_false}
@@ -19,18 +19,20 @@ use Rattle.layout.specs.Images.{fresh_number, fresh_after}
 use Rattle.shelf.specs.declared.Record.{Record}
 use Rattle.shelf.specs.declared.Naming.TheVariants.{Nothing}
 use Rattle.shelf.specs.declared.Fault.TheVariants.{EmptyRow, TooMany, EqualAddresses, NotInRow}
+use Rattle.shelf.specs.declared.Fault.{Fault}
 use Rattle.shelf.specs.declared.Reach.{Reach}
-use Rattle.shelf.specs.declared.Reach.TheVariants.{At, Everyone, Refused}
-use Rattle.shelf.specs.Shelf.{addresses_of, record_at, reach_of}
+use Rattle.shelf.specs.declared.Reach.TheVariants.{At, Everyone}
+use Rattle.shelf.specs.Shelf.{addresses_of, reach_of}
 use Rattle.shelf.specs.Runs.{Slot, fresh_record, fresh_row}
 use Rattle.routing.specs.declared.Seen.{Seen}
-use Rattle.routing.specs.Deciding.{start_of, see_of, seen_to, seen_of, reach_for}
+use Rattle.routing.specs.Deciding.{see_of, seen_of, reach_for}
 use Rattle.routing.proofs.Told.{reach_for_is}
 use Rattle.rowimage.specs.Row.{record_bytes, bytes_of_record, bytes_of_row, image_in}
 use Rattle.rowimage.specs.Slots.{slot_bytes, slot_count, slot_in, slots_to, kinds_known, row_of_slots, number_by, slots_number, is_laid_for, fresh_row_number}
 use Rattle.rowimage.specs.Slots.{fresh_row_buffer}
 use Rattle.rowimage.specs.Walk.{with_image}
 use Rattle.rowimage.proofs.Bytes.{row_long}
+use Rattle.rowimage.proofs.Seeing.{see_all}
 
 -- ---- slots
 
@@ -45,30 +47,12 @@ unfolding slots_to
 slots_length zero b = refl
 slots_length (suc n) b = ap suc (slots_length n (drop slot_bytes b))
 
-fresh_at : (n i : ℕ) (b : List ℕ) → i < n → record_at (fresh_row (slots_to n b)) i ≡ fresh_record (slot_in (drop (slot_bytes * i) b))
-unfolding slots_to
-fresh_at zero i b h = absurd (omega arith)
-fresh_at (suc n) zero b h = refl
-fresh_at (suc n) (suc i) b h = fresh_at n i (drop slot_bytes b) (omega arith) ∙ ap (λ (l : List ℕ). fresh_record (slot_in l)) (next_slot i b)
-
 slots_more : (k : ℕ) (b : List ℕ) → slots_to (suc k) b ≡ slots_to k b ++ (slot_in (drop (slot_bytes * k) b) ∷ [])
 unfolding slots_to
 slots_more zero b = refl
 slots_more (suc k) b =
     ap (λ (l : List Slot). slot_in b ∷ l)
     (slots_more k (drop slot_bytes b) ∙ ap (λ (l : List ℕ). slots_to k (drop slot_bytes b) ++ (slot_in l ∷ [])) (next_slot k b))
-
-kinds_more : (k : ℕ) (b : List ℕ) → kinds_known (suc k) b ≡ kinds_known k b && is_kind (byte_at 1 (drop (slot_bytes * k) b))
-unfolding kinds_known
-kinds_more zero b = and-true (is_kind (byte_at 1 b))
-kinds_more (suc k) b =
-    ap (λ (x : Bool). is_kind (byte_at 1 b) && x)
-    (kinds_more k (drop slot_bytes b) ∙ ap (λ (l : List ℕ). kinds_known k (drop slot_bytes b) && is_kind (byte_at 1 l)) (next_slot k b))
-    ∙ sym (and_assoc (is_kind (byte_at 1 b)) (kinds_known k (drop slot_bytes b)) _)
-  where
-    and_assoc : (u v w : Bool) → (u && v) && w ≡ u && (v && w)
-    and_assoc true v w = refl
-    and_assoc false v w = refl
 
 second_byte : (i : ℕ) (b : List ℕ) → get_or b (slot_bytes * i + 1) 0 ≡ byte_at 1 (drop (slot_bytes * i) b)
 second_byte i b = sym (get_or-drop (slot_bytes * i) b 1 0)
@@ -79,10 +63,28 @@ first_byte i b = ap (λ (n : ℕ). get_or b n 0) (none (slot_bytes * i)) ∙ sym
     none : (n : ℕ) → n ≡ n + 0
     none n = omega arith
 
-pub kinds_again : (b : List ℕ) (i : ℕ) (known now : Bool) → known ≡ kinds_known i b → now ≡ is_kind (get_or b (slot_bytes * i + 1) 0) → (known && now)
-    ≡ kinds_known (i + 1) b
-kinds_again b i known now k e =
-    ap₂ ◌&&◌ k (e ∙ ap is_kind (second_byte i b)) ∙ sym (kinds_more i b) ∙ ap (λ (n : ℕ). kinds_known n b) (sym (add-one i))
+-- what is left has one slot more
+count_more : (x rest : List ℕ) → length x ≡ slot_bytes → slot_count (x ++ rest) ≡ suc (slot_count rest)
+count_more x rest e = let both = length-append x rest in omega (arith, both, e)
+
+rest_of : (x rest : List ℕ) → length x ≡ slot_bytes → drop slot_bytes (x ++ rest) ≡ rest
+rest_of x rest e = drop_at x rest slot_bytes e
+
+bytes_of_slot : (x rest : List ℕ) → length x ≡ slot_bytes → (byte_at 0 (x ++ rest) ≡ get_or x 0 0) × (byte_at 1 (x ++ rest) ≡ get_or x 1 0)
+bytes_of_slot [] rest e = absurd (omega arith)
+bytes_of_slot (a ∷ []) rest e = absurd (omega arith)
+bytes_of_slot (a ∷ b ∷ x) rest e = (refl, refl)
+
+pub kinds_first : (x rest : List ℕ) → length x ≡ slot_bytes
+    → kinds_known (slot_count (x ++ rest)) (x ++ rest) ≡ (is_kind (get_or x 1 0) && kinds_known (slot_count rest) rest)
+unfolding kinds_known
+kinds_first x rest e =
+    ap (λ (n : ℕ). kinds_known n (x ++ rest)) (count_more x rest e)
+    ∙ ap₂ (λ (k : ℕ) (l : List ℕ). is_kind k && kinds_known (slot_count rest) l) (bytes_of_slot x rest e).1 (rest_of x rest e)
+
+pub kinds_none : (b : List ℕ) → length b < slot_bytes → kinds_known (slot_count b) b ≡ true
+unfolding kinds_known
+kinds_none b h = let none : slot_count b ≡ 0 = omega (arith, h) in ap (λ (n : ℕ). kinds_known n b) none
 
 kind_at : (n i : ℕ) (b : List ℕ) → kinds_known n b ≡ true → i < n → is_kind (byte_at 1 (drop (slot_bytes * i) b)) ≡ true
 unfolding kinds_known
@@ -94,28 +96,28 @@ kind_at (suc n) (suc i) b h l =
 
 -- ---- their addresses looked at
 
-pub slots_none : (b : List ℕ) → start_of 0 ≡ seen_to 0 0 (row_of_slots b)
-unfolding seen_to
-slots_none b = refl
+pub slots_first : (s : Seen) (x rest : List ℕ) → length x ≡ slot_bytes
+    → see_all s (row_of_slots (x ++ rest)) ≡ see_all (see_of s (get_or x 0 0)) (row_of_slots rest)
+unfolding row_of_slots slots_to
+slots_first s x rest e =
+    ap (λ (n : ℕ). see_all s (fresh_row (slots_to n (x ++ rest)))) (count_more x rest e)
+    ∙ ap₂ (λ (a : ℕ) (l : List ℕ). see_all (see_of s a) (fresh_row (slots_to (slot_count rest) l))) (bytes_of_slot x rest e).0 (rest_of x rest e)
 
-pub slots_again : (b : List ℕ) (i : ℕ) (s now : Seen) → i < slot_count b → s ≡ seen_to i 0 (row_of_slots b) → now ≡ see_of s (get_or b (slot_bytes * i) 0)
-    → now ≡ seen_to (i + 1) 0 (row_of_slots b)
-unfolding seen_to row_of_slots
-slots_again b i s now h e p =
-    p ∙ ap (λ (x : Seen). see_of x (get_or b (slot_bytes * i) 0)) e
-    ∙ ap (λ (a : ℕ). see_of (seen_to i 0 (row_of_slots b)) a) (first_byte i b ∙ ap (λ (c : Record). c.address) (sym (fresh_at (slot_count b) i b h)))
-    ∙ ap (λ (n : ℕ). seen_to n 0 (row_of_slots b)) (sym (add-one i))
-
-pub slots_all : (b : List ℕ) (i : ℕ) (s : Seen) → i ≡ slot_count b → s ≡ seen_to i 0 (row_of_slots b) → s ≡ seen_of 0 (row_of_slots b)
-unfolding seen_of row_of_slots
-slots_all b i s e p =
-    p ∙ ap (λ (n : ℕ). seen_to n 0 (row_of_slots b)) (e ∙ sym (length-map (slots_to (slot_count b) b) fresh_record ∙ slots_length (slot_count b) b))
+pub slots_end : (s : Seen) (b : List ℕ) → length b < slot_bytes → see_all s (row_of_slots b) ≡ s
+unfolding row_of_slots slots_to
+slots_end s b h = let none : slot_count b ≡ 0 = omega (arith, h) in ap (λ (n : ℕ). see_all s (fresh_row (slots_to n b))) none
 
 -- what is known of them tells the number
-pub number_told : (b : List ℕ) (s : Seen) (w : Reach) → s ≡ seen_of 0 (row_of_slots b) → w ≡ reach_for s Nothing → number_by w b ≡ slots_number b
+pub number_told : (b : List ℕ) (s : Seen) (w : Result Reach Fault) → s ≡ seen_of 0 (row_of_slots b) → w ≡ reach_for s Nothing → number_by w b ≡ slots_number b
 unfolding slots_number
 number_told b s w seen reached =
-    ap (λ (x : Reach). number_by x b) (reached ∙ ap (λ (x : Seen). reach_for x Nothing) seen ∙ reach_for_is Nothing 0 (row_of_slots b))
+    ap (λ (x : Result Reach Fault). number_by x b) (reached ∙ ap (λ (x : Seen). reach_for x Nothing) seen ∙ reach_for_is Nothing 0 (row_of_slots b))
+
+-- where the shelf refuses none of them
+pub number_passed : (b : List ℕ) (s : Seen) (w : Reach) → s ≡ seen_of 0 (row_of_slots b) → Ok w ≡ reach_for s Nothing
+    → (if kinds_known (slot_count b) b then 0 else 3) ≡ slots_number b
+number_passed b s (At i) seen reached = number_told b s (Ok (At i)) seen reached
+number_passed b s Everyone seen reached = number_told b s (Ok Everyone) seen reached
 
 -- ---- room for them
 
@@ -219,20 +221,20 @@ pub laid_room : (slots row : ℕ) → is_laid_for slots row ≡ true → row ≡
 laid_room slots row h =
     eqb-true row (record_bytes * (slots / slot_bytes)) ((and-eq-true_iff (eqb (slots % slot_bytes) 0) (eqb row (record_bytes * (slots / slot_bytes)))).0 h).1
 
-known_by : (w : Reach) (b : List ℕ) → number_by w b ≡ 0 → kinds_known (slot_count b) b ≡ true
+known_by : (w : Result Reach Fault) (b : List ℕ) → number_by w b ≡ 0 → kinds_known (slot_count b) b ≡ true
 known_by w b = by w
   where
     kinds : (x : Bool) → ◌≡◌ {A = ℕ} (if x then 0 else 3) 0 → x ≡ true
     kinds true e = refl
     kinds false e = absurd (omega arith)
 
-    by : (w : Reach) → number_by w b ≡ 0 → kinds_known (slot_count b) b ≡ true
-    by (At i) e = kinds (kinds_known (slot_count b) b) e
-    by Everyone e = kinds (kinds_known (slot_count b) b) e
-    by (Refused EmptyRow) e = absurd (omega arith)
-    by (Refused TooMany) e = absurd (omega arith)
-    by (Refused EqualAddresses) e = absurd (omega arith)
-    by (Refused NotInRow) e = absurd (omega arith)
+    by : (w : Result Reach Fault) → number_by w b ≡ 0 → kinds_known (slot_count b) b ≡ true
+    by (Ok (At i)) e = kinds (kinds_known (slot_count b) b) e
+    by (Ok Everyone) e = kinds (kinds_known (slot_count b) b) e
+    by (Err EmptyRow) e = absurd (omega arith)
+    by (Err TooMany) e = absurd (omega arith)
+    by (Err EqualAddresses) e = absurd (omega arith)
+    by (Err NotInRow) e = absurd (omega arith)
 
 pub number_known : (b : List ℕ) → slots_number b ≡ 0 → kinds_known (slot_count b) b ≡ true
 unfolding slots_number

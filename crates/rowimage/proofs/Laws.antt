@@ -15,8 +15,10 @@ use Rattle.arbiter.proofs.Choice.{if_true}
 use Rattle.ranges.specs.Ranges.{in_range, is_bytes, are_bytes}
 use Rattle.ranges.proofs.Ranges.{in_range_lem, stays_in_range}
 use Rattle.shelf.specs.declared.Record.{Record}
+use Rattle.shelf.specs.declared.Fault.{Fault}
 use Rattle.shelf.specs.declared.Reach.{Reach}
-use Rattle.shelf.specs.declared.Reach.TheVariants.{At, Everyone, Refused}
+use Rattle.shelf.specs.declared.Reach.TheVariants.{At, Everyone}
+use Rattle.std.specs.Prelude.{Result, Ok, Err}
 use Rattle.shelf.specs.Shelf.{addresses_of, no_record, record_at, device_at, reaches, step_record, row_after, shelf_row, shelf_answer}
 use Rattle.shelf.specs.Runs.{Named, shelf_run, Slot, fresh_row, shelf_after}
 use Rattle.shelf.proofs.Rows.{refused_same}
@@ -55,11 +57,11 @@ map_fits (c ∷ row) r b h =
     (and-eq-true_iff (in_range (step c.device r).device) (row_in_range (map (step_record r) row))).1
     (stays_in_range c.device r b two.0, map_fits row r b two.1)
 
-after_fits : (w : Reach) (row : List Record) (r : Raw) → is_bytes r ≡ true → row_in_range row ≡ true → row_in_range (row_after w r row) ≡ true
+after_fits : (w : Result Reach Fault) (row : List Record) (r : Raw) → is_bytes r ≡ true → row_in_range row ≡ true → row_in_range (row_after w r row) ≡ true
 unfolding step_record
-after_fits (At i) row r b h = set_fits row i (step_record r (record_at row i)) h (stays_in_range (device_at row i) r b (device_fits row i h))
-after_fits Everyone row r b h = map_fits row r b h
-after_fits (Refused f) row r b h = h
+after_fits (Ok (At i)) row r b h = set_fits row i (step_record r (record_at row i)) h (stays_in_range (device_at row i) r b (device_fits row i h))
+after_fits (Ok Everyone) row r b h = map_fits row r b h
+after_fits (Err f) row r b h = h
 
 pub shelf_fits : (row : List Record) (name : ℕ) (r : Raw) → is_bytes r ≡ true → row_in_range row ≡ true → row_in_range (shelf_row row name r) ≡ true
 unfolding shelf_row

@@ -1,4 +1,6 @@
 pub mod Bytes
+pub mod Seeing
+pub mod Faults
 pub mod Laws
 pub mod Walks
 pub mod Showing

@@ -1,12 +1,11 @@
 -- Laws of `rowimage`: what holds of rows in buffers: row and buffer are inverse, a fresh row is good, every event leaves a good one, and runs go
 -- together with those of the shelf. proofs/ proves each.
 -- Assumes nothing.
-use Rattle.std.specs.Prelude.{ℕ, ◌≡◌, Bool, true, ◌&&◌, List, [], ◌∷◌}
+use Rattle.std.specs.Prelude.{ℕ, ◌≡◌, Bool, true, ◌&&◌, List, [], ◌∷◌, Err}
 use Rattle.ranges.specs.Ranges.{in_range, is_bytes}
 use Rattle.arbiter.specs.declared.Raw.{Raw}
 use Rattle.shelf.specs.declared.Record.{Record}
 use Rattle.shelf.specs.declared.Fault.{Fault}
-use Rattle.shelf.specs.declared.Reach.TheVariants.{Refused}
 use Rattle.shelf.specs.Shelf.{addresses_of, reaches, fault_answer, shelf_row, shelf_answer}
 use Rattle.shelf.specs.Runs.{Named, Slot, fresh_row, shelf_after}
 use Rattle.rowimage.specs.Row.{bytes_of_row, records_in, is_row}
@@ -39,7 +38,7 @@ RowStays =
 -- What the shelf refuses leaves the buffer as it was, and answers number, 00, 00, 00.
 abbrev pub RowRefused : Type 0
 RowRefused =
-    (b : List ℕ) (name : ℕ) (r : Raw) (f : Fault) → is_row b ≡ true → reaches (addresses_of (records_in b)) name r ≡ Refused f
+    (b : List ℕ) (name : ℕ) (r : Raw) (f : Fault) → is_row b ≡ true → reaches (addresses_of (records_in b)) name r ≡ Err f
     → (row_buffer b name r ≡ b) × (row_answer b name r ≡ fault_answer f)
 
 -- ---- from power-up

@@ -1,4 +1,5 @@
 pub mod Row
+pub mod Faults
 pub mod Calls
 pub mod Slots
 pub mod Laws

@@ -1,12 +1,13 @@
 -- A fresh row, of slots that are two bytes each: an address, and the number of a kind of part. Each record is its address and the image of a
 -- device of this kind after power-up.
 -- Assumes nothing.
-use Rattle.std.specs.Prelude.{ℕ, zero, suc, ◌*◌, ◌/◌, ◌%◌, Bool, true, ◌&&◌, List, [], ◌∷◌, eqb, length, drop, if◌then◌else◌}
+use Rattle.std.specs.Prelude.{ℕ, zero, suc, ◌*◌, ◌/◌, ◌%◌, Bool, true, ◌&&◌, List, [], ◌∷◌, Result, Ok, Err, eqb, length, drop, if◌then◌else◌}
 use Rattle.arbiter.specs.Traces.{byte_at, is_kind, kind_of}
 use Rattle.shelf.specs.declared.Record.{Record}
 use Rattle.shelf.specs.declared.Naming.TheVariants.{Nothing}
+use Rattle.shelf.specs.declared.Fault.{Fault}
 use Rattle.shelf.specs.declared.Reach.{Reach}
-use Rattle.shelf.specs.declared.Reach.TheVariants.{At, Everyone, Refused}
+use Rattle.shelf.specs.declared.Reach.TheVariants.{At, Everyone}
 use Rattle.shelf.specs.Shelf.{addresses_of, reach_of, fault_number}
 use Rattle.shelf.specs.Runs.{Slot, fresh_row}
 use Rattle.rowimage.specs.Row.{record_bytes, bytes_of_row}
@@ -41,10 +42,10 @@ abbrev pub kinds_number : List ℕ → ℕ
 kinds_number slots = if kinds_known (slot_count slots) slots then 0 else 3
 
 -- before it the shelf's own of a row, 5, 6 and 17: those of an event that names nothing
-abbrev pub number_by : Reach → List ℕ → ℕ
-number_by (At i) slots = kinds_number slots
-number_by Everyone slots = kinds_number slots
-number_by (Refused f) slots = fault_number f
+abbrev pub number_by : Result Reach Fault → List ℕ → ℕ
+number_by (Ok (At i)) slots = kinds_number slots
+number_by (Ok Everyone) slots = kinds_number slots
+number_by (Err f) slots = fault_number f
 
 unfoldable pub slots_number : List ℕ → ℕ
 slots_number slots = number_by (reach_of Nothing 0 (addresses_of (row_of_slots slots))) slots

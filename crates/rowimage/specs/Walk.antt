@@ -1,9 +1,8 @@
 -- Walk of `rowimage`: a row in a buffer gone through by the code: one image replaced, and an answer handed on.
 -- Assumes nothing.
-use Rattle.std.specs.Prelude.{ℕ, ◌+◌, ◌*◌, true, List, ◌++◌, take, drop}
+use Rattle.std.specs.Prelude.{ℕ, ◌+◌, ◌*◌, List, Option, Some, ◌++◌, take, drop}
 use Rattle.arbiter.specs.declared.Answer.{Answer}
 use Rattle.layout.specs.Layout.{image_length}
-use Rattle.routing.specs.declared.Task.{Task}
 use Rattle.routing.specs.Deciding.{first_answer}
 use Rattle.rowimage.specs.Row.{record_bytes}
 
@@ -16,5 +15,5 @@ abbrev pub with_image : ℕ → List ℕ → List ℕ → List ℕ
 with_image i image b = take (image_place i) b ++ (image ++ drop image_length (drop (image_place i) b))
 
 -- the first one answers
-abbrev pub told_by : Task → Answer → Task
-told_by t now = record { event = t.event; told = true; answer = first_answer t.told t.answer now }
+abbrev pub told_by : Option Answer → Answer → Option Answer
+told_by told now = Some (first_answer told now)

@@ -5,72 +5,113 @@
 
 pub mod slots;
 
-ghost use Rattle.std.specs.Prelude.{◌+◌, ◌*◌, ◌≤◌, ◌<◌, ◌≡◌, true, length, drop};
+ghost use Rattle.std.specs.Prelude.{◌+◌, ◌*◌, ◌≤◌, ◌≡◌, true, length, drop};
 ghost use Rattle.arbiter.specs.Steps.{answer};
 ghost use Rattle.layout.specs.Layout.{device_in};
-ghost use Rattle.layout.specs.Images.{image_answer, image_after};
+ghost use Rattle.layout.specs.Images.{is_image, image_answer, image_after};
 ghost use Rattle.shelf.specs.Shelf.{shelf_row, shelf_answer, shelf_show};
 ghost use Rattle.routing.specs.Deciding.{seen_of};
 ghost use Rattle.rows.specs.Sweeps.{carried_out};
+ghost use Rattle.rowimage.specs.declared.RowFault.TheVariants.{Shelf};
 ghost use Rattle.rowimage.specs.Row.{record_bytes, record_count, bytes_of_row, image_in, records_in, images_fit, row_number, is_row};
+ghost use Rattle.rowimage.specs.Faults.{row_fault_number, number_of};
 ghost use Rattle.rowimage.specs.Calls.{row_answer, row_buffer, row_shown};
 ghost use Rattle.rowimage.specs.Walk.{with_image, told_by};
 
 use arbiter::{Answer, Raw};
-use image::{image_number, read_image};
+use image::{check_image, read_image};
 use imaging::{refused_by, step_image};
 use layout::IMAGE_LENGTH;
-use routing::{Plan, Seen, Task, fault_answer, plan_of, reach_for, see, start};
-use shelf::{Naming, Reach};
+use routing::{Seen, fault_answer, fault_number, no_answer, plan_of, reach_for, see, start};
+use shelf::{Fault, Naming, Reach};
 use showing::show_device;
+use std::ops::Range;
 
 // A record has so many bytes: its address, and the image of its device.
 pub const RECORD_BYTES: usize = 39;
 
-// ---- the buffer
-
-// Every image of the first n records is in range.
-fn images_fit(row: &[u8], n: usize) -> bool
-    requires { record_bytes * n ≤ length row.now }
-    ensures { result ≡ images_fit n row.now }
-{
-    let mut good = true;
-    let mut i: usize = 0;
-    while i < n {
-        let from = RECORD_BYTES * i + 1;
-        let end = from + IMAGE_LENGTH;
-        good = good & (image_number(&row[from..end]) == 0);
-        i += 1;
-    }
-    good
+// Why a buffer holds no row, or slots make none.
+#[derive(Clone, Copy, PartialEq, Eq)]
+pub enum RowFault {
+    WrongLength,
+    OutOfRange,
+    UnknownKind,
+    Shelf(Fault),
 }
 
-// 0 for a row, of records whose images are in range; 9 for a length that is no multiple of a record's, and then 16.
-fn row_number(row: &[u8]) -> u8
-    ensures { result ≡ row_number row.now }
+impl From<Fault> for RowFault {
+    ghost from_gives = { λ f r. r ≡ Shelf f };
+
+    fn from(f: Fault) -> RowFault {
+        RowFault::Shelf(f)
+    }
+}
+
+fn row_fault_number(f: RowFault) -> u8
+    ensures { result ≡ row_fault_number f }
+{
+    match f {
+        RowFault::WrongLength => 9,
+        RowFault::OutOfRange => 16,
+        RowFault::UnknownKind => 3,
+        RowFault::Shelf(f) => fault_number(f),
+    }
+}
+
+// 0 where nothing is refused.
+pub fn number_of(r: Result<(), RowFault>) -> u8
+    ensures { result ≡ number_of r }
+{
+    match r {
+        Ok(_) => 0,
+        Err(f) => row_fault_number(f),
+    }
+}
+
+// ---- the buffer
+
+#[tactic(auto, using(layout::proofs::Once::asked))]
+fn is_good(image: &[u8]) -> bool
+    ensures { result ≡ is_image image.now }
+{
+    check_image(image).is_ok()
+}
+
+// The image of every record is in range.
+fn images_fit(row: &[u8]) -> bool
+    ensures { result ≡ images_fit (record_count row.now) row.now }
+{
+    for record in row.chunks_exact(RECORD_BYTES) {
+        if !is_good(&record[1..]) {
+            return false;
+        }
+    }
+    true
+}
+
+// A row has records whose images are in range: a length that is no multiple of a record's is refused first.
+fn check_row(row: &[u8]) -> Result<(), RowFault>
+    ensures { number_of result ≡ row_number row.now }
 {
     if row.len() % RECORD_BYTES == 0 {
-        if images_fit(row, row.len() / RECORD_BYTES) {
-            0
+        if images_fit(row) {
+            Ok(())
         } else {
-            16
+            Err(RowFault::OutOfRange)
         }
     } else {
-        9
+        Err(RowFault::WrongLength)
     }
 }
 
 // The row looked at, address by address.
+// One function over any iterator of addresses is no plainer than this loop: its clauses need `can_next`, `IsFinite` and `Drains`.
 fn survey(row: &[u8], name: u8) -> Seen
     ensures { result ≡ seen_of name (records_in row.now) }
 {
-    let n = row.len() / RECORD_BYTES;
     let mut s = start(name);
-    let mut i: usize = 0;
-    while i < n {
-        let at = RECORD_BYTES * i;
-        s = see(s, row[at]);
-        i += 1;
+    for place in row.chunks_exact(RECORD_BYTES) {
+        s = see(s, place[0]);
     }
     s
 }
@@ -87,49 +128,35 @@ fn step_place(row: &mut [u8], i: usize, r: Raw) -> Answer
     step_image(&mut row[from..end], r)
 }
 
-// The first one answers.
-fn told_by(t: Task, now: Answer) -> Task
-    ensures { result ≡ told_by t now }
+// The answer that was told first stays.
+fn told_by(told: Option<Answer>, now: Answer) -> Option<Answer>
+    ensures { result ≡ told_by told now }
 {
-    let event = t.event;
-    if t.told {
-        let answer = t.answer;
-        Task {
-            event,
-            told: true,
-            answer,
-        }
-    } else {
-        Task {
-            event,
-            told: true,
-            answer: now,
-        }
-    }
+    told.or(Some(now))
 }
 
-// The records from one place to another make the step, one after the other.
-fn carry_out(row: &mut [u8], p: Plan) -> Task
-    requires { (is_row row.old ≡ true) × (p.to ≤ record_count row.old) }
-    ensures { (row.new ≡ bytes_of_row (carried_out p (records_in row.old)).0) × (result ≡ (carried_out p (records_in row.old)).1) }
+// The records at these places make the step, one after the other. The first one answers.
+// By place: of the parts that `chunks_exact_mut` lends, no promise says what they hold when the loop is over.
+fn carry_out(row: &mut [u8], places: Range<usize>, r: Raw) -> Option<Answer>
+    requires { (is_row row.old ≡ true) × (places.start ≤ places.end) × (places.end ≤ record_count row.old) }
+    ensures { (row.new ≡ bytes_of_row (carried_out r places (records_in row.old)).0) × (result ≡ (carried_out r places (records_in row.old)).1) }
 {
-    let mut t = p.task;
-    let mut i = p.from;
-    while i < p.to {
-        let a = step_place(row, i, t.event);
-        t = told_by(t, a);
-        i += 1;
+    let mut told = None;
+    for i in places.start..places.end {
+        let now = step_place(row, i, r);
+        told = told_by(told, now);
     }
-    t
+    told
 }
 
 fn route(row: &mut [u8], name: u8, r: Raw) -> Answer
     requires { is_row row.old ≡ true }
     ensures { (result ≡ shelf_answer (records_in row.old) name r) × (row.new ≡ bytes_of_row (shelf_row (records_in row.old) name r)) }
 {
-    let plan = plan_of(survey(row, name), r);
-    let done = carry_out(row, plan);
-    done.answer
+    match plan_of(survey(row, name), r.kind) {
+        Ok(places) => carry_out(row, places, r).unwrap_or(no_answer()),
+        Err(f) => fault_answer(f),
+    }
 }
 
 // One event on a row: the answer, and the buffer holds the devices as they then are. The name is the address or the place that it names.
@@ -138,11 +165,9 @@ fn route(row: &mut [u8], name: u8, r: Raw) -> Answer
 pub fn step_row(row: &mut [u8], name: u8, r: Raw) -> Answer
     ensures { (result ≡ row_answer row.old name r) × (row.new ≡ row_buffer row.old name r) }
 {
-    let number = row_number(row);
-    if number == 0 {
-        route(row, name, r)
-    } else {
-        refused_by(number)
+    match check_row(row) {
+        Ok(_) => route(row, name, r),
+        Err(f) => refused_by(row_fault_number(f)),
     }
 }
 
@@ -158,14 +183,14 @@ fn show_place(row: &[u8], i: usize) -> Answer
 }
 
 // A place never reaches everyone.
+// Two refusals and a place: each its own call.
 fn show_in(row: &[u8], place: u8) -> Answer
     ensures { result ≡ shelf_show (records_in row.now) place }
 {
-    let reach = reach_for(survey(row, place), Naming::APlace);
-    match reach {
-        Reach::At(i) => show_place(row, i as usize),
-        Reach::Everyone => refused_by(0),
-        Reach::Refused(f) => fault_answer(f),
+    match reach_for(survey(row, place), Naming::APlace) {
+        Ok(Reach::At(i)) => show_place(row, usize::from(i)),
+        Ok(Reach::Everyone) => refused_by(0),
+        Err(f) => fault_answer(f),
     }
 }
 
@@ -173,10 +198,8 @@ fn show_in(row: &[u8], place: u8) -> Answer
 pub fn show_row(row: &[u8], place: u8) -> Answer
     ensures { result ≡ row_shown place row.now }
 {
-    let number = row_number(row);
-    if number == 0 {
-        show_in(row, place)
-    } else {
-        refused_by(number)
+    match check_row(row) {
+        Ok(_) => show_in(row, place),
+        Err(f) => refused_by(row_fault_number(f)),
     }
 }

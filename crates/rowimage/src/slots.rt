@@ -4,71 +4,52 @@ ghost use Rattle.layout.specs.Images.{fresh_after};
 ghost use Rattle.routing.specs.Deciding.{seen_of};
 ghost use Rattle.shelf.specs.Runs.{fresh_row};
 ghost use Rattle.rowimage.specs.Row.{record_bytes, bytes_of_row, image_in};
-ghost use Rattle.rowimage.specs.Slots.{slot_bytes, slots_to, kinds_known, row_of_slots, kinds_number, slots_number, is_laid_for, fresh_row_number, fresh_row_buffer};
+ghost use Rattle.rowimage.specs.Faults.{number_of};
+ghost use Rattle.rowimage.specs.Slots.{slot_count, slots_to, kinds_known, row_of_slots, slots_number, is_laid_for, fresh_row_number, fresh_row_buffer};
 ghost use Rattle.rowimage.specs.Walk.{with_image};
 
-use crate::RECORD_BYTES;
+use crate::{RECORD_BYTES, RowFault};
 use format::is_kind;
 use imaging::fresh_image;
 use layout::IMAGE_LENGTH;
-use routing::{Seen, fault_answer, reach_for, see, start};
-use shelf::{Naming, Reach};
+use routing::{Seen, reach_for, see, start};
+use shelf::Naming;
 
 const SLOT_BYTES: usize = 2;
 
 // ---- the slots
 
-fn kinds_known(slots: &[u8], n: usize) -> bool
-    requires { slot_bytes * n ≤ length slots.now }
-    ensures { result ≡ kinds_known n slots.now }
+fn kinds_known(slots: &[u8]) -> bool
+    ensures { result ≡ kinds_known (slot_count slots.now) slots.now }
 {
-    let mut known = true;
-    let mut i: usize = 0;
-    while i < n {
-        let at = SLOT_BYTES * i + 1;
-        known = known & is_kind(slots[at]);
-        i += 1;
+    for slot in slots.chunks_exact(SLOT_BYTES) {
+        if !is_kind(slot[1]) {
+            return false;
+        }
     }
-    known
+    true
 }
 
-// Their addresses looked at, one after the other. No name is looked for.
+// Their addresses looked at, one after the other, as in `survey`. No name is looked for.
 fn survey_slots(slots: &[u8]) -> Seen
     ensures { result ≡ seen_of 0 (row_of_slots slots.now) }
 {
-    let n = slots.len() / SLOT_BYTES;
     let mut s = start(0);
-    let mut i: usize = 0;
-    while i < n {
-        let at = SLOT_BYTES * i;
-        s = see(s, slots[at]);
-        i += 1;
+    for slot in slots.chunks_exact(SLOT_BYTES) {
+        s = see(s, slot[0]);
     }
     s
 }
 
-fn kinds_number(slots: &[u8]) -> u8
-    ensures { result ≡ kinds_number slots.now }
+// As the shelf refuses a row, and then another kind.
+fn check_slots(slots: &[u8]) -> Result<(), RowFault>
+    ensures { number_of result ≡ slots_number slots.now }
 {
-    if kinds_known(slots, slots.len() / SLOT_BYTES) {
-        0
+    reach_for(survey_slots(slots), Naming::Nothing)?;
+    if kinds_known(slots) {
+        Ok(())
     } else {
-        3
-    }
-}
-
-// 5, 6 and 17 of the shelf, and then 3 for another kind.
-fn slots_number(slots: &[u8]) -> u8
-    ensures { result ≡ slots_number slots.now }
-{
-    let reach = reach_for(survey_slots(slots), Naming::Nothing);
-    match reach {
-        Reach::At(_) => kinds_number(slots),
-        Reach::Everyone => kinds_number(slots),
-        Reach::Refused(f) => {
-            let a = fault_answer(f);
-            a.outcome
-        }
+        Err(RowFault::UnknownKind)
     }
 }
 
@@ -89,37 +70,32 @@ fn put_fresh(row: &mut [u8], i: usize, kind: u8)
 {
     let from = RECORD_BYTES * i + 1;
     let end = from + IMAGE_LENGTH;
-    fresh_image(kind, &mut row[from..end]);
+    let _fresh = fresh_image(kind, &mut row[from..end]);
 }
 
-fn put_slots(slots: &[u8], row: &mut [u8], n: usize)
-    requires { (slot_bytes * n ≤ length slots.now) × (length row.old ≡ record_bytes * n) × (kinds_known n slots.now ≡ true) }
-    ensures { row.new ≡ bytes_of_row (fresh_row (slots_to n slots.now)) }
+// By place: of the parts that `chunks_exact_mut` lends, no promise says what they hold when the loop is over.
+fn put_slots(slots: &[u8], row: &mut [u8])
+    requires { (length row.old ≡ record_bytes * slot_count slots.now) × (kinds_known (slot_count slots.now) slots.now ≡ true) }
+    ensures { row.new ≡ bytes_of_row (fresh_row (slots_to (slot_count slots.now) slots.now)) }
 {
-    let mut i: usize = 0;
-    while i < n {
+    for i in 0..slots.len() / SLOT_BYTES {
         let slot = SLOT_BYTES * i;
         put_fresh(row, i, slots[slot + 1]);
         let at = RECORD_BYTES * i;
         row[at] = slots[slot];
-        i += 1;
     }
 }
 
-// A fresh row of these slots: 0, and each device after power-up in the buffer. Refused by 9 for slots that are not in pairs or a row without 39
-// bytes for each, then as the shelf refuses a row (5, 6, 17), then by 3 for another kind, and the buffer is left as it was.
-pub fn fresh_row(slots: &[u8], row: &mut [u8]) -> u8
-    ensures { (result ≡ fresh_row_number slots.now row.old) × (row.new ≡ fresh_row_buffer slots.now row.old) }
+// A fresh row of these slots: each device after power-up in the buffer. Refused for slots that are not in pairs or a row without 39 bytes for each,
+// then as the shelf refuses a row, then for another kind, and the buffer is left as it was.
+pub fn fresh_row(slots: &[u8], row: &mut [u8]) -> Result<(), RowFault>
+    ensures { (number_of result ≡ fresh_row_number slots.now row.old) × (row.new ≡ fresh_row_buffer slots.now row.old) }
 {
     if is_laid_for(slots.len(), row.len()) {
-        let number = slots_number(slots);
-        if number == 0 {
-            put_slots(slots, row, slots.len() / SLOT_BYTES);
-            0
-        } else {
-            number
-        }
+        check_slots(slots)?;
+        put_slots(slots, row);
+        Ok(())
     } else {
-        9
+        Err(RowFault::WrongLength)
     }
 }

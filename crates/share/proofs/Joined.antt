@@ -5,14 +5,14 @@ use mathlib.Core.Path.{◌≡◌, refl, sym, ap, subst, ◌∙◌}
 use mathlib.Core.List.{List, [], ◌∷◌, ◌++◌}
 use native.Mathlib.Nat.{le_trans}
 use native.Mathlib.Omega.{arith}
-use lib.Dec.{ltb}
 use lib.ListN.{length}
 use borrow.Author.Tests.{lt-ltb, le-ltb}
 use Rattle.arbiter.proofs.Choice.{if_true, if_false}
 use Rattle.share.specs.declared.Totals.{Totals}
-use Rattle.share.specs.declared.Added.{Added}
 use Rattle.share.specs.Numbers.{top, plus}
-use Rattle.share.specs.Share.{most_traces, no_totals, together, added, added_with, added_all, totals_after, joined}
+use Rattle.std.specs.Prelude.{Ok, Err}
+use Rattle.share.specs.declared.Uncounted.TheVariants.{PastMost}
+use Rattle.share.specs.Share.{most_traces, no_totals, together, added, added_with, added_all, totals_after, joined, join_told}
 use Rattle.share.specs.Laws.{AllWithin, most_total, JoinedAlike, JoinedPastMost}
 use Rattle.share.proofs.Numbers.{plus_assoc, plus_exact, plus_over, plus_under, plus_none, larger_assoc, larger_none}
 use Rattle.share.proofs.Sound.{totals_fit}
@@ -156,11 +156,17 @@ unfolding top
 most_below = omega arith
 
 module _ (x y : Totals) (n : ℕ) (e : n ≡ plus x.traces y.traces) where
-  pub call_past : most_traces < n → added_with x 6 ≡ joined x y
-  call_past h = sym (joined_past_most x y (plus_over most_traces x.traces y.traces most_below (subst (λ (m : ℕ). most_traces < m) e h)))
+  pub call_past : most_traces < n → (Err PastMost ≡ join_told x y) × (added_with x 6 ≡ joined x y)
+  unfolding join_told
+  call_past h =
+      let past = plus_over most_traces x.traces y.traces most_below (subst (λ (m : ℕ). most_traces < m) e h) in
+      (sym (if_true _ _ (lt-ltb _ _ past)), sym (joined_past_most x y past))
 
-  pub call_in : n ≤ most_traces → added_with (together x y) 0 ≡ joined x y
-  call_in h = sym (joined_in x y (plus_under most_traces x.traces y.traces most_below (subst (λ (m : ℕ). m ≤ most_traces) e h)))
+  pub call_in : n ≤ most_traces → (Ok tt ≡ join_told x y) × (added_with (together x y) 0 ≡ joined x y)
+  unfolding join_told
+  call_in h =
+      let within = plus_under most_traces x.traces y.traces most_below (subst (λ (m : ℕ). m ≤ most_traces) e h) in
+      (sym (if_false _ _ (le-ltb _ _ within)), sym (joined_in x y within))
 
 pub joined_alike : JoinedAlike
 joined_alike ts us h =

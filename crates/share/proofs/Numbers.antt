@@ -7,6 +7,7 @@ use native.Mathlib.Omega.{arith}
 use lib.Dec.{ltb}
 use borrow.Author.Tests.{ltb-true, ltb-false, lt-ltb, le-ltb}
 use Rattle.arbiter.proofs.Choice.{split, either, if_true, if_false}
+use Rattle.std.specs.Prelude.{◌-◌, ◌^◌, min, max}
 use Rattle.share.specs.Numbers.{top, up_to, plus, larger}
 
 -- ---- up to a limit
@@ -112,3 +113,18 @@ larger_assoc a b c =
 
 pub larger_none : (a : ℕ) → larger a 0 ≡ a
 larger_none a = let p = larger_left a 0 in let q = larger_most a 0 a (le_refl a) (omega arith) in omega (arith, p, q)
+
+-- ---- as the library says them
+
+pub plus_is : (a b : ℕ) → min (a + b) (2 ^ 64 - 1) ≡ plus a b
+plus_is a b =
+    split (ltb 18446744073709551615 (a + b))
+    (λ t. let past = ltb-true _ _ t in let e : min (a + b) (2 ^ 64 - 1) ≡ 18446744073709551615 = omega (arith, past) in e ∙ plus_past a b past)
+    (λ f. let within = ltb-false _ _ f in let e : min (a + b) (2 ^ 64 - 1) ≡ a + b = omega (arith, within) in e ∙ plus_in a b within)
+
+pub larger_is : (a b : ℕ) → max a b ≡ larger a b
+unfolding larger
+larger_is a b =
+    split (ltb a b)
+    (λ t. let less = ltb-true a b t in let e : max a b ≡ b = omega (arith, less) in e ∙ sym (if_true _ _ t))
+    (λ f. let more = ltb-false a b f in let e : max a b ≡ a = omega (arith, more) in e ∙ sym (if_false _ _ f))

@@ -2,30 +2,24 @@
 -- Assumes nothing.
 use Prim.Native.Nat.{ℕ, suc, ◌+◌, ◌*◌, ◌≤◌, ◌<◌}
 use mathlib.Core.Path.{◌≡◌, refl, sym, ap, subst, ◌∙◌}
-use mathlib.Core.Bool.{Bool, true, false, not}
-use mathlib.Core.List.{List, [], ◌∷◌, Permᴰ}
-use native.Mathlib.Nat.{le_refl, le_trans}
+use mathlib.Core.Bool.{not}
+use mathlib.Core.List.{List, Permᴰ}
 use native.Mathlib.Omega.{arith}
 use lib.Dec.{eqb, ltb}
 use lib.ListN.{length}
 use borrow.Author.Tests.{ltb-true, ltb-false, le-ltb, lt-ltb}
-use Rattle.std.specs.Prelude.{if◌then◌else◌}
-use Rattle.arbiter.specs.Words.{worth}
 use Rattle.arbiter.specs.Straps.{address_of}
 use Rattle.arbiter.specs.Traces.{pin_count, pin_bytes, head_bytes, event_bytes, most_events, events_end, kind_count, whole_bytes, answer_room, byte_at, pins_in}
 use Rattle.arbiter.specs.Traces.{count_in}
 use Rattle.arbiter.specs.Traces.{is_kind, kind_at, read_kind, read_counted, read_strapped, read_trace, refusal_number, read_number}
+use Rattle.std.specs.Prelude.{Option, Some, None, Result}
+use Rattle.arbiter.specs.declared.Accepted.{Accepted}
 use Rattle.arbiter.specs.declared.Refusal.{Refusal}
-use Rattle.arbiter.specs.declared.Strapped.{Strapped}
-use Rattle.arbiter.specs.declared.Strapped.TheVariants.{Address, Unlisted}
-use Rattle.arbiter.specs.declared.TraceRead.{TraceRead}
-use Rattle.arbiter.specs.declared.TraceRead.TheVariants.{Refused}
 use Rattle.arbiter.proofs.Choice.{either, if_true, if_false}
 use Rattle.share.specs.declared.Totals.{Totals}
-use Rattle.share.specs.declared.Added.{Added}
-use Rattle.share.specs.Numbers.{top, plus, larger}
-use Rattle.share.specs.Share.{most_traces, refused_by, no_totals, read_alone, totals_of, together, added_with, added, added_all, totals_after}
-use Rattle.share.specs.Laws.{AllWithin, SameShares, OneMoreRefused, RefusedAddsOne, NeverNoRoom, PastMost, Reordered, AnyOrder, AnyOrderFrom}
+use Rattle.share.specs.Numbers.{top, plus}
+use Rattle.share.specs.Share.{Added, most_traces, refused_by, no_totals, read_alone, totals_of, together, added_with, added, added_all}
+use Rattle.share.specs.Laws.{SameShares, OneMoreRefused, RefusedAddsOne, NeverNoRoom, PastMost, Reordered, AnyOrder, AnyOrderFrom}
 use Rattle.share.proofs.Numbers.{plus_swap, plus_exact, plus_none, larger_swap, larger_none}
 use Rattle.share.proofs.Sound.{own_sound}
 
@@ -63,7 +57,7 @@ one_more x t h =
 pub refused_adds_one : RefusedAddsOne
 unfolding together refused_by totals_of
 refused_adds_one x t r within h e =
-    let a = taken x t h ∙ ap (λ (y : TraceRead). added_with (together x (totals_of y t)) (read_number y)) e in
+    let a = taken x t h ∙ ap (λ (y : Result Accepted Refusal). added_with (together x (totals_of y t)) (read_number y)) e in
     subst (λ (y : Added). SameShares y.totals x × OneMoreRefused (refusal_number r) y.totals x × (y.number ≡ refusal_number r)) (sym a) (
       (
         plus_none _ within.1,
@@ -83,7 +77,7 @@ refused_adds_one x t r within h e =
 
 -- ---- 9 does not come
 
-abbrev NotNine : TraceRead → Type 0
+abbrev NotNine : Result Accepted Refusal → Type 0
 NotNine y = read_number y ≡ 9 → ⊥
 
 kind_not_nine : (a n : ℕ) (t : List ℕ) → n ≤ most_events → NotNine (read_kind a n t answer_room)
@@ -105,10 +99,10 @@ counted_not_nine a t =
     either NotNine (ltb (length t) (events_end (count_in t))) (λ b e. omega arith) λ f3.
     kind_not_nine a (count_in t) t (ltb-false most_events (count_in t) f2)
 
-strapped_not_nine : (s : Strapped) (t : List ℕ) → NotNine (read_strapped s t answer_room)
+strapped_not_nine : (s : Option ℕ) (t : List ℕ) → NotNine (read_strapped s t answer_room)
 unfolding read_strapped
-strapped_not_nine (Address a) t = counted_not_nine a t
-strapped_not_nine Unlisted t = λ e. omega arith
+strapped_not_nine (Some a) t = counted_not_nine a t
+strapped_not_nine None t = λ e. omega arith
 
 not_nine : (t : List ℕ) → NotNine (read_alone t)
 unfolding read_trace

@@ -2,7 +2,7 @@
 -- Assumes nothing.
 use Prim.Native.Nat.{ℕ, zero, suc, ◌+◌, ◌-◌, ◌*◌, ◌≤◌, ◌<◌}
 use mathlib.Core.Path.{◌≡◌, refl, sym, ap, subst, ◌∙◌}
-use mathlib.Core.Bool.{Bool, true, false}
+use mathlib.Core.Bool.{Bool, false}
 use mathlib.Core.List.{List, [], ◌∷◌}
 use native.Mathlib.Omega.{arith}
 use lib.Dec.{eqb}
@@ -13,7 +13,7 @@ use Rattle.std.specs.Prelude.{if◌then◌else◌}
 use Rattle.arbiter.specs.Steps.{step, run_from}
 use Rattle.arbiter.specs.Traces.{event_bytes, raw_in, raws_in, ran}
 use Rattle.arbiter.specs.declared.Device.{Device}
-use Rattle.arbiter.specs.declared.Ran.{Ran}
+use Rattle.arbiter.specs.Types.{Ran}
 use Rattle.arbiter.specs.declared.Raw.{Raw}
 use Rattle.arbiter.proofs.Choice.{split}
 use Rattle.format.specs.Places.{event_at}
@@ -24,12 +24,13 @@ use Rattle.share.specs.declared.Tally.{Tally}
 use Rattle.share.specs.declared.Point.{Point}
 use Rattle.share.specs.States.{states_from}
 use Rattle.traces.specs.Ticks.{is_tick_raw}
-use Rattle.share.specs.Walk.{seen_of, noted, tally_from, Within, point_with, NoTicks, others_taken, left, Onward}
+use Rattle.share.specs.Walk.{AllSuch, seen_of, noted, tally_from, Within, NoTicks, others_taken, left, Onward}
 use Rattle.share.proofs.Rounds.{again, event_is, within_more}
 
 -- one more in a row that is no TICK
-pub others_more : (k at : ℕ) (b : List ℕ) (r : Raw) → NoTicks k at b → r ≡ event_at (at + k) b → is_tick_raw r ≡ false → NoTicks (k + 1) at b
-others_more k at b r all e h i l =
+pub such_more : (ticks : Bool) (k at : ℕ) (b : List ℕ) (r : Raw) → AllSuch ticks k at b → r ≡ event_at (at + k) b → is_tick_raw r ≡ ticks
+    → AllSuch ticks (k + 1) at b
+such_more ticks k at b r all e h i l =
     split (eqb i k)
     (λ t. ap (λ (x : ℕ). is_tick_raw (event_at (at + x) b)) (eqb-true i k t) ∙ ap is_tick_raw (sym e) ∙ h)
     (λ f. let other = eqb-false i k f in all i (omega (arith, l, other)))
@@ -58,7 +59,7 @@ drop_front m (a ∷ c ∷ []) = nothing m
 drop_front m (a ∷ c ∷ d ∷ []) = nothing m
 drop_front m (a ∷ c ∷ d ∷ e ∷ l) = refl
 
-raws_front : (k : ℕ) (l : List ℕ) → raws_in k (take (event_bytes * k) l) ≡ raws_in k l
+pub raws_front : (k : ℕ) (l : List ℕ) → raws_in k (take (event_bytes * k) l) ≡ raws_in k l
 unfolding raws_in
 raws_front zero l = refl
 raws_front (suc k) l =

@@ -1,7 +1,7 @@
 -- What one trace has of each total, accepted or refused, as the code finds it.
 -- Assumes nothing.
-use Prim.Native.Nat.{ℕ, ◌+◌, ◌-◌, ◌*◌, ◌≤◌}
-use mathlib.Core.Path.{◌≡◌, refl, sym, ap, subst, ◌∙◌}
+use Prim.Native.Nat.{ℕ, ◌-◌, ◌*◌, ◌≤◌, ◌<◌}
+use mathlib.Core.Path.{◌≡◌, refl, sym, ap, ◌∙◌}
 use mathlib.Core.List.{List}
 use native.Mathlib.Nat.{le_of_eq}
 use native.Mathlib.Omega.{arith}
@@ -9,27 +9,46 @@ use lib.ListN.{length, take, drop, length-drop}
 use lib.Seq.{take_all}
 use mathlib.Core.Bool.{true, false, ◌||◌}
 use lib.Dec.{ltb}
-use borrow.Author.Tests.{ltb-false, le-ltb}
+use borrow.Author.Tests.{ltb-false, le-ltb, lt-ltb}
+use Rattle.std.specs.Prelude.{Ok}
+use Rattle.arbiter.specs.declared.Accepted.{Accepted}
+use Rattle.std.specs.Prelude.{Result}
 use Rattle.arbiter.proofs.Choice.{if_true, neither}
 use Rattle.arbiter.specs.Effects.{power_up}
-use Rattle.arbiter.specs.Traces.{head_bytes, event_bytes, most_events, whole_bytes, answer_room, raws_in, events_in, event_count, refusal_number, read_number}
+use Rattle.arbiter.specs.Traces.{head_bytes, event_bytes, most_events, answer_room, raws_in, event_count, refusal_number, read_number, accepted_with}
 use Rattle.arbiter.specs.declared.Device.{Device}
 use Rattle.arbiter.specs.declared.Kind.{Kind}
 use Rattle.arbiter.specs.declared.Refusal.{Refusal}
-use Rattle.arbiter.specs.declared.TraceRead.{TraceRead}
-use Rattle.arbiter.specs.declared.TraceRead.TheVariants.{Accepted, Refused}
+use Rattle.std.specs.Prelude.{Err}
 use Rattle.traces.proofs.Accepted.{Fits, accepted_fits}
 use Rattle.share.specs.declared.Totals.{Totals}
 use Rattle.share.specs.declared.Tally.{Tally}
-use Rattle.share.specs.declared.Added.{Added}
+use Rattle.share.specs.declared.Uncounted.{Uncounted}
 use Rattle.share.specs.States.{states_from, tick_states}
-use Rattle.share.specs.Share.{shares_in, refused_by, read_alone, totals_of, added_with}
+use Rattle.share.specs.Share.{most_traces, shares_in, refused_by, read_alone, totals_of, together, added_with, added, told_number, read_told, trace_told}
 use Rattle.share.specs.Walk.{no_tally, tally_from, counted_in, shares}
 use Rattle.share.proofs.Tallied.{tallied}
 
--- what a trace has, with its number
-abbrev pub told : TraceRead → List ℕ → Added
-told y t = added_with (totals_of y t) (read_number y)
+-- ---- a trace added, from its reading
+
+told_read : (y : Result Accepted Refusal) → told_number (read_told y) ≡ read_number y
+told_read (Ok a) = refl
+told_read (Err r) = refl
+
+pub trace_added : (x z w : Totals) (t : List ℕ) (y : Result Accepted Refusal) (r : Result (Unit {0}) Uncounted) → x.traces < most_traces → y ≡ read_alone t
+    → z ≡ totals_of (read_alone t) t → w ≡ together x z → r ≡ read_told y
+    → (r ≡ trace_told x t) × (added_with w (told_number r) ≡ added x t)
+unfolding added trace_told
+trace_added x z w t y r h ey ez ew er =
+    let e = lt-ltb x.traces most_traces h in
+    let told = er ∙ ap read_told ey in (
+      told ∙ sym (if_true _ _ e),
+      ap (λ (n : ℕ). added_with w n) (ap told_number told ∙ told_read (read_alone t))
+          ∙ ap (λ (v : Totals). added_with v (read_number (read_alone t))) (ew ∙ ap (together x) ez)
+          ∙ sym (if_true _ _ e),
+    )
+
+-- ---- what it has of each total
 
 -- with enough events, and no more than a trace has, all are counted; else none
 pub counted_all : (d : Device) (b : List ℕ) (n : ℕ) → n ≤ most_events → event_bytes * n ≤ length b → counted_in d b n
@@ -47,11 +66,11 @@ counted_enough b n h =
     let enough = ltb-false (event_count b) n p.1 in
     (omega (arith, enough), ltb-false most_events n p.0)
 
-pub own_refused : (t : List ℕ) (r : Refusal) → read_alone t ≡ Refused r → added_with (refused_by (refusal_number r)) (refusal_number r) ≡ told (read_alone t) t
+pub own_refused : (t : List ℕ) (r : Refusal) → read_alone t ≡ Err r → refused_by (refusal_number r) ≡ totals_of (read_alone t) t
 unfolding totals_of
-own_refused t r h = ap (λ (y : TraceRead). told y t) (sym h)
+own_refused t r h = ap (λ (y : Result Accepted Refusal). totals_of y t) (sym h)
 
-module _ (t : List ℕ) (a n : ℕ) (k : Kind) (h : read_alone t ≡ Accepted a n k) where
+module _ (t : List ℕ) (a n : ℕ) (k : Kind) (h : read_alone t ≡ accepted_with a n k) where
   fits : Fits t answer_room n k
   fits = accepted_fits t answer_room a n k h
 
@@ -71,12 +90,11 @@ module _ (t : List ℕ) (a n : ℕ) (k : Kind) (h : read_alone t ≡ Accepted a 
   pub rest_long : event_bytes * n ≤ length rest
   rest_long = let whole = fits.0 in let e : length rest ≡ length t - 7 = ap length rest_is ∙ length-drop 7 t in omega (arith, whole, e)
 
-  pub own_accepted : (d : Device) (x : Tally) (y : Totals) → d ≡ power_up k → x ≡ counted_in d rest n → y ≡ shares x → added_with y 0 ≡ told (read_alone t) t
+  pub own_accepted : (d : Device) (x : Tally) (y : Totals) → d ≡ power_up k → x ≡ counted_in d rest n → y ≡ shares x → y ≡ totals_of (read_alone t) t
   unfolding totals_of
   own_accepted d x y new counted shared =
-      ap (λ (z : Totals). added_with z 0)
-      (shared
+      shared
       ∙ ap shares (counted ∙ counted_all d rest n few rest_long ∙ ap (λ (z : Device). tally_from no_tally (states_from z (raws_in n rest))) new)
       ∙ tallied (states_from (power_up k) (raws_in n rest))
-      ∙ ap (λ (l : List ℕ). shares_in (tick_states k (raws_in n l))) rest_is)
-      ∙ ap (λ (z : TraceRead). told z t) (sym h)
+      ∙ ap (λ (l : List ℕ). shares_in (tick_states k (raws_in n l))) rest_is
+      ∙ ap (λ (z : Result Accepted Refusal). totals_of z t) (sym h)

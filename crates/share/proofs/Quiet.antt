@@ -1,19 +1,17 @@
 -- Quiet of `share`: quiet TICKs taken together are the same states one by one, for what is seen of them is the same. And one round of the loop,
 -- whichever it is.
 -- Assumes nothing.
-use Prim.Native.Nat.{ℕ, zero, suc, ◌+◌, ◌-◌, ◌*◌, ◌≤◌, ◌<◌}
+use Prim.Native.Nat.{ℕ, zero, suc, ◌+◌, ◌*◌, ◌≤◌, ◌<◌}
 use mathlib.Core.Path.{◌≡◌, refl, sym, ap, subst, ◌∙◌}
 use mathlib.Core.Bool.{Bool, true, false}
 use mathlib.Core.List.{List}
 use native.Mathlib.Nat.{le_refl}
 use native.Mathlib.Omega.{arith}
-use lib.Dec.{eqb}
 use lib.ListN.{length, replicate}
-use borrow.Author.Tests.{eqb-true, eqb-false}
 use Rattle.std.specs.Prelude.{if◌then◌else◌}
 use Rattle.arbiter.specs.Words.{worth}
 use Rattle.arbiter.specs.Steps.{step}
-use Rattle.arbiter.specs.Traces.{event_bytes, raws_in}
+use Rattle.arbiter.specs.Traces.{event_bytes, raws_in, event_count}
 use Rattle.arbiter.specs.declared.Device.{Device}
 use Rattle.arbiter.specs.declared.Raw.{Raw}
 use Rattle.arbiter.specs.declared.Stepped.{Stepped}
@@ -23,7 +21,6 @@ use Rattle.light.specs.Light.{Settled}
 use Rattle.light.proofs.Settles.{stays_settled, runs_settled}
 use Rattle.quiet.specs.Quiet.{quiet_ticks, tick, ticks}
 use Rattle.quiet.proofs.Ticks.{quiet, quiet_together, after_none}
-use Rattle.arbiter.proofs.Choice.{split}
 use Rattle.share.specs.declared.Seen.{Seen}
 use Rattle.share.specs.declared.Tally.{Tally}
 use Rattle.share.specs.declared.Point.{Point}
@@ -31,7 +28,7 @@ use Rattle.share.specs.Numbers.{larger}
 use Rattle.share.specs.States.{states_from}
 use Rattle.traces.specs.Ticks.{is_tick_raw}
 use Rattle.traces.proofs.Batch.{is_tick_raw_lem}
-use Rattle.share.specs.Walk.{seen_of, waited_on, noted, no_tally, tally_from, Within, point_with, one_taken, quiet_taken, AllTicks, left, Onward}
+use Rattle.share.specs.Walk.{AllSuch, seen_of, waited_on, noted, no_tally, tally_from, Within, point_with, one_taken, quiet_taken, AllTicks, left, Onward}
 use Rattle.share.proofs.Numbers.{larger_left, larger_right, larger_most}
 use Rattle.share.proofs.Rounds.{again, all_left, none_left, within_noted, within_after}
 
@@ -56,11 +53,12 @@ quiet_taken_lem p j d s t q ed es et eq =
     ∙ ap (λ (x : Device). point_with x (noted j (seen_of x) p.tally) (p.at + j)) ed
 
 -- one TICK more in a row
-pub ticks_more : (k at : ℕ) (b : List ℕ) (r : Raw) → AllTicks k at b → r ≡ event_at (at + k) b → is_tick_raw r ≡ true → AllTicks (k + 1) at b
-ticks_more k at b r all e h i l =
-    split (eqb i k)
-    (λ t. ap (λ (x : ℕ). event_at (at + x) b) (eqb-true i k t) ∙ sym e ∙ is_tick_raw_lem r h)
-    (λ f. let other = eqb-false i k f in all i (omega (arith, l, other)))
+-- as many events as some bytes hold are there
+pub counted_whole : (b : List ℕ) → event_bytes * event_count b ≤ length b
+counted_whole b = omega arith
+
+pub all_ticks : (r at : ℕ) (b : List ℕ) → AllSuch true r at b → AllTicks r at b
+all_ticks r at b all k h = is_tick_raw_lem _ (all k h)
 
 -- ---- what is seen stays, and so noting one state and then m more is noting 1 + m
 

@@ -1,10 +1,10 @@
 -- One round of the loop over a trace's events: the counts so far, and those of the states that are still to come. And no count is larger
 -- than the number of events so far.
 -- Assumes nothing.
-use Prim.Native.Nat.{ℕ, zero, suc, ◌+◌, ◌-◌, ◌*◌, ◌≤◌, ◌<◌}
+use Prim.Native.Nat.{ℕ, suc, ◌+◌, ◌-◌, ◌*◌, ◌≤◌, ◌<◌}
 use mathlib.Core.Path.{◌≡◌, refl, sym, ap, subst, ◌∙◌}
 use mathlib.Core.Bool.{Bool, true, false}
-use mathlib.Core.List.{List, [], ◌∷◌}
+use mathlib.Core.List.{List, ◌∷◌}
 use native.Mathlib.Nat.{le_refl}
 use native.Mathlib.Omega.{arith}
 use lib.ListN.{length, drop}
@@ -20,7 +20,6 @@ use Rattle.arbiter.specs.declared.Raw.{Raw}
 use Rattle.format.specs.Places.{event_at}
 use Rattle.share.specs.declared.Seen.{Seen}
 use Rattle.share.specs.declared.Tally.{Tally}
-use Rattle.share.specs.Numbers.{larger}
 use Rattle.share.specs.States.{listed_if, states_from}
 use Rattle.traces.specs.Ticks.{is_tick_raw}
 use Rattle.share.specs.Walk.{seen_of, waited_on, noted, tally_from, Within, left}

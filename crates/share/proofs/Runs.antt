@@ -1,7 +1,7 @@
 -- What holds of the counts in the list of states of one run.
 -- Assumes nothing.
 use Prim.Native.Nat.{ℕ, zero, suc, ◌+◌, ◌≤◌}
-use mathlib.Core.Path.{◌≡◌, refl, sym, ap, subst, ◌∙◌}
+use mathlib.Core.Path.{◌≡◌, refl, sym, ap, ◌∙◌}
 use mathlib.Core.Bool.{Bool, true, false, not, ◌&&◌, false≢true}
 use mathlib.Core.List.{List, [], ◌∷◌}
 use native.Mathlib.Nat.{le_refl, le_trans, zero-add}
@@ -22,7 +22,6 @@ use Rattle.arbiter.specs.declared.Kind.{Kind}
 use Rattle.arbiter.specs.declared.Device.{Device}
 use Rattle.arbiter.specs.declared.Raw.{Raw}
 use Rattle.arbiter.proofs.Connected.{Served, step_served, all_served, serves_owner, closed_served}
-use Rattle.share.specs.Numbers.{larger}
 use Rattle.share.specs.States.{listed_if, states_from, tick_states, waits, unowned, count, front, longest}
 use Rattle.share.specs.Laws.{StatesAreTicks, WaitingNotOwning}
 use Rattle.share.proofs.Numbers.{larger_most}

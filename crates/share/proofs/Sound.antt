@@ -1,31 +1,28 @@
 -- What holds of the totals after any traces: each trace's own meet it, and putting totals together keeps it.
 -- Assumes nothing.
 use Prim.Native.Nat.{ℕ, ◌+◌, ◌*◌, ◌≤◌, ◌<◌}
-use mathlib.Core.Path.{◌≡◌, refl, sym, ap, subst, ◌∙◌}
-use mathlib.Core.Bool.{Bool, true, false}
+use mathlib.Core.Path.{◌≡◌, refl, sym, subst}
 use mathlib.Core.List.{List, [], ◌∷◌}
-use native.Mathlib.Nat.{le_refl, le_trans}
+use native.Mathlib.Nat.{le_refl}
 use native.Mathlib.Omega.{arith}
 use lib.Dec.{eqb, ltb}
-use borrow.Author.Tests.{ltb-true, le-ltb, lt-ltb}
-use Rattle.std.specs.Prelude.{if◌then◌else◌}
+use borrow.Author.Tests.{ltb-true}
 use Rattle.arbiter.specs.Words.{worth}
 use Rattle.arbiter.specs.Effects.{power_up}
-use Rattle.arbiter.specs.Traces.{head_bytes, most_events, answer_room, events_in, read_trace, refusal_number, read_number}
+use Rattle.arbiter.specs.Traces.{head_bytes, most_events, answer_room, events_in, refusal_number}
 use Rattle.arbiter.specs.declared.Master.TheVariants.{Zero, One}
 use Rattle.arbiter.specs.declared.Kind.{Kind}
 use Rattle.arbiter.specs.declared.Raw.{Raw}
 use Rattle.arbiter.specs.declared.Refusal.{Refusal}
-use Rattle.arbiter.specs.declared.TraceRead.{TraceRead}
-use Rattle.arbiter.specs.declared.TraceRead.TheVariants.{Accepted, Refused}
+use Rattle.std.specs.Prelude.{Result, Err, Ok}
+use Rattle.arbiter.specs.declared.Accepted.{Accepted}
 use Rattle.arbiter.proofs.Choice.{either}
 use Rattle.traces.proofs.Accepted.{accepted_fits}
 use lib.ListN.{length, drop}
 use Rattle.share.specs.declared.Totals.{Totals}
-use Rattle.share.specs.declared.Added.{Added}
-use Rattle.share.specs.Numbers.{top, plus, larger}
+use Rattle.share.specs.Numbers.{top, plus}
 use Rattle.share.specs.States.{tick_states, waits}
-use Rattle.share.specs.Share.{most_traces, shares_in, refused_by, no_totals, read_alone, totals_of, together, added, added_with, added_all, totals_after}
+use Rattle.share.specs.Share.{Added, most_traces, shares_in, refused_by, no_totals, read_alone, totals_of, together, added, added_all, totals_after}
 use Rattle.share.specs.Laws.{AddUp, ConnectedOwned, WaitedOrOwned, LongestWaited, refusals, RefusedAreTraces, AllWithin, most_total, TotalsFit, TracesFit}
 use Rattle.share.proofs.Numbers.{plus_exact, larger_most}
 use Rattle.share.proofs.Runs.{few_states, raws_length, owned_add_up, waited_or_owned_in, connected_owned_in, longest_in_count}
@@ -112,12 +109,14 @@ pub own_sound : (t : List ℕ) → Sound 1 (totals_of (read_alone t) t)
 unfolding totals_of
 own_sound t = go (read_alone t) refl
   where
-    go : (y : TraceRead) → read_alone t ≡ y → Sound 1 (totals_of y t)
-    go (Accepted a n k) h =
-        let fit = (accepted_fits t answer_room a n k h).2 in
+    go : (y : Result Accepted Refusal) → read_alone t ≡ y → Sound 1 (totals_of y t)
+    go (Ok x) h =
+        let n = x.events in
+        let k = x.kind in
+        let fit = (accepted_fits t answer_room x.address n k h).2 in
         let e = raws_length n (drop head_bytes t) in
         shares_sound k (events_in n t) (subst (λ (m : ℕ). m ≤ most_events) (sym e) fit)
-    go (Refused r) h = refused_sound r
+    go (Err r) h = refused_sound r
 
 -- ---- put together: below the top each sum is the sum
 

@@ -1,7 +1,7 @@
 -- The counts that are handed from state to state are, at the end, those of the definitions.
 -- Assumes nothing.
-use Prim.Native.Nat.{ℕ, zero, suc, ◌+◌, ◌≤◌}
-use mathlib.Core.Path.{◌≡◌, refl, sym, ap, subst, ◌∙◌}
+use Prim.Native.Nat.{ℕ, ◌+◌, ◌≤◌}
+use mathlib.Core.Path.{◌≡◌, refl, ap, ◌∙◌}
 use mathlib.Core.Bool.{Bool, true, false}
 use mathlib.Core.List.{List, [], ◌∷◌}
 use native.Mathlib.Nat.{le_refl, le_trans, zero-add}
@@ -12,12 +12,11 @@ use Rattle.arbiter.specs.Words.{worth}
 use Rattle.arbiter.specs.State.{owns, connected}
 use Rattle.arbiter.specs.declared.Master.TheVariants.{Zero, One}
 use Rattle.arbiter.specs.declared.Device.{Device}
-use Rattle.arbiter.proofs.Choice.{if_true, if_false, split}
 use Rattle.share.specs.declared.Tally.{Tally}
 use Rattle.share.specs.Numbers.{larger}
 use Rattle.share.specs.States.{waits, unowned, count, front, longest}
 use Rattle.share.specs.Share.{shares_in}
-use Rattle.share.specs.Walk.{seen_of, waited_on, noted, tally_from, no_tally, Within, shares}
+use Rattle.share.specs.Walk.{seen_of, waited_on, noted, tally_from, no_tally, shares}
 use Rattle.share.proofs.Numbers.{larger_left, larger_right, larger_most}
 
 -- ---- a count

@@ -12,15 +12,16 @@ use Rattle.arbiter.specs.declared.Raw.{Raw}
 use Rattle.arbiter.specs.declared.Device.{Device}
 use Rattle.arbiter.specs.declared.Event.{Event}
 use Rattle.arbiter.specs.declared.Event.TheVariants.{Command, Write, Read, Stop, Pair, Lines, Tick, Pulse, Reset, GeneralCall}
-use Rattle.arbiter.specs.declared.Decoded.{Decoded}
+use Rattle.std.specs.Prelude.{Result}
+use Rattle.arbiter.specs.declared.Unread.{Unread}
 use Rattle.arbiter.proofs.Choice.{split, either}
 use Rattle.traces.specs.Ticks.{is_tick_raw}
 
 module _ (d : Device) where
-  abbrev ticks : Decoded → Bool
+  abbrev ticks : Result Event Unread → Bool
   ticks x = accepted_as (λ (e : Event) (y : Device). is_tick e) x d
 
-  abbrev No : Decoded → Type 0
+  abbrev No : Result Event Unread → Type 0
   No x = ticks x ≡ false
 
   and_false : (b : Bool) → b && false ≡ false

@@ -5,7 +5,7 @@ use mathlib.Core.List.{List, ◌++◌, Permᴰ}
 use Rattle.arbiter.specs.Words.{worth}
 use Rattle.arbiter.specs.State.{owns}
 use Rattle.arbiter.specs.Effects.{power_up}
-use Rattle.arbiter.specs.Traces.{most_events, refusal_number, read_number}
+use Rattle.arbiter.specs.Traces.{most_events, refusal_number}
 use Rattle.arbiter.specs.AuditWords.{ticks_in}
 use Rattle.arbiter.specs.declared.Master.{Master}
 use Rattle.arbiter.specs.declared.Kind.{Kind}
@@ -13,7 +13,7 @@ use Rattle.arbiter.specs.declared.Device.{Device}
 use Rattle.arbiter.specs.declared.Raw.{Raw}
 use Rattle.arbiter.specs.declared.Refusal.{Refusal}
 use Rattle.arbiter.specs.declared.Refusal.TheVariants.{NoRoom}
-use Rattle.arbiter.specs.declared.TraceRead.TheVariants.{Refused}
+use Rattle.std.specs.Prelude.{Err}
 use Rattle.share.specs.declared.Totals.{Totals}
 use Rattle.share.specs.Numbers.{top, plus}
 use Rattle.share.specs.States.{tick_states, waits}
@@ -114,12 +114,12 @@ OneMoreRefused number x y =
 
 abbrev pub RefusedAddsOne : Type 0
 RefusedAddsOne =
-    (x : Totals) (t : List ℕ) (r : Refusal) → AllWithin top x → x.traces < most_traces → read_alone t ≡ Refused r
+    (x : Totals) (t : List ℕ) (r : Refusal) → AllWithin top x → x.traces < most_traces → read_alone t ≡ Err r
     → SameShares (added x t).totals x × OneMoreRefused (refusal_number r) (added x t).totals x × ((added x t).number ≡ refusal_number r)
 
 -- There is no answer buffer that could lack room: 9 does not come.
 abbrev pub NeverNoRoom : Type 0
-NeverNoRoom = (t : List ℕ) → read_alone t ≡ Refused NoRoom → ⊥
+NeverNoRoom = (t : List ℕ) → read_alone t ≡ Err NoRoom → ⊥
 
 -- "6 past 65,535 traces, refused ones included, totals kept", whatever the trace
 abbrev pub PastMost : Type 0

@@ -1,8 +1,10 @@
 -- The totals in a lent buffer of 17 numbers, in the order of the record: what adding a trace to them, and joining other totals to them, answers and leaves.
 -- Assumes nothing.
-use Rattle.std.specs.Prelude.{ℕ, ◌≡◌, Bool, ◌&&◌, List, [], ◌∷◌, eqb, length, get_or, if◌then◌else◌}
+use Rattle.std.specs.Prelude.{ℕ, ◌≡◌, Bool, ◌&&◌, List, [], ◌∷◌, eqb, length, get_or, Result, Err, if◌then◌else◌}
 use Rattle.share.specs.declared.Totals.{Totals}
-use Rattle.share.specs.Share.{added, joined}
+use Rattle.share.specs.declared.Uncounted.{Uncounted}
+use Rattle.share.specs.declared.Uncounted.TheVariants.{OtherLength}
+use Rattle.share.specs.Share.{added, joined, trace_told, join_told}
 
 abbrev pub total_count : ℕ
 total_count = 17
@@ -73,3 +75,11 @@ join_number l o = if both_totals l o then (joined (totals_in l) (totals_in o)).n
 
 unfoldable pub join_after : List ℕ → List ℕ → List ℕ
 join_after l o = if both_totals l o then totals_list (joined (totals_in l) (totals_in o)).totals else l
+
+-- ---- what is told of either call
+
+unfoldable pub lent_told : List ℕ → List ℕ → Result (Unit {0}) Uncounted
+lent_told l t = if eqb (length l) total_count then trace_told (totals_in l) t else Err OtherLength
+
+unfoldable pub lent_joined_told : List ℕ → List ℕ → Result (Unit {0}) Uncounted
+lent_joined_told l o = if both_totals l o then join_told (totals_in l) (totals_in o) else Err OtherLength

@@ -1,15 +1,16 @@
 -- Request #112, "Bus share report": the totals, what a trace adds to them, and the refusals.
 -- Assumes nothing.
-use Rattle.std.specs.Prelude.{ℕ, ◌+◌, List, [], ◌∷◌, eqb, ltb, length, if◌then◌else◌}
+use Rattle.arbiter.specs.declared.Accepted.{Accepted}
+use Rattle.std.specs.Prelude.{ℕ, ◌+◌, List, [], ◌∷◌, eqb, ltb, length, Result, Ok, Err, if◌then◌else◌}
 use Rattle.arbiter.specs.Words.{worth}
 use Rattle.arbiter.specs.State.{owns, connected}
 use Rattle.arbiter.specs.Traces.{answer_room, events_in, read_trace, refusal_number, read_number}
 use Rattle.arbiter.specs.declared.Master.TheVariants.{Zero, One}
 use Rattle.arbiter.specs.declared.Device.{Device}
-use Rattle.arbiter.specs.declared.TraceRead.{TraceRead}
-use Rattle.arbiter.specs.declared.TraceRead.TheVariants.{Accepted, Refused}
+use Rattle.arbiter.specs.declared.Refusal.{Refusal}
 use Rattle.share.specs.declared.Totals.{Totals}
-use Rattle.share.specs.declared.Added.{Added}
+use Rattle.share.specs.declared.Uncounted.{Uncounted}
+use Rattle.share.specs.declared.Uncounted.TheVariants.{BadTrace, PastMost, OtherLength}
 use Rattle.share.specs.Numbers.{plus, larger}
 use Rattle.share.specs.States.{tick_states, waits, unowned, count, longest}
 
@@ -89,12 +90,12 @@ no_totals =
     }
 
 -- There is no answer buffer, so a trace is read with room for the answers of any, and 9 does not come (Laws, NeverNoRoom).
-abbrev pub read_alone : List ℕ → TraceRead
+abbrev pub read_alone : List ℕ → Result Accepted Refusal
 read_alone t = read_trace t answer_room
 
-unfoldable pub totals_of : TraceRead → List ℕ → Totals
-totals_of (Accepted address n k) t = shares_in (tick_states k (events_in n t))
-totals_of (Refused r) t = refused_by (refusal_number r)
+unfoldable pub totals_of : Result Accepted Refusal → List ℕ → Totals
+totals_of (Ok a) t = shares_in (tick_states a.kind (events_in a.events t))
+totals_of (Err r) t = refused_by (refusal_number r)
 
 -- ---- totals put together: sums, and of the longest waits the larger
 
@@ -122,6 +123,11 @@ together x y =
 
 -- ---- the call
 
+-- the totals after a trace, and its number
+pub record Added : Type 0 where
+  pub totals : Totals
+  pub number : ℕ
+
 abbrev pub added_with : Totals → ℕ → Added
 added_with x number = record { totals = x; number = number }
 
@@ -143,3 +149,24 @@ totals_after ts = added_all no_totals ts
 -- kept" of both together.
 unfoldable pub joined : Totals → Totals → Added
 joined x y = if ltb most_traces (x.traces + y.traces) then added_with x 6 else added_with (together x y) 0
+
+-- ---- what is told of a call, and its number
+
+abbrev pub uncounted_number : Uncounted → ℕ
+uncounted_number (BadTrace r) = refusal_number r
+uncounted_number PastMost = 6
+uncounted_number OtherLength = 9
+
+abbrev pub told_number : Result (Unit {0}) Uncounted → ℕ
+told_number (Ok x) = 0
+told_number (Err why) = uncounted_number why
+
+abbrev pub read_told : Result Accepted Refusal → Result (Unit {0}) Uncounted
+read_told (Ok a) = Ok tt
+read_told (Err r) = Err (BadTrace r)
+
+unfoldable pub trace_told : Totals → List ℕ → Result (Unit {0}) Uncounted
+trace_told x t = if ltb x.traces most_traces then read_told (read_alone t) else Err PastMost
+
+unfoldable pub join_told : Totals → Totals → Result (Unit {0}) Uncounted
+join_told x y = if ltb most_traces (x.traces + y.traces) then Err PastMost else Ok tt

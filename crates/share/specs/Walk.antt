@@ -137,6 +137,10 @@ quiet_taken p j =
 abbrev pub AllTicks : ℕ → ℕ → List ℕ → Type 0
 AllTicks r n b = (k : ℕ) → k < r → event_at (n + k) b ≡ tick
 
+-- each of them is a TICK, or none is
+abbrev pub AllSuch : Bool → ℕ → ℕ → List ℕ → Type 0
+AllSuch ticks r n b = (k : ℕ) → k < r → is_tick_raw (event_at (n + k) b) ≡ ticks
+
 -- none of them is
 abbrev pub NoTicks : ℕ → ℕ → List ℕ → Type 0
 NoTicks r n b = (k : ℕ) → k < r → is_tick_raw (event_at (n + k) b) ≡ false

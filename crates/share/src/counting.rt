@@ -2,18 +2,17 @@
 // nothing but counts, are taken together, and events in a row of which none is a TICK go through the loop over events.
 ghost use Rattle.std.specs.Prelude.{◌+◌, ◌-◌, ◌*◌, ◌<◌, ◌≤◌, ◌≡◌, length, if◌then◌else◌};
 ghost use Rattle.arbiter.specs.Words.{worth};
-ghost use Rattle.arbiter.specs.Traces.{event_bytes, most_events, raws_in};
+ghost use Rattle.arbiter.specs.Traces.{event_bytes, most_events, raws_in, event_count};
 ghost use Rattle.format.specs.Places.{event_at};
 ghost use Rattle.light.specs.Light.{Settled};
 ghost use Rattle.quiet.specs.Quiet.{quiet_ticks};
-ghost use Rattle.share.specs.Numbers.{larger};
 ghost use Rattle.share.specs.States.{states_from};
 ghost use Rattle.traces.specs.Ticks.{is_tick_raw};
-ghost use Rattle.share.specs.Walk.{seen_of, waited_on, noted, no_tally, tally_from, Within, point_with, one_taken, quiet_taken, AllTicks, NoTicks, others_taken, Onward, counted_in};
+ghost use Rattle.share.specs.Walk.{seen_of, waited_on, noted, no_tally, tally_from, Within, point_with, one_taken, quiet_taken, AllTicks, AllSuch, others_taken, Onward, counted_in};
 
 use crate::{Point, Seen, Tally};
 use arbiter::{Device, Master, Raw};
-use fields::{closed_for, owns_turn, switch_of, turn_of};
+use fields::{closed_for, owns_turn};
 use format::{EVENT_BYTES, MOST_EVENTS, event_at};
 use quiet::{after_ticks, counts_left};
 use step::step_device;
@@ -25,14 +24,14 @@ use traces::ticks::is_tick;
 fn see(d: Device) -> Seen
     ensures { result ≡ seen_of d }
 {
-    let owns0 = owns_turn(Master::Zero, turn_of(d.arb));
-    let owns1 = owns_turn(Master::One, turn_of(d.arb));
+    let owns0 = owns_turn(Master::Zero, d.arb.turn);
+    let owns1 = owns_turn(Master::One, d.arb.turn);
     Seen {
         owns0,
         owns1,
         free: !owns0 & !owns1,
-        closed0: closed_for(Master::Zero, switch_of(d.arb)),
-        closed1: closed_for(Master::One, switch_of(d.arb)),
+        closed0: closed_for(Master::Zero, d.arb.switch),
+        closed1: closed_for(Master::One, d.arb.switch),
         waits0: d.side0.contr.lockreq & !owns0,
         waits1: d.side1.contr.lockreq & !owns1,
     }
@@ -40,23 +39,11 @@ fn see(d: Device) -> Seen
 
 // ---- the counts of one trace
 
+#[tactic(auto, unfolding(crate::specs::Walk::no_tally))]
 fn empty_tally() -> Tally
     ensures { result ≡ no_tally }
 {
-    Tally {
-        ticks: 0,
-        owned0: 0,
-        owned1: 0,
-        unowned: 0,
-        connected0: 0,
-        connected1: 0,
-        waited0: 0,
-        waited1: 0,
-        run0: 0,
-        run1: 0,
-        longest0: 0,
-        longest1: 0,
-    }
+    Tally::default()
 }
 
 // A count that rises by j, if it counts.
@@ -74,13 +61,8 @@ fn waited_on(j: u16, waiting: bool, n: u16) -> u16
     if waiting { n + j } else { 0 }
 }
 
-fn longer_of(a: u16, b: u16) -> u16
-    ensures { result ≡ larger a b }
-{
-    if a < b { b } else { a }
-}
-
 // j states more, of which the same is seen.
+#[tactic(auto, unfolding(crate::specs::Walk::noted, crate::specs::Numbers::larger))]
 fn note(j: u16, s: Seen, t: Tally) -> Tally
     requires { (j ≤ most_events) × Within (most_events - j) t }
     ensures { result ≡ noted j s t }
@@ -98,8 +80,8 @@ fn note(j: u16, s: Seen, t: Tally) -> Tally
         waited1: raised(j, s.waits1, t.waited1),
         run0,
         run1,
-        longest0: longer_of(t.longest0, run0),
-        longest1: longer_of(t.longest1, run1),
+        longest0: t.longest0.max(run0),
+        longest1: t.longest1.max(run1),
     }
 }
 
@@ -139,51 +121,34 @@ fn take_quiet(p: Point, j: u16) -> Point
     point_with(d, note(j, see(d), p.tally), p.at + (j as usize))
 }
 
-// How many TICKs follow one another from here on, up to a limit.
-fn tick_run(events: &[u8], at: usize, limit: u16) -> u16
+// How many events from here on are TICKs, or are none, up to a limit.
+fn run_of(ticks: bool, events: &[u8], at: usize, limit: u16) -> u16
     requires { event_bytes * (at + limit) ≤ length events.now }
-    ensures { (result ≤ limit) × AllTicks result at events.now }
+    ensures { (result ≤ limit) × AllSuch ticks result at events.now }
 {
-    let mut k: u16 = 0;
-    while k < limit && is_tick(event_at(events, at + (k as usize))) {
-        k += 1;
+    for k in 0..limit {
+        if is_tick(event_at(events, at + (k as usize))) != ticks {
+            return k;
+        }
     }
-    k
-}
-
-// The smaller of two, where the one may be past what 16 bits hold.
-fn smaller_of(a: u16, b: usize) -> u16
-    ensures { (result ≤ a) × (result ≤ b) }
-{
-    if (a as usize) < b { a } else { b as u16 }
+    limit
 }
 
 // How many quiet TICKs follow from here on. Where the next event is none, nobody asks how many are quiet; of a settled device the counts alone are asked.
-fn quiet_run(d: Device, events: &[u8], at: usize, n: usize) -> u16
-    requires { (at < n) × (event_bytes * n ≤ length events.now) × Settled d }
-    ensures { (at + result ≤ n) × (result ≤ quiet_ticks d) × AllTicks result at events.now }
+fn quiet_run(d: Device, events: &[u8], at: usize) -> u16
+    requires { (at < event_count events.now) × Settled d }
+    ensures { (at + result ≤ event_count events.now) × (result ≤ quiet_ticks d) × AllTicks result at events.now }
 {
     if is_tick(event_at(events, at)) {
-        tick_run(events, at, smaller_of(counts_left(d), n - at))
+        let quiet = (counts_left(d) as usize).min(events.len() / EVENT_BYTES - at);
+        run_of(true, events, at, quiet as u16)
     } else {
         0
     }
 }
 
 // Events of which none is a TICK are run so many at a time, so that the answers, which nobody looks at, have room.
-const MOST_TOGETHER: u16 = 32;
-
-// How many events from here on are no TICK, up to a limit.
-fn other_run(events: &[u8], at: usize, limit: u16) -> u16
-    requires { event_bytes * (at + limit) ≤ length events.now }
-    ensures { (result ≤ limit) × NoTicks result at events.now }
-{
-    let mut k: u16 = 0;
-    while k < limit && !is_tick(event_at(events, at + (k as usize))) {
-        k += 1;
-    }
-    k
-}
+const MOST_TOGETHER: usize = 32;
 
 // k events of which none is a TICK.
 fn take_others(p: Point, events: &[u8], k: u16) -> Point
@@ -195,17 +160,19 @@ fn take_others(p: Point, events: &[u8], k: u16) -> Point
     let from = EVENT_BYTES * at;
     let end = EVENT_BYTES * next;
     let mut answers = [0u8; 128];
-    let ran = run_settled(p.device, &events[from..end], &mut answers);
-    point_with(ran.device, p.tally, next)
+    match run_settled(p.device, &events[from..end], &mut answers) {
+        Ok(run) => point_with(run.device, p.tally, next),
+        // This never happens: whole events with room for their answers are not refused.
+        Err(_) => point_with(p.device, p.tally, next),
+    }
 }
 
 // A TICK, and quiet ones that follow it.
-fn take_ticks(p: Point, events: &[u8], n: usize) -> Point
-    requires { (p.at < n) × (n ≤ most_events) × (event_bytes * n ≤ length events.now) × Within p.at p.tally × Settled p.device }
-    ensures { Onward events.now n p result }
+fn take_ticks(p: Point, events: &[u8]) -> Point
+    requires { (p.at < event_count events.now) × (event_count events.now ≤ most_events) × Within p.at p.tally × Settled p.device }
+    ensures { Onward events.now (event_count events.now) p result }
 {
-    let at = p.at;
-    let j = quiet_run(p.device, events, at, n);
+    let j = quiet_run(p.device, events, p.at);
     if j == 0 {
         take_one(p, events)
     } else {
@@ -213,29 +180,29 @@ fn take_ticks(p: Point, events: &[u8], n: usize) -> Point
     }
 }
 
-fn take_next(p: Point, events: &[u8], n: usize) -> Point
-    requires { (p.at < n) × (n ≤ most_events) × (event_bytes * n ≤ length events.now) × Within p.at p.tally × Settled p.device }
-    ensures { Onward events.now n p result }
+fn take_next(p: Point, events: &[u8]) -> Point
+    requires { (p.at < event_count events.now) × (event_count events.now ≤ most_events) × Within p.at p.tally × Settled p.device }
+    ensures { Onward events.now (event_count events.now) p result }
 {
-    let at = p.at;
-    let k = other_run(events, at, smaller_of(MOST_TOGETHER, n - at));
+    let few = MOST_TOGETHER.min(events.len() / EVENT_BYTES - p.at);
+    let k = run_of(false, events, p.at, few as u16);
     if k == 0 {
-        take_ticks(p, events, n)
+        take_ticks(p, events)
     } else {
         take_others(p, events, k)
     }
 }
 
-fn count_all(from: Device, events: &[u8], n: usize) -> Tally
-    requires { (event_bytes * n ≤ length events.now) × (n ≤ most_events) × Settled from }
-    ensures { result ≡ tally_from no_tally (states_from from (raws_in n events.now)) }
+fn count_all(from: Device, events: &[u8]) -> Tally
+    requires { (event_count events.now ≤ most_events) × Settled from }
+    ensures { result ≡ tally_from no_tally (states_from from (raws_in (event_count events.now) events.now)) }
 {
     let mut p = point_with(from, empty_tally(), 0);
-    while p.at < n {
-        p = take_next(p, events, n);
+    // Each turn takes as many events as go together, so the place is counted by hand.
+    while p.at < events.len() / EVENT_BYTES {
+        p = take_next(p, events);
     }
-    let tally = p.tally;
-    tally
+    p.tally
 }
 
 // The states after the TICKs among the first n events, of which there are enough and no more than a trace has; else nothing is counted.
@@ -246,5 +213,5 @@ pub(crate) fn count_events(from: Device, events: &[u8], n: usize) -> Tally
     if (MOST_EVENTS < n) | (events.len() / EVENT_BYTES < n) {
         return empty_tally();
     }
-    count_all(from, events, n)
+    count_all(from, &events[..EVENT_BYTES * n])
 }

@@ -1,8 +1,9 @@
 // The totals in a lent buffer of 17 numbers, in the order of the record.
 ghost use Rattle.std.specs.Prelude.{◌≡◌, length};
-ghost use Rattle.share.specs.Lent.{total_count, totals_in, totals_list, lent_number, lent_after, join_number, join_after};
+ghost use Rattle.share.specs.Share.{told_number};
+ghost use Rattle.share.specs.Lent.{total_count, totals_in, totals_list, lent_number, lent_after, lent_told, join_number, join_after, lent_joined_told};
 
-use crate::{Totals, add_trace, join};
+use crate::{Totals, Uncounted, add_trace, join};
 
 pub const TOTAL_COUNT: usize = 17;
 
@@ -54,28 +55,28 @@ fn put_totals(b: &mut [u64], x: Totals)
     b[16] = x.refused10;
 }
 
-// A trace added to the totals in this buffer: 0 or the number of its refusal, 6 past 65,535 traces. A buffer of another length is refused
-// with 9 and stays as it is.
-pub fn add_totals(totals: &mut [u64], t: &[u8]) -> u8
-    ensures { (result ≡ lent_number totals.old t.now) × (totals.new ≡ lent_after totals.old t.now) }
+// A trace added to the totals in this buffer. A buffer of another length is refused and stays as it is.
+pub fn add_totals(totals: &mut [u64], t: &[u8]) -> Result<(), Uncounted>
+    ensures { (result ≡ lent_told totals.old t.now) × (told_number result ≡ lent_number totals.old t.now) × (totals.new ≡ lent_after totals.old t.now) }
 {
-    if totals.len() == TOTAL_COUNT {
-        let added = add_trace(totals_in(totals), t);
-        put_totals(totals, added.totals);
-        return added.number;
+    if totals.len() != TOTAL_COUNT {
+        return Err(Uncounted::OtherLength);
     }
-    9
+    let mut sum = totals_in(totals);
+    let told = add_trace(&mut sum, t);
+    put_totals(totals, sum);
+    told
 }
 
-// Other totals joined to those in this buffer: 0, or 6 where both are of more than 65,535 traces. A buffer of another length, the one or the
-// other, is refused with 9. Refused totals stay as they are.
-pub fn join_lent(totals: &mut [u64], other: &[u64]) -> u8
-    ensures { (result ≡ join_number totals.old other.now) × (totals.new ≡ join_after totals.old other.now) }
+// Other totals joined to those in this buffer. A buffer of another length, the one or the other, is refused, and refused totals stay as they are.
+pub fn join_lent(totals: &mut [u64], other: &[u64]) -> Result<(), Uncounted>
+    ensures { (result ≡ lent_joined_told totals.old other.now) × (told_number result ≡ join_number totals.old other.now) × (totals.new ≡ join_after totals.old other.now) }
 {
     if (totals.len() == TOTAL_COUNT) & (other.len() == TOTAL_COUNT) {
-        let both = join(totals_in(totals), totals_in(other));
-        put_totals(totals, both.totals);
-        return both.number;
+        let mut both = totals_in(totals);
+        let joined = join(&mut both, totals_in(other));
+        put_totals(totals, both);
+        return joined;
     }
-    9
+    Err(Uncounted::OtherLength)
 }

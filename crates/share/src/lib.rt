@@ -6,13 +6,10 @@ mod counting;
 pub mod lent;
 
 ghost use Rattle.std.specs.Prelude.{◌≡◌};
-ghost use Rattle.arbiter.specs.Traces.{read_number};
-ghost use Rattle.share.specs.Numbers.{plus, larger};
-ghost use Rattle.share.specs.Share.{refused_by, no_totals, read_alone, totals_of, together, added_with, added, joined};
+ghost use Rattle.share.specs.Share.{refused_by, no_totals, read_alone, totals_of, together, added_with, added, joined, uncounted_number, told_number, read_told, trace_told, join_told};
 ghost use Rattle.share.specs.Walk.{shares};
 
-use arbiter::{Device, TraceRead};
-use bits::one_if_u64;
+use arbiter::{Accepted, Device, Refusal};
 use counting::count_events;
 use format::{ANSWER_ROOM, HEAD_BYTES, refusal_number};
 use step::fresh;
@@ -21,9 +18,11 @@ use traces::reading::read_trace;
 // Totals are over so many traces at most.
 pub const MOST_TRACES: u64 = 65535;
 
+// The two controllers' totals stand side by side, as the laws of specs/Laws.antt name them.
+//
 // The ticks of all traces, how many of them each controller owned, was connected and waited, its longest wait, and the traces: all of them,
 // and the refused ones by their number.
-#[derive(Clone, Copy)]
+#[derive(Clone, Copy, Default)]
 pub struct Totals {
     pub traces: u64,
     pub ticks: u64,
@@ -44,11 +43,25 @@ pub struct Totals {
     pub refused10: u64,
 }
 
-// The totals after a trace, and its number.
-#[derive(Clone, Copy)]
-pub struct Added {
-    pub totals: Totals,
-    pub number: u8,
+// Why a trace, or other totals, are not counted as accepted traces are.
+#[derive(Clone, Copy, PartialEq, Eq)]
+pub enum Uncounted {
+    // The trace is refused: it is in the totals under its number.
+    BadTrace(Refusal),
+    // They would be more than 65,535 traces.
+    PastMost,
+    // A buffer does not have as many numbers as there are totals.
+    OtherLength,
+}
+
+pub fn uncounted_number(why: Uncounted) -> u8
+    ensures { result ≡ uncounted_number why }
+{
+    match why {
+        Uncounted::BadTrace(refusal) => refusal_number(refusal),
+        Uncounted::PastMost => 6,
+        Uncounted::OtherLength => 9,
+    }
 }
 
 // What is seen of a state: who owns or nobody, whose switch is closed, who waits.
@@ -64,7 +77,7 @@ pub struct Seen {
 }
 
 // The counts of one trace so far. A run is a wait that has not ended.
-#[derive(Clone, Copy)]
+#[derive(Clone, Copy, Default)]
 pub struct Tally {
     pub ticks: u16,
     pub owned0: u16,
@@ -80,7 +93,8 @@ pub struct Tally {
     pub longest1: u16,
 }
 
-// A point on the way through a trace: the device after so many events, and the counts.
+// A point on the way through a trace: the device after so many events, and the counts. That its device is settled is said where it is needed and not in the
+// type: specs/Walk.antt makes points of their parts alone (`point_with`), where no proof is at hand.
 #[derive(Clone, Copy)]
 pub struct Point {
     pub device: Device,
@@ -90,168 +104,121 @@ pub struct Point {
 
 // ---- what one trace has of each total
 
+#[tactic(auto, unfolding(crate::specs::Share::no_totals))]
 pub fn empty_totals() -> Totals
     ensures { result ≡ no_totals }
 {
-    Totals {
-        traces: 0,
-        ticks: 0,
-        owned0: 0,
-        owned1: 0,
-        unowned: 0,
-        connected0: 0,
-        connected1: 0,
-        waited0: 0,
-        waited1: 0,
-        longest0: 0,
-        longest1: 0,
-        refused3: 0,
-        refused5: 0,
-        refused6: 0,
-        refused7: 0,
-        refused8: 0,
-        refused10: 0,
-    }
+    Totals::default()
 }
 
-fn wide(x: u16) -> u64
-    ensures { result ≡ x }
-{
-    x as u64
-}
-
+#[tactic(auto, unfolding(crate::specs::Walk::shares, crate::specs::Share::no_totals))]
 fn shares_in(t: Tally) -> Totals
     ensures { result ≡ shares t }
 {
     Totals {
         traces: 1,
-        ticks: wide(t.ticks),
-        owned0: wide(t.owned0),
-        owned1: wide(t.owned1),
-        unowned: wide(t.unowned),
-        connected0: wide(t.connected0),
-        connected1: wide(t.connected1),
-        waited0: wide(t.waited0),
-        waited1: wide(t.waited1),
-        longest0: wide(t.longest0),
-        longest1: wide(t.longest1),
-        refused3: 0,
-        refused5: 0,
-        refused6: 0,
-        refused7: 0,
-        refused8: 0,
-        refused10: 0,
+        ticks: u64::from(t.ticks),
+        owned0: u64::from(t.owned0),
+        owned1: u64::from(t.owned1),
+        unowned: u64::from(t.unowned),
+        connected0: u64::from(t.connected0),
+        connected1: u64::from(t.connected1),
+        waited0: u64::from(t.waited0),
+        waited1: u64::from(t.waited1),
+        longest0: u64::from(t.longest0),
+        longest1: u64::from(t.longest1),
+        ..empty_totals()
     }
 }
 
+#[tactic(auto, unfolding(crate::specs::Share::refused_by, crate::specs::Share::no_totals))]
 fn refused_by(number: u8) -> Totals
     ensures { result ≡ refused_by number }
 {
     Totals {
         traces: 1,
-        ticks: 0,
-        owned0: 0,
-        owned1: 0,
-        unowned: 0,
-        connected0: 0,
-        connected1: 0,
-        waited0: 0,
-        waited1: 0,
-        longest0: 0,
-        longest1: 0,
-        refused3: one_if_u64(number == 3),
-        refused5: one_if_u64(number == 5),
-        refused6: one_if_u64(number == 6),
-        refused7: one_if_u64(number == 7),
-        refused8: one_if_u64(number == 8),
-        refused10: one_if_u64(number == 10),
+        refused3: u64::from(number == 3),
+        refused5: u64::from(number == 5),
+        refused6: u64::from(number == 6),
+        refused7: u64::from(number == 7),
+        refused8: u64::from(number == 8),
+        refused10: u64::from(number == 10),
+        ..empty_totals()
     }
 }
 
 // ---- totals put together
 
-// A sum that stops at the top.
-fn plus_of(a: u64, b: u64) -> u64
-    ensures { result ≡ plus a b }
-{
-    if u64::MAX - a < b { u64::MAX } else { a + b }
-}
-
-fn larger_of(a: u64, b: u64) -> u64
-    ensures { result ≡ larger a b }
-{
-    if a < b { b } else { a }
-}
-
+// Sums that stop at the top, and of the longest waits the larger.
 fn put_together(x: Totals, y: Totals) -> Totals
     ensures { result ≡ together x y }
 {
     Totals {
-        traces: plus_of(x.traces, y.traces),
-        ticks: plus_of(x.ticks, y.ticks),
-        owned0: plus_of(x.owned0, y.owned0),
-        owned1: plus_of(x.owned1, y.owned1),
-        unowned: plus_of(x.unowned, y.unowned),
-        connected0: plus_of(x.connected0, y.connected0),
-        connected1: plus_of(x.connected1, y.connected1),
-        waited0: plus_of(x.waited0, y.waited0),
-        waited1: plus_of(x.waited1, y.waited1),
-        longest0: larger_of(x.longest0, y.longest0),
-        longest1: larger_of(x.longest1, y.longest1),
-        refused3: plus_of(x.refused3, y.refused3),
-        refused5: plus_of(x.refused5, y.refused5),
-        refused6: plus_of(x.refused6, y.refused6),
-        refused7: plus_of(x.refused7, y.refused7),
-        refused8: plus_of(x.refused8, y.refused8),
-        refused10: plus_of(x.refused10, y.refused10),
+        traces: x.traces.saturating_add(y.traces),
+        ticks: x.ticks.saturating_add(y.ticks),
+        owned0: x.owned0.saturating_add(y.owned0),
+        owned1: x.owned1.saturating_add(y.owned1),
+        unowned: x.unowned.saturating_add(y.unowned),
+        connected0: x.connected0.saturating_add(y.connected0),
+        connected1: x.connected1.saturating_add(y.connected1),
+        waited0: x.waited0.saturating_add(y.waited0),
+        waited1: x.waited1.saturating_add(y.waited1),
+        longest0: x.longest0.max(y.longest0),
+        longest1: x.longest1.max(y.longest1),
+        refused3: x.refused3.saturating_add(y.refused3),
+        refused5: x.refused5.saturating_add(y.refused5),
+        refused6: x.refused6.saturating_add(y.refused6),
+        refused7: x.refused7.saturating_add(y.refused7),
+        refused8: x.refused8.saturating_add(y.refused8),
+        refused10: x.refused10.saturating_add(y.refused10),
     }
 }
 
-// ---- the call
+// ---- the calls
 
-fn added_with(totals: Totals, number: u8) -> Added
-    ensures { result ≡ added_with totals number }
+// What a trace has of each total, from its reading. There is no answer buffer, so it is read with room for any.
+fn totals_of(read: Result<Accepted, Refusal>, t: &[u8]) -> Totals
+    requires { read ≡ read_alone t.now }
+    ensures { result ≡ totals_of (read_alone t.now) t.now }
 {
-    Added { totals, number }
-}
-
-// What a trace has of each total, and its number. There is no answer buffer, so it is read with room for any.
-fn totals_of(t: &[u8]) -> Added
-    ensures { result ≡ added_with (totals_of (read_alone t.now) t.now) (read_number (read_alone t.now)) }
-{
-    let read = read_trace(t, ANSWER_ROOM);
     match read {
-        TraceRead::Refused(why) => {
-            let number = refusal_number(why);
-            added_with(refused_by(number), number)
-        }
-        TraceRead::Accepted(_, n, kind) => {
-            let tally = count_events(fresh(kind), &t[HEAD_BYTES..], n);
-            added_with(shares_in(tally), 0)
+        Err(why) => refused_by(refusal_number(why)),
+        Ok(accepted) => {
+            let tally = count_events(fresh(accepted.kind), &t[HEAD_BYTES..], accepted.events);
+            shares_in(tally)
         }
     }
 }
 
-// A trace added to the totals: the totals after it, and 0 or the number of its refusal. Past 65,535 traces it is 6, and the totals are kept.
-pub fn add_trace(totals: Totals, t: &[u8]) -> Added
-    ensures { result ≡ added totals t.now }
+fn outcome_of(read: Result<Accepted, Refusal>) -> Result<(), Uncounted>
+    ensures { result ≡ read_told read }
 {
-    if totals.traces < MOST_TRACES {
-        let own = totals_of(t);
-        added_with(put_together(totals, own.totals), own.number)
-    } else {
-        added_with(totals, 6)
+    match read {
+        Err(why) => Err(Uncounted::BadTrace(why)),
+        Ok(_) => Ok(()),
     }
 }
 
-// Totals of other traces joined to these, as when traces are counted in several places: the totals of all of them, and 0. Where these are
-// more than 65,535 traces it is 6, and the first totals are kept.
-pub fn join(x: Totals, y: Totals) -> Added
-    ensures { result ≡ joined x y }
+// A trace added to the totals. One that is refused is counted under its number; past 65,535 traces the totals are kept.
+pub fn add_trace(totals: &mut Totals, t: &[u8]) -> Result<(), Uncounted>
+    ensures { (result ≡ trace_told totals.old t.now) × (added_with totals.new (told_number result) ≡ added totals.old t.now) }
 {
-    if MOST_TRACES < plus_of(x.traces, y.traces) {
-        added_with(x, 6)
-    } else {
-        added_with(put_together(x, y), 0)
+    if MOST_TRACES <= totals.traces {
+        return Err(Uncounted::PastMost);
     }
+    let read = read_trace(t, ANSWER_ROOM);
+    let own = totals_of(read, t);
+    *totals = put_together(*totals, own);
+    outcome_of(read)
+}
+
+// Totals of other traces joined to these, as when traces are counted in several places. Where both are of more than 65,535 traces the totals are kept.
+pub fn join(totals: &mut Totals, other: Totals) -> Result<(), Uncounted>
+    ensures { (result ≡ join_told totals.old other) × (added_with totals.new (told_number result) ≡ joined totals.old other) }
+{
+    if MOST_TRACES < totals.traces.saturating_add(other.traces) {
+        return Err(Uncounted::PastMost);
+    }
+    *totals = put_together(*totals, other);
+    Ok(())
 }

@@ -9,7 +9,7 @@ use lib.Dec.{eqb, ltb}
 use lib.ListN.{length, drop}
 use lib.Seq.{sets-eq}
 use borrow.Author.Tests.{ltb-true, ltb-false, not-false}
-use Rattle.std.specs.Prelude.{if◌then◌else◌}
+use Rattle.std.specs.Prelude.{if◌then◌else◌, Ok, Err}
 use Rattle.arbiter.specs.Words.{worth}
 use Rattle.arbiter.specs.Writing.{raws_bytes}
 use Rattle.arbiter.specs.Marks.{command, write, stop}
@@ -17,75 +17,45 @@ use Rattle.arbiter.specs.Traces.{raws_in}
 use Rattle.arbiter.proofs.Choice.{either, split}
 use Rattle.sheets.specs.declared.Fault.{Fault}
 use Rattle.sheets.specs.declared.Fault.TheVariants.{Unticked, NoRoom}
-use Rattle.sheets.specs.declared.Checked.{Checked}
-use Rattle.sheets.specs.declared.Checked.TheVariants.{Sound, Faulty}
-use Rattle.sheets.specs.declared.Place.{Place}
 use Rattle.sheets.specs.declared.Setting.{Setting}
 use Rattle.sheets.specs.declared.Order.{Order}
-use Rattle.sheets.specs.declared.OrderRead.{OrderRead}
-use Rattle.sheets.specs.declared.OrderRead.TheVariants.{Given, Withheld}
-use Rattle.sheets.specs.Sheets.{box_place, ticked, value_on, box_right, flag_right, boxes_right, check_sheet, check_pair, is_box, fault_number, part_of}
+use Rattle.sheets.specs.declared.Place.{Place}
+use Rattle.sheets.specs.Sheets.{OrFault, box_place, ticked, value_on, box_right}
+use Rattle.sheets.specs.Sheets.{flag_right, boxes_right, check_sheet, check_pair, is_box, fault_number, part_of}
 use Rattle.sheets.specs.Settings.{ticked_on_either, is_complete, value_at, setting_of, order_of, control_byte, order_events, order_count, order_bytes}
 use Rattle.sheets.specs.Settings.{read_complete}
 use Rattle.sheets.specs.Settings.{once_sound, read_order, ordered_of, buffer_of, ordered, ordered_buffer}
-use Rattle.sheets.specs.Stored.{stored, stored_register, stored_setting}
 use Rattle.sheets.specs.Laws.{HandedBack, Handed, SettingFound, OrderFound, EventsRead, EmptyNoEvents}
 use Rattle.sheets.proofs.Sound.{pair_sound, sheet_sound}
 use Rattle.sheets.proofs.Found.{board_first, house_else, always_ticked, fault_told}
-
--- ---- the bytes that are stored
-
--- Three events one after the other are what sets a register,
-pub register_stored : (l0 : List ℕ) {l1 l2 l3 : List ℕ} (at m p v : ℕ) → l1 ≡ stored l0 at (command m p) → l2 ≡ stored l1 (at + 4) (write m v)
-    → l3 ≡ stored l2 (at + 8) (stop m) → l3 ≡ stored_register l0 at m p v
-unfolding stored_register
-register_stored l0 at m p v first second third =
-    third
-    ∙ ap (λ (l : List ℕ). stored l (at + 8) (stop m)) second
-    ∙ ap (λ (l : List ℕ). stored (stored l (at + 4) (write m v)) (at + 8) (stop m)) first
-
--- two registers one master's events,
-pub setting_stored : (l0 : List ℕ) {l1 l2 : List ℕ} (at m v : ℕ) (s : Setting) → v ≡ control_byte s → l1 ≡ stored_register l0 at m 0x03 s.reserve
-    → l2 ≡ stored_register l1 (at + 12) m 0x01 v → l2 ≡ stored_setting l0 at m s
-unfolding stored_setting
-setting_stored l0 at m v s control first second =
-    second
-    ∙ ap (λ (l : List ℕ). stored_register l (at + 12) m 0x01 v) first
-    ∙ ap (stored_register (stored_register l0 at m 0x03 s.reserve) (at + 12) m 0x01) control
-
--- and two masters' the whole order's.
-pub order_stored : (l : List ℕ) (o : Order) → 48 ≤ length l
-    → stored_setting (stored_setting l 0 0 o.master0) 24 1 o.master1 ≡ raws_bytes (order_events o) ++ drop 48 l
-unfolding stored_setting stored_register stored order_events
-order_stored l o h = sets-eq (raws_bytes (order_events o)) l 0 h
 
 -- ---- what an order that is given has passed
 
 -- An order that is given has a sound pair, complete, with room, and is the pair's.
 pub record Passed (board house : List ℕ) (room : ℕ) (o : Order) : Type 0 where
-  pub sound : check_pair board house ≡ Sound
+  pub sound : check_pair board house ≡ Ok tt
   pub complete : is_complete board house ≡ true
   pub room_for : 48 ≤ room
   pub same : order_of board house ≡ o
 
-not_given : (f : Fault) (o : Order) → Withheld f ≡ Given o → ⊥
+not_given : (f : Fault) (o : Order) → Err f ≡ Ok o → ⊥
 not_given f o h = let z : ◌≡◌ {A = ℕ} 0 1 = cc in omega arith
 
-went_on : (b : Bool) (f : Fault) (y : OrderRead) (o : Order) → (if b then Withheld f else y) ≡ Given o → (b ≡ false) × (y ≡ Given o)
+went_on : (b : Bool) (f : Fault) (y : OrFault Order) (o : Order) → (if b then Err f else y) ≡ Ok o → (b ≡ false) × (y ≡ Ok o)
 went_on true f y o h = absurd (not_given f o h)
 went_on false f y o h = (refl, h)
 
-once_given : (x : Checked) (y : OrderRead) (o : Order) → once_sound x y ≡ Given o → (x ≡ Sound) × (y ≡ Given o)
-once_given Sound y o h = (refl, h)
-once_given (Faulty f) y o h = absurd (not_given f o h)
+once_given : (x : OrFault (Unit {0})) (y : OrFault Order) (o : Order) → once_sound x y ≡ Ok o → (x ≡ Ok tt) × (y ≡ Ok o)
+once_given (Ok tt) y o h = (refl, h)
+once_given (Err f) y o h = absurd (not_given f o h)
 
-pub given_passed : (board house : List ℕ) (room : ℕ) (o : Order) → read_order board house room ≡ Given o → Passed board house room o
+pub given_passed : (board house : List ℕ) (room : ℕ) (o : Order) → read_order board house room ≡ Ok o → Passed board house room o
 unfolding read_order read_complete
 given_passed board house room o h =
     let p1 = once_given (check_pair board house) _ o h in
     let p2 = went_on (not (is_complete board house)) Unticked _ o p1.1 in
-    let p3 = went_on (ltb room order_bytes) NoRoom (Given (order_of board house)) o p2.1 in
-    let last : Given (order_of board house) ≡ Given o = p3.1 in
+    let p3 = went_on (ltb room order_bytes) NoRoom (Ok (order_of board house)) o p2.1 in
+    let last : Ok (order_of board house) ≡ Ok o = p3.1 in
     record {
       sound = p1.0;
       complete = not-false (is_complete board house) p2.0;
@@ -94,23 +64,23 @@ given_passed board house room o h =
     }
 
 -- The number is 0 only where an order is given.
-zero_given : (r : OrderRead) → (ordered_of r).number ≡ 0 → (o : Order) × (r ≡ Given o)
+zero_given : (r : OrFault Order) → (ordered_of r).number ≡ 0 → (o : Order) × (r ≡ Ok o)
 unfolding ordered_of
-zero_given (Given o) h = (o, refl)
-zero_given (Withheld f) h = absurd (false≢true (sym (fault_told f) ∙ ap (λ (n : ℕ). eqb n 0) h))
+zero_given (Ok o) h = (o, refl)
+zero_given (Err f) h = absurd (false≢true (sym (fault_told f) ∙ ap (λ (n : ℕ). eqb n 0) h))
 
 pub zero_passed : (board house buffer : List ℕ) → (ordered board house buffer).number ≡ 0
-    → (read_order board house (length buffer) ≡ Given (order_of board house)) × Passed board house (length buffer) (order_of board house)
+    → (read_order board house (length buffer) ≡ Ok (order_of board house)) × Passed board house (length buffer) (order_of board house)
 unfolding ordered
 zero_passed board house buffer h =
     let (o, e) = zero_given (read_order board house (length buffer)) h in
     let p = given_passed board house (length buffer) o e in
-    (e ∙ ap Given (sym p.same), record { sound = p.sound; complete = p.complete; room_for = p.room_for; same = refl })
+    (e ∙ ap Ok (sym p.same), record { sound = p.sound; complete = p.complete; room_for = p.room_for; same = refl })
 
 pub events_read : EventsRead
 unfolding ordered_buffer buffer_of order_events raws_in
 events_read board house buffer h =
-    ap (λ (r : OrderRead). raws_in 12 (buffer_of r buffer)) (zero_passed board house buffer h).0
+    ap (λ (r : OrFault Order). raws_in 12 (buffer_of r buffer)) (zero_passed board house buffer h).0
 
 -- ---- six tests at once
 
@@ -161,22 +131,22 @@ either_ticked true y h e = absurd (true≢false e)
 either_ticked false y h e = h
 
 -- A box ticked on either sheet is handed back with the value that the order takes.
-handed : (section controller : ℕ) (board house : List ℕ) → check_pair board house ≡ Sound → is_box section controller ≡ true
+handed : (section controller : ℕ) (board house : List ℕ) → check_pair board house ≡ Ok tt → is_box section controller ≡ true
     → ticked_on_either (box_place section controller) board house ≡ true
     → Handed section controller (value_at (box_place section controller) board house) board house
 unfolding ticked_on_either value_at
 handed section controller board house e q t =
     let place : ℕ = box_place section controller in
     let back = always_ticked section controller board house in
-    let part : Place → List ℕ = λ p. part_of p board house in
+    let part : OrFault Place → List ℕ = λ p. part_of p board house in
     let value : Bool → List ℕ = λ b. 1 ∷ (if b then value_on place board else value_on place house) ∷ [] in
     split (ticked place board)
     (λ y.
     (let p = board_first section controller board house e q y in
-    ap part p ∙ subst (λ (x : Place). HandedBack x board house) p back ∙ ap value (sym y)))
+    ap part p ∙ subst (λ (x : OrFault Place). HandedBack x board house) p back ∙ ap value (sym y)))
     (λ n.
     (let p = house_else section controller board house e q n (either_ticked (ticked place board) (ticked place house) t n) in
-    ap part p ∙ subst (λ (x : Place). HandedBack x board house) p back ∙ ap value (sym n)))
+    ap part p ∙ subst (λ (x : OrFault Place). HandedBack x board house) p back ∙ ap value (sym n)))
 
 -- A value of 0 or 1 is the setting's.
 flag : (v : ℕ) → v < 2 → v ≡ worth 1 (eqb v 1)
@@ -188,7 +158,7 @@ on_small : (place : ℕ) (sheet : List ℕ) → flag_right place sheet ≡ true 
 unfolding flag_right
 on_small place sheet h = ltb-true (value_on place sheet) 2 ((and-eq-true_iff (box_right place sheet) (ltb (value_on place sheet) 2)).0 h).1
 
-flag_handed : (section controller : ℕ) (board house : List ℕ) → check_pair board house ≡ Sound → is_box section controller ≡ true
+flag_handed : (section controller : ℕ) (board house : List ℕ) → check_pair board house ≡ Ok tt → is_box section controller ≡ true
     → ticked_on_either (box_place section controller) board house ≡ true
     → flag_right (box_place section controller) board ≡ true → flag_right (box_place section controller) house ≡ true
     → Handed section controller (worth 1 (eqb (value_at (box_place section controller) board house) 1)) board house
@@ -202,7 +172,7 @@ flag_handed section controller board house e q t b h =
 abbrev Flags : ℕ → List ℕ → Type 0
 Flags controller sheet = (flag_right (box_place 1 controller) sheet ≡ true) × (flag_right (box_place 2 controller) sheet ≡ true)
 
-sheet_flags : (sheet : List ℕ) → check_sheet sheet ≡ Sound → Flags 0 sheet × Flags 1 sheet
+sheet_flags : (sheet : List ℕ) → check_sheet sheet ≡ Ok tt → Flags 0 sheet × Flags 1 sheet
 unfolding boxes_right
 sheet_flags sheet h =
     let all =
@@ -210,7 +180,7 @@ sheet_flags sheet h =
     (sheet_sound sheet h).1 in
     ((all.2, all.4), (all.3, all.5))
 
-setting_found : (controller : ℕ) (board house : List ℕ) → check_pair board house ≡ Sound → is_complete board house ≡ true
+setting_found : (controller : ℕ) (board house : List ℕ) → check_pair board house ≡ Ok tt → is_complete board house ≡ true
     → is_box 0 controller ≡ true → Flags controller board → Flags controller house → SettingFound controller (setting_of controller board house) board house
 unfolding setting_of
 setting_found controller board house e c q b h = (
@@ -230,26 +200,20 @@ order_found board house buffer h =
 
 -- ---- what the call leaves
 
--- Where an order is given, 0, the count and its events;
-pub given_left : (board house buffer : List ℕ) (o : Order) → read_order board house (length buffer) ≡ Given o
-    → (record { number = 0; count = 12 } ≡ ordered board house buffer) × (raws_bytes (order_events o) ++ drop 48 buffer ≡ ordered_buffer board house buffer)
-unfolding ordered ordered_of ordered_buffer buffer_of
-given_left board house buffer o h = (ap ordered_of (sym h), ap (λ (r : OrderRead). buffer_of r buffer) (sym h))
-
--- where it is withheld, the number, and nothing written.
-pub withheld_left : (board house buffer : List ℕ) (f : Fault) → read_order board house (length buffer) ≡ Withheld f
+-- Where it is withheld, the number, and nothing written.
+pub withheld_left : (board house buffer : List ℕ) (f : Fault) → read_order board house (length buffer) ≡ Err f
     → (record { number = fault_number f; count = 0 } ≡ ordered board house buffer) × (buffer ≡ ordered_buffer board house buffer)
 unfolding ordered ordered_of ordered_buffer buffer_of
-withheld_left board house buffer f h = (ap ordered_of (sym h), ap (λ (r : OrderRead). buffer_of r buffer) (sym h))
+withheld_left board house buffer f h = (ap ordered_of (sym h), ap (λ (r : OrFault Order). buffer_of r buffer) (sym h))
 
-empty_withheld : (section controller : ℕ) (board house : List ℕ) (room : ℕ) → check_pair board house ≡ Sound → is_box section controller ≡ true
-    → ticked_on_either (box_place section controller) board house ≡ false → read_order board house room ≡ Withheld Unticked
+empty_withheld : (section controller : ℕ) (board house : List ℕ) (room : ℕ) → check_pair board house ≡ Ok tt → is_box section controller ≡ true
+    → ticked_on_either (box_place section controller) board house ≡ false → read_order board house room ≡ Err Unticked
 unfolding read_order read_complete
 empty_withheld section controller board house room e q n =
     let short : is_complete board house ≡ false =
     split (is_complete board house) (λ y. absurd (true≢false (sym (complete_ticked board house y section controller q) ∙ n))) (λ x. x) in
-    ap (λ (x : Checked). once_sound x (read_complete board house room)) e
-    ∙ ap (λ (b : Bool). if not b then Withheld Unticked else if ltb room order_bytes then Withheld NoRoom else Given (order_of board house)) short
+    ap (λ (x : OrFault (Unit {0})). once_sound x (read_complete board house room)) e
+    ∙ ap (λ (b : Bool). if not b then Err Unticked else if ltb room order_bytes then Err NoRoom else Ok (order_of board house)) short
 
 pub empty_no_events : EmptyNoEvents
 empty_no_events section controller board house buffer e q n =
@@ -258,10 +222,10 @@ empty_no_events section controller board house buffer e q n =
 
 -- ---- the count that is answered is 12 or 0
 
-few_of : (o : OrderRead) → (ordered_of o).count ≤ order_count
+few_of : (o : OrFault Order) → (ordered_of o).count ≤ order_count
 unfolding ordered_of
-few_of (Given o) = omega arith
-few_of (Withheld f) = omega arith
+few_of (Ok o) = omega arith
+few_of (Err f) = omega arith
 
 pub ordered_few : (board house buffer : List ℕ) → (ordered board house buffer).count ≤ order_count
 unfolding ordered

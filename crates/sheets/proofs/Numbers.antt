@@ -1,19 +1,18 @@
 -- The paper's numbers: whoever answers by the map of a pair of sheets, or of a box looked up, answers by its number too.
 -- Assumes nothing.
 use Prim.Native.Nat.{ℕ}
-use mathlib.Core.Path.{◌≡◌, refl, ap, ◌∙◌}
+use mathlib.Core.Path.{◌≡◌, refl, sym, ap, ◌∙◌}
 use mathlib.Core.Bool.{Bool, true, false, not, ◌||◌}
 use mathlib.Core.List.{List}
 use lib.Dec.{ltb}
 use lib.ListN.{length}
-use Rattle.std.specs.Prelude.{if◌then◌else◌}
+use Rattle.std.specs.Prelude.{if◌then◌else◌, Ok, Err}
 use Rattle.sheets.specs.declared.Fault.{Fault}
 use Rattle.sheets.specs.declared.Fault.TheVariants.{TooShort, WrongCount, BadBox, BytesAfterEnd, NoSuchBox, Unticked, NoRoom}
-use Rattle.sheets.specs.declared.Checked.{Checked}
-use Rattle.sheets.specs.declared.Checked.TheVariants.{Sound, Faulty}
+use Rattle.sheets.specs.declared.Place.TheVariants.{Board, House}
 use Rattle.sheets.specs.declared.Place.{Place}
-use Rattle.sheets.specs.declared.Place.TheVariants.{Board, House, Refused}
-use Rattle.sheets.specs.Sheets.{sheet_bytes, box_place, ticked, is_box, counts_right, boxes_right, check_sheet, and_then, check_pair, place_at, box_on}
+use Rattle.sheets.specs.Sheets.{OrFault, sheet_bytes, box_place, ticked, is_box}
+use Rattle.sheets.specs.Sheets.{counts_right, boxes_right, check_sheet, and_then, check_pair, place_at, box_on}
 use Rattle.sheets.specs.Sheets.{once_checked}
 use Rattle.sheets.specs.Sheets.{place_of}
 use Rattle.sheets.specs.Sheets.{fault_number, checked_number, place_number, first_refusal, sheet_number, pair_number, box_number, look_up_number}
@@ -21,8 +20,8 @@ use Rattle.sheets.specs.Sheets.{fault_number, checked_number, place_number, firs
 -- ---- a sheet, and a pair
 
 checked_number_lem : (short counts boxes long : Bool) →
-    checked_number (if short then Faulty TooShort else if not counts then Faulty WrongCount else if not boxes then Faulty BadBox else if long
-    then Faulty BytesAfterEnd else Sound)
+    checked_number (if short then Err TooShort else if not counts then Err WrongCount else if not boxes then Err BadBox else if long
+    then Err BytesAfterEnd else Ok tt)
     ≡ (if short then 5 else if not counts then 10 else if not boxes then 3 else if long then 7 else 0)
 checked_number_lem true counts boxes long = refl
 checked_number_lem false false boxes long = refl
@@ -44,25 +43,28 @@ refused_first NoSuchBox n = refl
 refused_first Unticked n = refl
 refused_first NoRoom n = refl
 
-both_number : (x y : Checked) → checked_number (and_then x y) ≡ first_refusal (checked_number x) (checked_number y)
-both_number Sound y = refl
-both_number (Faulty f) y = refused_first f (checked_number y)
+both_number : (x y : OrFault (Unit {0})) → checked_number (and_then x y) ≡ first_refusal (checked_number x) (checked_number y)
+both_number (Ok tt) y = refl
+both_number (Err f) y = refused_first f (checked_number y)
 
 pair_number_lem : (board house : List ℕ) → checked_number (check_pair board house) ≡ pair_number board house
 unfolding check_pair pair_number
 pair_number_lem board house = both_number (check_sheet board) (check_sheet house) ∙ simp sheet_number_lem
 
-pub pair_told : (board house : List ℕ) (r : Checked) → r ≡ check_pair board house → (r ≡ check_pair board house) × (checked_number r ≡ pair_number board house)
-pair_told board house r e = (e, ap checked_number e ∙ pair_number_lem board house)
+pub pair_passed : (board house : List ℕ) → check_pair board house ≡ Ok tt → 0 ≡ pair_number board house
+pair_passed board house e = ap checked_number (sym e) ∙ pair_number_lem board house
+
+pub pair_refused : (board house : List ℕ) (f : Fault) → check_pair board house ≡ Err f → fault_number f ≡ pair_number board house
+pair_refused board house f e = ap checked_number (sym e) ∙ pair_number_lem board house
 
 -- ---- a box looked up
 
-once_number : (x : Checked) (p : Place) → place_number (once_checked x p) ≡ first_refusal (checked_number x) (place_number p)
-once_number Sound p = refl
-once_number (Faulty f) p = refused_first f (place_number p)
+once_number : (x : OrFault (Unit {0})) (p : OrFault Place) → place_number (once_checked x p) ≡ first_refusal (checked_number x) (place_number p)
+once_number (Ok tt) p = refl
+once_number (Err f) p = refused_first f (place_number p)
 
 found_number : (is onBoard onHouse : Bool) (at : ℕ) →
-    place_number (if is then (if onBoard then Board at else if onHouse then House at else Refused Unticked) else Refused NoSuchBox)
+    place_number (if is then (if onBoard then Ok (Board at) else if onHouse then Ok (House at) else Err Unticked) else Err NoSuchBox)
     ≡ (if not is then 15 else if not (onBoard || onHouse) then 14 else 0)
 found_number false onBoard onHouse at = refl
 found_number true true onHouse at = refl
@@ -82,6 +84,6 @@ unfolding place_of look_up_number
 place_number_lem section controller board house = once_number (check_pair board house) (box_on section controller board house)
     ∙ simp (pair_number_lem, box_number_lem)
 
-pub place_told : (section controller : ℕ) (board house : List ℕ) (r : Place) → r ≡ place_of section controller board house →
-    (r ≡ place_of section controller board house) × (place_number r ≡ look_up_number section controller board house)
-place_told section controller board house r e = (e, ap place_number e ∙ place_number_lem section controller board house)
+pub place_told : (section controller : ℕ) (board house : List ℕ) (r : OrFault Place) → r ≡ place_of section controller board house
+    → place_number r ≡ look_up_number section controller board house
+place_told section controller board house r e = ap place_number e ∙ place_number_lem section controller board house

@@ -2,10 +2,9 @@
 -- Assumes nothing.
 use Rattle.std.specs.Prelude.{ℕ, ◌≡◌, List, [], ◌∷◌, ◌++◌, map, take, drop, replicate}
 use Rattle.sheets.specs.declared.Place.{Place}
-use Rattle.sheets.specs.Sheets.{place_of, place_number, part_of}
-use Rattle.sheets.specs.declared.Wait.{Wait}
+use Rattle.sheets.specs.Sheets.{OrFault, place_of, place_number, part_of}
 use Rattle.sheets.specs.Settings.{ordered, ordered_buffer}
-use Rattle.sheets.specs.Waits.{wait_of}
+use Rattle.sheets.specs.Waits.{Wait, wait_of}
 
 -- ---- sheets
 
@@ -41,7 +40,7 @@ pub record Row : Type 0 where
 
 abbrev pub row : ℕ → ℕ → List ℕ → List ℕ → ℕ → List ℕ → Row
 row section controller b h number part =
-    let place : Place = place_of section controller b h in
+    let place : OrFault Place = place_of section controller b h in
     record { found = (place_number place, part_of place b h); paper = (number, part) }
 
 unfoldable pub lookups : List Row

@@ -1,6 +1,5 @@
 pub mod Sheets
 pub mod Settings
-pub mod Stored
 pub mod Waits
 pub mod Laws
 pub mod Started

@@ -1,19 +1,15 @@
 -- Document 02, request #106: the settings that a complete pair of sheets orders, its twelve events, and what the call that writes them leaves.
 -- Assumes nothing.
-use Rattle.std.specs.Prelude.{ℕ, ◌+◌, Bool, not, ◌&&◌, ◌||◌, List, [], ◌∷◌, ◌++◌, eqb, ltb, length, drop, if◌then◌else◌}
+use Rattle.std.specs.Prelude.{ℕ, ◌+◌, Bool, not, ◌&&◌, ◌||◌, List, [], ◌∷◌, ◌++◌, eqb, ltb, length, drop, if◌then◌else◌, Result, Ok, Err}
 use Rattle.arbiter.specs.Words.{worth}
 use Rattle.arbiter.specs.Writing.{raws_bytes}
 use Rattle.arbiter.specs.Marks.{command, write, stop}
 use Rattle.arbiter.specs.declared.Raw.{Raw}
+use Rattle.sheets.specs.declared.Fault.{Fault}
 use Rattle.sheets.specs.declared.Fault.TheVariants.{Unticked, NoRoom}
-use Rattle.sheets.specs.declared.Checked.{Checked}
-use Rattle.sheets.specs.declared.Checked.TheVariants.{Sound, Faulty}
 use Rattle.sheets.specs.declared.Setting.{Setting}
 use Rattle.sheets.specs.declared.Order.{Order}
-use Rattle.sheets.specs.declared.OrderRead.{OrderRead}
-use Rattle.sheets.specs.declared.OrderRead.TheVariants.{Given, Withheld}
-use Rattle.sheets.specs.declared.Ordered.{Ordered}
-use Rattle.sheets.specs.Sheets.{reserve_section, priority_section, idle_section, box_place, ticked, value_on, check_pair, fault_number}
+use Rattle.sheets.specs.Sheets.{OrFault, reserve_section, priority_section, idle_section, box_place, ticked, value_on, check_pair, fault_number}
 
 -- ---- the order
 
@@ -68,34 +64,46 @@ order_count = 12
 abbrev pub order_bytes : ℕ
 order_bytes = 48
 
+-- the order that a pair of sheets gives, or why it gives none
 -- ---- the refusals: those of the two sheets; "then 14 unticked in both"; "For the events 9 comes last, under 48 bytes". `room` is the
 -- length of the lent buffer.
 
-unfoldable pub read_complete : List ℕ → List ℕ → ℕ → OrderRead
+unfoldable pub read_complete : List ℕ → List ℕ → ℕ → OrFault Order
 read_complete board house room =
-    if not (is_complete board house) then Withheld Unticked
-    else if ltb room order_bytes then Withheld NoRoom
-    else Given (order_of board house)
+    if not (is_complete board house) then Err Unticked
+    else if ltb room order_bytes then Err NoRoom
+    else Ok (order_of board house)
 
-abbrev pub once_sound : Checked → OrderRead → OrderRead
-once_sound Sound read = read
-once_sound (Faulty f) read = Withheld f
+abbrev pub once_sound : OrFault (Unit {0}) → OrFault Order → OrFault Order
+once_sound (Ok tt) read = read
+once_sound (Err f) read = Err f
 
-unfoldable pub read_order : List ℕ → List ℕ → ℕ → OrderRead
+unfoldable pub read_order : List ℕ → List ℕ → ℕ → OrFault Order
 read_order board house room = once_sound (check_pair board house) (read_complete board house room)
 
 -- ---- what the call leaves: 0 and twelve events, their bytes at the buffer's front; "a refusal writes nothing"
 
-unfoldable pub ordered_of : OrderRead → Ordered
-ordered_of (Given o) = record { number = 0; count = order_count }
-ordered_of (Withheld f) = record { number = fault_number f; count = 0 }
+-- what the call reports beside the events: the number, and how many events there are
+pub record Ordered : Type 0 where
+  pub number : ℕ
+  pub count : ℕ
 
-unfoldable pub buffer_of : OrderRead → List ℕ → List ℕ
-buffer_of (Given o) buffer = raws_bytes (order_events o) ++ drop order_bytes buffer
-buffer_of (Withheld f) buffer = buffer
+unfoldable pub ordered_of : OrFault Order → Ordered
+ordered_of (Ok o) = record { number = 0; count = order_count }
+ordered_of (Err f) = record { number = fault_number f; count = 0 }
+
+unfoldable pub buffer_of : OrFault Order → List ℕ → List ℕ
+buffer_of (Ok o) buffer = raws_bytes (order_events o) ++ drop order_bytes buffer
+buffer_of (Err f) buffer = buffer
 
 unfoldable pub ordered : List ℕ → List ℕ → List ℕ → Ordered
 ordered board house buffer = ordered_of (read_order board house (length buffer))
 
 unfoldable pub ordered_buffer : List ℕ → List ℕ → List ℕ → List ℕ
 ordered_buffer board house buffer = buffer_of (read_order board house (length buffer)) buffer
+
+-- ---- what the call hands back: how many events, or why there are none
+
+abbrev pub order_told : Result ℕ Fault → Ordered
+order_told (Ok n) = record { number = 0; count = n }
+order_told (Err f) = record { number = fault_number f; count = 0 }

@@ -1,14 +1,12 @@
 -- Document 02, request #106: what bytes are a sheet, with the refusals in their order, and the looking up of a box on two sheets.
 -- Assumes nothing.
-use Rattle.std.specs.Prelude.{ℕ, ◌+◌, ◌*◌, Bool, not, ◌&&◌, ◌||◌, List, [], eqb, ltb, length, take, drop, if◌then◌else◌}
+use Rattle.std.specs.Prelude.{ℕ, ◌+◌, ◌*◌, Bool, not, ◌&&◌, ◌||◌, List, [], eqb, ltb, length, take, drop, if◌then◌else◌, Result, Ok, Err}
 use Rattle.arbiter.specs.Events.{zero_or_one}
 use Rattle.arbiter.specs.Traces.{byte_at}
 use Rattle.sheets.specs.declared.Fault.{Fault}
 use Rattle.sheets.specs.declared.Fault.TheVariants.{TooShort, WrongCount, BadBox, BytesAfterEnd, NoSuchBox, Unticked, NoRoom}
-use Rattle.sheets.specs.declared.Checked.{Checked}
-use Rattle.sheets.specs.declared.Checked.TheVariants.{Sound, Faulty}
 use Rattle.sheets.specs.declared.Place.{Place}
-use Rattle.sheets.specs.declared.Place.TheVariants.{Board, House, Refused}
+use Rattle.sheets.specs.declared.Place.TheVariants.{Board, House}
 
 -- ---- the sheet: "three sections in order, each after its count byte 2: reserve boxes, priority boxes, idle boxes, one for each controller.
 -- A box is two bytes, ticked (0 or 1) and value". Sections count from 0, and so do controllers.
@@ -39,6 +37,10 @@ ticked place sheet = eqb (byte_at place sheet) 1
 abbrev pub value_on : ℕ → List ℕ → ℕ
 value_on place sheet = byte_at (place + 1) sheet
 
+-- what is found, or why it is refused: of bytes as a sheet or two of them as a pair, of a box, of an order
+abbrev pub OrFault : Type 0 → Type 0
+OrFault A = Result A Fault
+
 -- ---- which bytes are a sheet
 
 -- "each after its count byte 2"
@@ -66,45 +68,45 @@ boxes_right sheet =
     && flag_right (box_place idle_section 1) sheet
 
 -- "Refusals, in order: 5 under 15 bytes, 10 wrong count, 3 a tick or value out of range or an unticked value not 0, 7 bytes after the end"
-unfoldable pub check_sheet : List ℕ → Checked
+unfoldable pub check_sheet : List ℕ → OrFault (Unit {0})
 check_sheet sheet =
-    if ltb (length sheet) sheet_bytes then Faulty TooShort
-    else if not (counts_right sheet) then Faulty WrongCount
-    else if not (boxes_right sheet) then Faulty BadBox
-    else if ltb sheet_bytes (length sheet) then Faulty BytesAfterEnd
-    else Sound
+    if ltb (length sheet) sheet_bytes then Err TooShort
+    else if not (counts_right sheet) then Err WrongCount
+    else if not (boxes_right sheet) then Err BadBox
+    else if ltb sheet_bytes (length sheet) then Err BytesAfterEnd
+    else Ok tt
 
 -- "board sheet first", and then all of the house sheet
-abbrev pub and_then : Checked → Checked → Checked
-and_then Sound second = second
-and_then (Faulty f) second = Faulty f
+abbrev pub and_then : OrFault (Unit {0}) → OrFault (Unit {0}) → OrFault (Unit {0})
+and_then (Ok tt) second = second
+and_then (Err f) second = Err f
 
-unfoldable pub check_pair : List ℕ → List ℕ → Checked
+unfoldable pub check_pair : List ℕ → List ℕ → OrFault (Unit {0})
 check_pair board house = and_then (check_sheet board) (check_sheet house)
 
 -- ---- looking up a box
 
 -- "Looking up a box takes the board sheet's if ticked, else the house sheet's"; "14 unticked in both"
-unfoldable pub place_at : ℕ → List ℕ → List ℕ → Place
+unfoldable pub place_at : ℕ → List ℕ → List ℕ → OrFault Place
 place_at place board house =
-    if ticked place board then Board place
-    else if ticked place house then House place
-    else Refused Unticked
+    if ticked place board then Ok (Board place)
+    else if ticked place house then Ok (House place)
+    else Err Unticked
 
 abbrev pub is_box : ℕ → ℕ → Bool
 is_box section controller = ltb section 3 && ltb controller 2
 
 -- "then 15 no such section or controller"
-unfoldable pub box_on : ℕ → ℕ → List ℕ → List ℕ → Place
+unfoldable pub box_on : ℕ → ℕ → List ℕ → List ℕ → OrFault Place
 box_on section controller board house =
-    if is_box section controller then place_at (box_place section controller) board house else Refused NoSuchBox
+    if is_box section controller then place_at (box_place section controller) board house else Err NoSuchBox
 
-abbrev pub once_checked : Checked → Place → Place
-once_checked Sound found = found
-once_checked (Faulty f) found = Refused f
+abbrev pub once_checked : OrFault (Unit {0}) → OrFault Place → OrFault Place
+once_checked (Ok tt) found = found
+once_checked (Err f) found = Err f
 
 -- where the box of a section and a controller is taken from
-unfoldable pub place_of : ℕ → ℕ → List ℕ → List ℕ → Place
+unfoldable pub place_of : ℕ → ℕ → List ℕ → List ℕ → OrFault Place
 place_of section controller board house = once_checked (check_pair board house) (box_on section controller board house)
 
 -- ---- the paper's numbers: "5 under 15 bytes, 10 wrong count, 3 a tick or value out of range .., 7 bytes after the end ..; 15 no such section
@@ -119,14 +121,14 @@ fault_number NoSuchBox = 15
 fault_number Unticked = 14
 fault_number NoRoom = 9
 
-abbrev pub checked_number : Checked → ℕ
-checked_number Sound = 0
-checked_number (Faulty f) = fault_number f
+abbrev pub checked_number : OrFault (Unit {0}) → ℕ
+checked_number (Ok tt) = 0
+checked_number (Err f) = fault_number f
 
-abbrev pub place_number : Place → ℕ
-place_number (Board at) = 0
-place_number (House at) = 0
-place_number (Refused f) = fault_number f
+abbrev pub place_number : OrFault Place → ℕ
+place_number (Ok (Board at)) = 0
+place_number (Ok (House at)) = 0
+place_number (Err f) = fault_number f
 
 -- the same, said of the bytes: the first refusal that is due, or 0
 abbrev pub first_refusal : ℕ → ℕ → ℕ
@@ -159,13 +161,13 @@ look_up_number section controller board house = first_refusal (pair_number board
 abbrev pub box_bytes : ℕ
 box_bytes = 2
 
-unfoldable pub part_of : Place → List ℕ → List ℕ → List ℕ
-part_of (Board at) board house = take box_bytes (drop at board)
-part_of (House at) board house = take box_bytes (drop at house)
-part_of (Refused f) board house = []
+unfoldable pub part_of : OrFault Place → List ℕ → List ℕ → List ℕ
+part_of (Ok (Board at)) board house = take box_bytes (drop at board)
+part_of (Ok (House at)) board house = take box_bytes (drop at house)
+part_of (Err f) board house = []
 
 -- where it starts. A pointer is a block of memory and a place in it, so this says of which sheet the part is, and from which byte on.
-unfoldable pub start_of : Place → ℕ × ℕ → ℕ × ℕ → ℕ × ℕ
-start_of (Board at) board house = (board.0, at + board.1)
-start_of (House at) board house = (house.0, at + house.1)
-start_of (Refused f) board house = board
+unfoldable pub start_of : OrFault Place → ℕ × ℕ → ℕ × ℕ → ℕ × ℕ
+start_of (Ok (Board at)) board house = (board.0, at + board.1)
+start_of (Ok (House at)) board house = (house.0, at + house.1)
+start_of (Err f) board house = board

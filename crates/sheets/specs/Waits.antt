@@ -1,17 +1,16 @@
 -- How long a controller can wait, by what a complete pair of sheets orders for the other: a grade and a number of ticks. What each grade promises is
 -- said and proved in the crate `guarantee`.
 -- Assumes nothing.
-use Rattle.std.specs.Prelude.{ℕ, ◌+◌, ◌-◌, not, List, ltb, if◌then◌else◌}
+use Rattle.std.specs.Prelude.{ℕ, ◌+◌, ◌-◌, not, List, ltb, if◌then◌else◌, Result, Ok, Err}
 use Rattle.arbiter.specs.Rules.{limit_of}
 use Rattle.arbiter.specs.Traces.{is_kind, kind_of}
 use Rattle.arbiter.specs.declared.Kind.{Kind}
 use Rattle.sheets.specs.declared.Fault.{Fault}
 use Rattle.sheets.specs.declared.Fault.TheVariants.{BadBox, NoSuchBox, Unticked}
-use Rattle.sheets.specs.declared.Checked.{Checked}
-use Rattle.sheets.specs.declared.Checked.TheVariants.{Sound, Faulty}
 use Rattle.sheets.specs.declared.Setting.{Setting}
-use Rattle.sheets.specs.declared.Wait.{Wait}
-use Rattle.sheets.specs.Sheets.{check_pair, fault_number}
+use Rattle.sheets.specs.declared.Bound.{Bound}
+use Rattle.sheets.specs.declared.Bound.TheVariants.{BehindLive, BehindSilent, Unbounded}
+use Rattle.sheets.specs.Sheets.{OrFault, check_pair, fault_number}
 use Rattle.sheets.specs.Settings.{is_complete, setting_of}
 
 -- ---- the grades
@@ -27,6 +26,12 @@ silent = 2
 -- not bounded
 abbrev pub unbounded : ℕ
 unbounded = 3
+
+-- 0, a grade and the ticks of it, 0 for `unbounded`; or a refusal's number, 0 and 0
+pub record Wait : Type 0 where
+  pub number : ℕ
+  pub grade : ℕ
+  pub ticks : ℕ
 
 abbrev pub wait : ℕ → ℕ → Wait
 wait grade ticks = record { number = 0; grade = grade; ticks = ticks }
@@ -54,9 +59,17 @@ wait_on controller kind board house =
     else if not (is_complete board house) then withheld Unticked
     else wait_behind (kind_of kind) (setting_of (1 - controller) board house)
 
-abbrev pub once_sound_wait : Checked → Wait → Wait
-once_sound_wait Sound found = found
-once_sound_wait (Faulty f) found = withheld f
+abbrev pub once_sound_wait : OrFault (Unit {0}) → Wait → Wait
+once_sound_wait (Ok tt) found = found
+once_sound_wait (Err f) found = withheld f
 
 unfoldable pub wait_of : ℕ → ℕ → List ℕ → List ℕ → Wait
 wait_of controller kind board house = once_sound_wait (check_pair board house) (wait_on controller kind board house)
+
+-- ---- what the call hands back
+
+abbrev pub wait_told : Result Bound Fault → Wait
+wait_told (Ok (BehindLive n)) = wait live n
+wait_told (Ok (BehindSilent n)) = wait silent n
+wait_told (Ok Unbounded) = wait unbounded 0
+wait_told (Err f) = withheld f

@@ -1,95 +1,86 @@
 // The settings that a complete pair of sheets orders for both masters, and the twelve events of that order. (`orders` is the crate of request
 // #109: the orders of two scripts.)
-ghost use Rattle.std.specs.Prelude.{◌+◌, ◌≤◌, ◌<◌, ◌≡◌, ◌++◌, length, drop};
-ghost use Rattle.arbiter.specs.Marks.{raw};
+ghost use Rattle.std.specs.Prelude.{◌+◌, ◌≤◌, ◌<◌, ◌≡◌, ◌++◌, [], ◌∷◌, length, drop};
+ghost use Rattle.arbiter.specs.Marks.{command, write, stop};
 ghost use Rattle.arbiter.specs.Writing.{raws_bytes};
-ghost use Rattle.sheets.specs.Settings.{ticked_on_either, is_complete, value_at, setting_of, order_of, read_complete, read_order, control_byte, order_events, ordered, ordered_buffer};
-ghost use Rattle.sheets.specs.Stored.{stored, stored_register, stored_setting};
+ghost use Rattle.sheets.specs.Settings.{ticked_on_either, is_complete, value_at, setting_of, order_of, read_complete, read_order, control_byte, setting_events, order_events, ordered, ordered_buffer, order_told};
 
-use crate::sheet::{check_pair, fault_number};
-use crate::{Checked, Fault, Order, OrderRead, Ordered, Setting};
-use bits::worth_of;
+use crate::pair::{Pair, pair_of};
+use crate::{Fault, Order, Setting};
 
 #[tactic(auto, unfolding(crate::specs::Settings::ticked_on_either))]
-fn ticked_on_either(board: &[u8], house: &[u8], at: usize) -> bool
-    requires { (at < length board.now) × (at < length house.now) }
-    ensures { result ≡ ticked_on_either at board.now house.now }
+fn is_ticked_on_either(pair: Pair, at: usize) -> bool
+    requires { at < 15 }
+    ensures { result ≡ ticked_on_either at pair.entry.board.bytes.now pair.entry.house.bytes.now }
 {
-    (board[at] == 1) | (house[at] == 1)
+    pair.board.is_ticked(at) | pair.house.is_ticked(at)
 }
 
 #[tactic(auto, unfolding(crate::specs::Settings::is_complete))]
-pub(crate) fn is_complete(board: &[u8], house: &[u8]) -> bool
-    requires { (15 ≤ length board.now) × (15 ≤ length house.now) }
-    ensures { result ≡ is_complete board.now house.now }
+pub(crate) fn is_complete(pair: Pair) -> bool
+    ensures { result ≡ is_complete pair.entry.board.bytes.now pair.entry.house.bytes.now }
 {
-    ticked_on_either(board, house, 1)
-        & ticked_on_either(board, house, 3)
-        & ticked_on_either(board, house, 6)
-        & ticked_on_either(board, house, 8)
-        & ticked_on_either(board, house, 11)
-        & ticked_on_either(board, house, 13)
+    is_ticked_on_either(pair, 1)
+        & is_ticked_on_either(pair, 3)
+        & is_ticked_on_either(pair, 6)
+        & is_ticked_on_either(pair, 8)
+        & is_ticked_on_either(pair, 11)
+        & is_ticked_on_either(pair, 13)
 }
 
 // The value of a box that is ticked on one sheet or the other.
 #[tactic(auto, unfolding(crate::specs::Settings::value_at))]
-fn value_at(board: &[u8], house: &[u8], at: usize) -> u8
-    requires { (at + 2 ≤ length board.now) × (at + 2 ≤ length house.now) }
-    ensures { result ≡ value_at at board.now house.now }
+fn value_at(pair: Pair, at: usize) -> u8
+    requires { at + 2 ≤ 15 }
+    ensures { result ≡ value_at at pair.entry.board.bytes.now pair.entry.house.bytes.now }
 {
-    if board[at] == 1 {
-        board[at + 1]
+    if pair.board.is_ticked(at) {
+        pair.board.value(at)
     } else {
-        house[at + 1]
+        pair.house.value(at)
     }
 }
 
 #[tactic(auto, unfolding(crate::specs::Settings::setting_of))]
-pub(crate) fn setting_of(board: &[u8], house: &[u8], controller: usize) -> Setting
-    requires { (controller < 2) × (15 ≤ length board.now) × (15 ≤ length house.now) }
-    ensures { result ≡ setting_of controller board.now house.now }
+pub(crate) fn setting_of(pair: Pair, controller: usize) -> Setting
+    requires { controller < 2 }
+    ensures { result ≡ setting_of controller pair.entry.board.bytes.now pair.entry.house.bytes.now }
 {
     Setting {
-        reserve: value_at(board, house, 1 + 2 * controller),
-        priority: value_at(board, house, 6 + 2 * controller) == 1,
-        idle: value_at(board, house, 11 + 2 * controller) == 1,
+        reserve: value_at(pair, 1 + 2 * controller),
+        priority: value_at(pair, 6 + 2 * controller) == 1,
+        idle: value_at(pair, 11 + 2 * controller) == 1,
     }
 }
 
 #[tactic(auto, unfolding(crate::specs::Settings::order_of))]
-fn order_of(board: &[u8], house: &[u8]) -> Order
-    requires { (15 ≤ length board.now) × (15 ≤ length house.now) }
-    ensures { result ≡ order_of board.now house.now }
+fn order_of(pair: Pair) -> Order
+    ensures { result ≡ order_of pair.entry.board.bytes.now pair.entry.house.bytes.now }
 {
     Order {
-        master0: setting_of(board, house, 0),
-        master1: setting_of(board, house, 1),
+        master0: setting_of(pair, 0),
+        master1: setting_of(pair, 1),
     }
 }
 
 #[tactic(auto, unfolding(crate::specs::Settings::read_complete))]
-fn read_complete(board: &[u8], house: &[u8], room: usize) -> OrderRead
-    requires { (15 ≤ length board.now) × (15 ≤ length house.now) }
-    ensures { result ≡ read_complete board.now house.now room }
+fn read_complete(pair: Pair, room: usize) -> Result<Order, Fault>
+    ensures { result ≡ read_complete pair.entry.board.bytes.now pair.entry.house.bytes.now room }
 {
-    if is_complete(board, house) {
-        if room < 48 {
-            return OrderRead::Withheld(Fault::NoRoom);
-        }
-        return OrderRead::Given(order_of(board, house));
+    if !is_complete(pair) {
+        return Err(Fault::Unticked);
     }
-    OrderRead::Withheld(Fault::Unticked)
+    if room < 48 {
+        return Err(Fault::NoRoom);
+    }
+    Ok(order_of(pair))
 }
 
-#[tactic(auto, using(crate::proofs::Sound::pair_long), unfolding(crate::specs::Settings::read_order))]
-fn read_order(board: &[u8], house: &[u8], room: usize) -> OrderRead
+#[tactic(auto, unfolding(crate::specs::Settings::read_order))]
+fn read_order(board: &[u8], house: &[u8], room: usize) -> Result<Order, Fault>
     ensures { result ≡ read_order board.now house.now room }
 {
-    let checked = check_pair(board, house);
-    match checked {
-        Checked::Sound => read_complete(board, house, room),
-        Checked::Faulty(why) => OrderRead::Withheld(why),
-    }
+    read_complete(pair_of(board, house)?, room)
 }
 
 // ---- its events
@@ -99,72 +90,41 @@ fn read_order(board: &[u8], house: &[u8], room: usize) -> OrderRead
 fn control_byte(s: Setting) -> u8
     ensures { result ≡ control_byte s }
 {
-    0x01 + worth_of(0x80, s.priority) + worth_of(0x20, s.idle)
+    0x01 + 0x80 * u8::from(s.priority) + 0x20 * u8::from(s.idle)
 }
 
-// The four bytes of an event of master m, whose last field is unused.
-#[tactic(auto, unfolding(crate::specs::Stored::stored))]
-fn put_event(events: &mut [u8], at: usize, kind: u8, m: u8, v: u8)
-    requires { at + 4 ≤ length events.old }
-    ensures { events.new ≡ stored events.old at (raw kind m v 0) }
+// Master m sets register p to v: COMMAND, WRITE, STOP, four bytes each.
+fn register_events(m: u8, p: u8, v: u8) -> [u8; 12]
+    ensures { result ≡ raws_bytes (command m p ∷ write m v ∷ stop m ∷ []) }
 {
-    events[at] = kind;
-    events[at + 1] = m;
-    events[at + 2] = v;
-    events[at + 3] = 0;
-}
-
-// Master m sets register p to v: COMMAND, WRITE, STOP.
-#[tactic(auto, using(crate::proofs::Complete::register_stored))]
-fn put_register(events: &mut [u8], at: usize, m: u8, p: u8, v: u8)
-    requires { at + 12 ≤ length events.old }
-    ensures { events.new ≡ stored_register events.old at m p v }
-{
-    put_event(events, at, 0, m, p);
-    put_event(events, at + 4, 1, m, v);
-    put_event(events, at + 8, 3, m, 0);
+    [0, m, p, 0, 1, m, v, 0, 3, m, 0, 0]
 }
 
 // The six events of one master: its reserve, then its CONTR.
-#[tactic(auto, using(crate::proofs::Complete::setting_stored))]
-fn put_setting(events: &mut [u8], at: usize, m: u8, s: Setting)
-    requires { at + 24 ≤ length events.old }
-    ensures { events.new ≡ stored_setting events.old at m s }
+fn put_setting(events: &mut [u8], m: u8, s: Setting)
+    requires { length events.old ≡ 24 }
+    ensures { events.new ≡ raws_bytes (setting_events m s) }
 {
-    let control = control_byte(s);
-    put_register(events, at, m, 0x03, s.reserve);
-    put_register(events, at + 12, m, 0x01, control);
+    events[..12].copy_from_slice(&register_events(m, 0x03, s.reserve));
+    events[12..].copy_from_slice(&register_events(m, 0x01, control_byte(s)));
 }
 
-#[tactic(auto, using(crate::proofs::Complete::order_stored))]
+#[tactic(auto, unfolding(crate::specs::Settings::order_events))]
 fn put_order(events: &mut [u8], o: Order)
     requires { 48 ≤ length events.old }
     ensures { events.new ≡ raws_bytes (order_events o) ++ drop 48 events.old }
 {
-    let first = o.master0;
-    let second = o.master1;
-    put_setting(events, 0, 0, first);
-    put_setting(events, 24, 1, second);
+    put_setting(&mut events[..24], 0, o.master0);
+    put_setting(&mut events[24..48], 1, o.master1);
 }
 
-// The twelve events that a complete pair of sheets orders, at the front of the lent buffer. A refusal writes nothing.
+// The twelve events that a complete pair of sheets orders, at the front of the lent buffer, and how many they are. A refusal writes nothing.
 #[tactic(auto, using(crate::proofs::Complete::given_passed), unfolding(crate::specs::Settings::ordered, crate::specs::Settings::ordered_of, crate::specs::Settings::ordered_buffer, crate::specs::Settings::buffer_of))]
-pub fn order_events(board: &[u8], house: &[u8], events: &mut [u8]) -> Ordered
-    ensures { (result ≡ ordered board.now house.now events.old)
-        × (events.new ≡ ordered_buffer board.now house.now events.old) }
+pub fn order_events(board: &[u8], house: &[u8], events: &mut [u8]) -> Result<usize, Fault>
+    ensures told { order_told result ≡ ordered board.now house.now events.old }
+    ensures written { events.new ≡ ordered_buffer board.now house.now events.old }
 {
-    let read = read_order(board, house, events.len());
-    match read {
-        OrderRead::Given(o) => {
-            put_order(events, o);
-            Ordered {
-                number: 0,
-                count: 12,
-            }
-        }
-        OrderRead::Withheld(why) => Ordered {
-            number: fault_number(why),
-            count: 0,
-        },
-    }
+    let order = read_order(board, house, events.len())?;
+    put_order(events, order);
+    Ok(12)
 }

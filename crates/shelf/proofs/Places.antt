@@ -17,7 +17,7 @@ use Rattle.arbiter.proofs.Runs.{from_append}
 use Rattle.arbiter.proofs.Connected.{one_connected}
 use Rattle.arbiter.proofs.Reserve.{reserve_lasts}
 use Rattle.arbiter.proofs.InTime.{partner_in_time}
-use Rattle.shelf.specs.Names.{Kind, Device, Raw, Record, Reach, At, Everyone, Refused}
+use Rattle.shelf.specs.Names.{Kind, Device, Raw, Record, Fault, Reach, At, Everyone, Result, Ok, Err}
 use Rattle.shelf.specs.Shelf.{addresses_of, device_at, reaches, reaches_place, step_record, answer_after, shelf_row, shelf_answer}
 use Rattle.shelf.specs.Runs.{Named, shelf_run, Slot, fresh_row, kind_at, shelf_after, reached, reached_at, reaches_at, answers_for}
 use Rattle.shelf.specs.Runs.{AtPlace, AnswerAtPlace, EveryRunAtPlace, OneConnectedAtPlace, LaterAtPlace, ReserveLastsAtPlace, PartnerInTimeAtPlace}
@@ -104,10 +104,10 @@ at_place slots es i l =
     from_place es (fresh_row slots) i (fresh_in slots i l)
     ∙ ap (λ (d : Device). run_from d (reached_at i slots es)) (fresh_device slots i l)
 
-answer_of : (w : Reach) (row : List Record) (r : Raw) (i : ℕ) → answers_for i w ≡ true → answer_after w r row ≡ (step (device_at row i) r).answer
-answer_of (At j) row r i h = ap (λ (k : ℕ). (step (device_at row k) r).answer) (eqb-true j i h)
-answer_of Everyone row r i h = ap (λ (k : ℕ). (step (device_at row k) r).answer) (eqb-true 0 i h)
-answer_of (Refused f) row r i h = absurd (false≢true h)
+answer_of : (w : Result Reach Fault) (row : List Record) (r : Raw) (i : ℕ) → answers_for i w ≡ true → answer_after w r row ≡ (step (device_at row i) r).answer
+answer_of (Ok (At j)) row r i h = ap (λ (k : ℕ). (step (device_at row k) r).answer) (eqb-true j i h)
+answer_of (Ok Everyone) row r i h = ap (λ (k : ℕ). (step (device_at row k) r).answer) (eqb-true 0 i h)
+answer_of (Err f) row r i h = absurd (false≢true h)
 
 pub answer_at_place : AnswerAtPlace
 unfolding shelf_answer

@@ -9,7 +9,7 @@ use lib.ListN.{length, set}
 use borrow.Author.Tests.{eqb-true, eqb-false}
 use Rattle.arbiter.specs.Steps.{step}
 use Rattle.shelf.specs.Names.{Device, Raw, Record}
-use Rattle.shelf.specs.Names.{Reach, At, Everyone, Refused}
+use Rattle.shelf.specs.Names.{Fault, Reach, At, Everyone, Result, Ok, Err}
 use Rattle.shelf.specs.Shelf.{addresses_of, record_at, reaches, reaches_place}
 use Rattle.shelf.specs.Shelf.{step_record, row_after, answer_after, shelf_row, shelf_answer}
 use Rattle.shelf.specs.Runs.{KeepsAddresses, OthersSame, ReachedSteps, AnswerAlone, RefusedSame}
@@ -33,18 +33,18 @@ map_there [] i r l = absurd (omega arith)
 map_there (x ∷ row) zero r l = refl
 map_there (x ∷ row) (suc i) r l = map_there row i r (omega arith)
 
-pub after_other : (w : Reach) (r : Raw) (row : List Record) (j : ℕ) → reaches_place j w ≡ false → record_at (row_after w r row) j ≡ record_at row j
-after_other (At i) r row j h = set_other row i j (step_record r (record_at row i)) (eqb-false i j h)
-after_other Everyone r row j h = absurd (true≢false h)
-after_other (Refused f) r row j h = refl
+pub after_other : (w : Result Reach Fault) (r : Raw) (row : List Record) (j : ℕ) → reaches_place j w ≡ false → record_at (row_after w r row) j ≡ record_at row j
+after_other (Ok (At i)) r row j h = set_other row i j (step_record r (record_at row i)) (eqb-false i j h)
+after_other (Ok Everyone) r row j h = absurd (true≢false h)
+after_other (Err f) r row j h = refl
 
-pub after_there : (w : Reach) (r : Raw) (row : List Record) (j : ℕ) → j < length row → reaches_place j w ≡ true
+pub after_there : (w : Result Reach Fault) (r : Raw) (row : List Record) (j : ℕ) → j < length row → reaches_place j w ≡ true
     → record_at (row_after w r row) j ≡ step_record r (record_at row j)
-after_there (At i) r row j l h =
+after_there (Ok (At i)) r row j l h =
     subst (λ (k : ℕ). record_at (set row i (step_record r (record_at row i))) k ≡ step_record r (record_at row k)) (eqb-true i j h)
     (set_there row i (step_record r (record_at row i)) (subst (λ (k : ℕ). k < length row) (sym (eqb-true i j h)) l))
-after_there Everyone r row j l h = map_there row j r l
-after_there (Refused f) r row j l h = absurd (false≢true h)
+after_there (Ok Everyone) r row j l h = map_there row j r l
+after_there (Err f) r row j l h = absurd (false≢true h)
 
 pub others_same : OthersSame
 unfolding shelf_row
@@ -67,10 +67,10 @@ unfolding step_record
 map_addresses [] r = refl
 map_addresses (c ∷ row) r = ap (λ (roll : List ℕ). c.address ∷ roll) (map_addresses row r)
 
-after_addresses : (w : Reach) (r : Raw) (row : List Record) → addresses_of (row_after w r row) ≡ addresses_of row
-after_addresses (At i) r row = set_addresses row i r
-after_addresses Everyone r row = map_addresses row r
-after_addresses (Refused f) r row = refl
+after_addresses : (w : Result Reach Fault) (r : Raw) (row : List Record) → addresses_of (row_after w r row) ≡ addresses_of row
+after_addresses (Ok (At i)) r row = set_addresses row i r
+after_addresses (Ok Everyone) r row = map_addresses row r
+after_addresses (Err f) r row = refl
 
 pub keeps_addresses : KeepsAddresses
 unfolding shelf_row
@@ -85,10 +85,10 @@ addresses_length (c ∷ row) = ap suc (addresses_length row)
 pub answer_alone : AnswerAlone
 unfolding shelf_answer
 answer_alone row other name r i j p q e =
-    let one = ap (λ (w : Reach). answer_after w r row) p in
-    let two = ap (λ (w : Reach). answer_after w r other) q in
+    let one = ap (λ (w : Result Reach Fault). answer_after w r row) p in
+    let two = ap (λ (w : Result Reach Fault). answer_after w r other) q in
     (one, one ∙ ap (λ (d : Device). (step d r).answer) e ∙ sym two)
 
 pub refused_same : RefusedSame
 unfolding shelf_row shelf_answer
-refused_same row name r f p = (ap (λ (w : Reach). row_after w r row) p, ap (λ (w : Reach). answer_after w r row) p)
+refused_same row name r f p = (ap (λ (w : Result Reach Fault). row_after w r row) p, ap (λ (w : Result Reach Fault). answer_after w r row) p)

@@ -13,4 +13,5 @@ pub use Rattle.shelf.specs.declared.Naming.TheVariants.{AnAddress, APlace, Nothi
 pub use Rattle.shelf.specs.declared.Fault.{Fault}
 pub use Rattle.shelf.specs.declared.Fault.TheVariants.{EmptyRow, TooMany, EqualAddresses, NotInRow}
 pub use Rattle.shelf.specs.declared.Reach.{Reach}
-pub use Rattle.shelf.specs.declared.Reach.TheVariants.{At, Everyone, Refused}
+pub use Rattle.shelf.specs.declared.Reach.TheVariants.{At, Everyone}
+pub use Rattle.std.specs.Prelude.{Result, Ok, Err}

@@ -10,9 +10,9 @@ use Rattle.arbiter.specs.Effects.{power_up}
 use Rattle.arbiter.specs.Steps.{answer, step, refused, run_from, run}
 use Rattle.arbiter.specs.AuditWords.{next, requests, resting, reserve_of, reset, tick, withdrawal_of, stop_of, grant_taken, grant_ended, ticks_in, never, throughout}
 use Rattle.arbiter.specs.declared.Master.{Master}
-use Rattle.arbiter.specs.declared.Decoded.TheVariants.{UnknownKind, Reads}
+use Rattle.arbiter.specs.declared.Unread.TheVariants.{UnknownKind}
 use Rattle.arbiter.specs.declared.Event.TheVariants.{Stop}
-use Rattle.shelf.specs.Names.{ℕ, Bool, true, false, List, [], map, eqb, length, get_or, Kind, Pca9641, Device, Raw, Record, AnAddress, Fault, Reach, At, Everyone, Refused}
+use Rattle.shelf.specs.Names.{ℕ, Bool, true, false, List, [], map, eqb, length, get_or, Kind, Pca9641, Device, Raw, Record, AnAddress, Fault, Reach, At, Everyone, Result, Ok, Err}
 use Rattle.shelf.specs.Shelf.{addresses_of, record_at, device_at, naming, reaches, reaches_place, most_records, two_equal, step_record, fault_answer, shelf_row, shelf_answer, shelf_show}
 
 -- ---- one event
@@ -37,28 +37,28 @@ ReachedSteps =
 -- places, the answer is the same, and it is that device's.
 abbrev pub AnswerAlone : Type 0
 AnswerAlone =
-    (row other : List Record) (name : ℕ) (r : Raw) (i j : ℕ) → reaches (addresses_of row) name r ≡ At i → reaches (addresses_of other) name r ≡ At j
+    (row other : List Record) (name : ℕ) (r : Raw) (i j : ℕ) → reaches (addresses_of row) name r ≡ Ok (At i) → reaches (addresses_of other) name r ≡ Ok (At j)
     → device_at row i ≡ device_at other j
     → (shelf_answer row name r ≡ (step (device_at row i) r).answer) × (shelf_answer row name r ≡ shelf_answer other name r)
 
 -- A shelf that refuses changes no record, and answers number, 00, 00, 00.
 abbrev pub RefusedSame : Type 0
 RefusedSame =
-    (row : List Record) (name : ℕ) (r : Raw) (f : Fault) → reaches (addresses_of row) name r ≡ Refused f
+    (row : List Record) (name : ℕ) (r : Raw) (f : Fault) → reaches (addresses_of row) name r ≡ Err f
     → (shelf_row row name r ≡ row) × (shelf_answer row name r ≡ fault_answer f)
 
 -- Only a row of 1 to 16 records, no two of them with the same address, takes an event; the one that is reached has the address that was
 -- named.
 abbrev pub ReachedInRow : Type 0
 ReachedInRow =
-    (roll : List ℕ) (name : ℕ) (r : Raw) (i : ℕ) → reaches roll name r ≡ At i
+    (roll : List ℕ) (name : ℕ) (r : Raw) (i : ℕ) → reaches roll name r ≡ Ok (At i)
     → (i < length roll) × (length roll ≤ most_records) × (two_equal roll ≡ false) × (naming r.kind ≡ AnAddress → get_or roll i 0 ≡ name)
 
 -- An event of unknown kind names nothing; it changes no record and answers for place 0 with refusal 2.
 abbrev pub UnknownChangesNone : Type 0
 UnknownChangesNone =
-    (row : List Record) (name : ℕ) (r : Raw) → decode r ≡ UnknownKind → reaches (addresses_of row) name r ≡ Everyone
-    → (shelf_row row name r ≡ row) × (shelf_answer row name r ≡ (refused (decoded_number UnknownKind) (device_at row 0)).answer)
+    (row : List Record) (name : ℕ) (r : Raw) → decode r ≡ Err UnknownKind → reaches (addresses_of row) name r ≡ Ok Everyone
+    → (shelf_row row name r ≡ row) × (shelf_answer row name r ≡ (refused (decoded_number (Err UnknownKind)) (device_at row 0)).answer)
 
 -- "An event that reaches all .. answers for place 0, each device then being readable by its place": what is shown after an event of a
 -- device that it reached is that device after its own step.
@@ -112,10 +112,10 @@ reached_at i slots es = reached i (addresses_of (fresh_row slots)) es
 abbrev pub reaches_at : ℕ → List Slot → Named → Bool
 reaches_at i slots e = reaches_place i (reaches (addresses_of (fresh_row slots)) e.name e.event)
 
-abbrev pub answers_for : ℕ → Reach → Bool
-answers_for i (At j) = eqb j i
-answers_for i Everyone = eqb 0 i
-answers_for i (Refused f) = false
+abbrev pub answers_for : ℕ → Result Reach Fault → Bool
+answers_for i (Ok (At j)) = eqb j i
+answers_for i (Ok Everyone) = eqb 0 i
+answers_for i (Err f) = false
 
 abbrev pub answers_at : ℕ → List Slot → Named → Bool
 answers_at i slots e = answers_for i (reaches (addresses_of (fresh_row slots)) e.name e.event)
@@ -200,7 +200,7 @@ IsNextAtPlace slots i p es =
     × (resting p d ≡ false → (later : List Named) → let here : List Raw = reached_at i slots later in
     never reset d here ≡ true → never (withdrawal_of p) d here ≡ true → never (stop_of p) d here ≡ true
     → (claims p (device_at (shelf_after slots (es ++ later)) i) ≡ true)
-    × ((s : Named) → reaches_at i slots s ≡ true → decode s.event ≡ Reads (Stop p)
+    × ((s : Named) → reaches_at i slots s ≡ true → decode s.event ≡ Ok (Stop p)
     → owns p (device_at (shelf_after slots (es ++ (later ++ s ∷ []))) i) ≡ true))
 
 -- e, no reset, ends m's grant at place i, and the partner's request stands there after it: the partner is next there.

@@ -4,7 +4,7 @@
 use Rattle.std.specs.Prelude.{◌≡◌, ◌||◌, ◌∷◌, if◌then◌else◌}
 use Rattle.arbiter.specs.Effects.{power_up}
 use Rattle.arbiter.specs.Steps.{step, answer}
-use Rattle.shelf.specs.Names.{ℕ, suc, Bool, true, false, List, [], map, eqb, ltb, length, get_or, set, Pca9641, Device, Raw, Answer, Record, Naming, AnAddress, APlace, Nothing, Fault, EmptyRow, TooMany, EqualAddresses, NotInRow, Reach, At, Everyone, Refused}
+use Rattle.shelf.specs.Names.{ℕ, suc, Bool, true, false, List, [], map, eqb, ltb, length, get_or, set, Pca9641, Device, Raw, Answer, Record, Naming, AnAddress, APlace, Nothing, Fault, EmptyRow, TooMany, EqualAddresses, NotInRow, Reach, At, Everyone, Result, Ok, Err}
 
 -- ---- the row
 
@@ -45,30 +45,30 @@ two_equal [] = false
 two_equal (b ∷ bs) = is_in b bs || two_equal bs
 
 -- the place of an address, or refusal 18
-abbrev pub further : Reach → Reach
-further (At i) = At (suc i)
-further Everyone = Everyone
-further (Refused f) = Refused f
+abbrev pub further : Result Reach Fault → Result Reach Fault
+further (Ok (At i)) = Ok (At (suc i))
+further (Ok Everyone) = Ok Everyone
+further (Err f) = Err f
 
-abbrev pub place_of : ℕ → List ℕ → Reach
-place_of a [] = Refused NotInRow
-place_of a (b ∷ bs) = if eqb b a then At 0 else further (place_of a bs)
+abbrev pub place_of : ℕ → List ℕ → Result Reach Fault
+place_of a [] = Err NotInRow
+place_of a (b ∷ bs) = if eqb b a then Ok (At 0) else further (place_of a bs)
 
 -- the name, an address or a place, is not looked at where the event names nothing
-abbrev pub reach_by : Naming → ℕ → List ℕ → Reach
+abbrev pub reach_by : Naming → ℕ → List ℕ → Result Reach Fault
 reach_by AnAddress name roll = place_of name roll
-reach_by APlace name roll = if ltb name (length roll) then At name else Refused NotInRow
-reach_by Nothing name roll = Everyone
+reach_by APlace name roll = if ltb name (length roll) then Ok (At name) else Err NotInRow
+reach_by Nothing name roll = Ok Everyone
 
 -- "Refusals, before 01's own: 17 two equal addresses, 18 an address or place not in the row, 6 above 16, 5 an empty row; order 5, 6, 17, 18"
-abbrev pub reach_of : Naming → ℕ → List ℕ → Reach
+abbrev pub reach_of : Naming → ℕ → List ℕ → Result Reach Fault
 reach_of n name roll =
-    if eqb (length roll) 0 then Refused EmptyRow
-    else if ltb most_records (length roll) then Refused TooMany
-    else if two_equal roll then Refused EqualAddresses
+    if eqb (length roll) 0 then Err EmptyRow
+    else if ltb most_records (length roll) then Err TooMany
+    else if two_equal roll then Err EqualAddresses
     else reach_by n name roll
 
-unfoldable pub reaches : List ℕ → ℕ → Raw → Reach
+unfoldable pub reaches : List ℕ → ℕ → Raw → Result Reach Fault
 reaches roll name r = reach_of (naming r.kind) name roll
 
 abbrev pub fault_number : Fault → ℕ
@@ -78,10 +78,10 @@ fault_number EqualAddresses = 17
 fault_number NotInRow = 18
 
 -- the device at this place is reached
-abbrev pub reaches_place : ℕ → Reach → Bool
-reaches_place j (At i) = eqb i j
-reaches_place j Everyone = true
-reaches_place j (Refused f) = false
+abbrev pub reaches_place : ℕ → Result Reach Fault → Bool
+reaches_place j (Ok (At i)) = eqb i j
+reaches_place j (Ok Everyone) = true
+reaches_place j (Err f) = false
 
 -- ---- one event on a shelf
 
@@ -89,20 +89,20 @@ reaches_place j (Refused f) = false
 unfoldable pub step_record : Raw → Record → Record
 step_record r c = record { address = c.address; device = (step c.device r).device }
 
-abbrev pub row_after : Reach → Raw → List Record → List Record
-row_after (At i) r row = set row i (step_record r (record_at row i))
-row_after Everyone r row = map (step_record r) row
-row_after (Refused f) r row = row
+abbrev pub row_after : Result Reach Fault → Raw → List Record → List Record
+row_after (Ok (At i)) r row = set row i (step_record r (record_at row i))
+row_after (Ok Everyone) r row = map (step_record r) row
+row_after (Err f) r row = row
 
 -- "they answer number, 00, 00, 00 and change no record"
 abbrev pub fault_answer : Fault → Answer
 fault_answer f = record { outcome = fault_number f; read = 0; owner = 0; lines = 0 }
 
 -- "An event that reaches all, or of unknown kind, answers for place 0"
-abbrev pub answer_after : Reach → Raw → List Record → Answer
-answer_after (At i) r row = (step (device_at row i) r).answer
-answer_after Everyone r row = (step (device_at row 0) r).answer
-answer_after (Refused f) r row = fault_answer f
+abbrev pub answer_after : Result Reach Fault → Raw → List Record → Answer
+answer_after (Ok (At i)) r row = (step (device_at row i) r).answer
+answer_after (Ok Everyone) r row = (step (device_at row 0) r).answer
+answer_after (Err f) r row = fault_answer f
 
 unfoldable pub shelf_row : List Record → ℕ → Raw → List Record
 shelf_row row name r = row_after (reaches (addresses_of row) name r) r row
@@ -128,10 +128,10 @@ reset_raw = raw_of 8 0 0 0
 
 -- "each device then being readable by its place": outcome 0, no byte read, and owner and lines as they stand. A name that is a place never
 -- reaches everyone.
-abbrev pub show_by : Reach → List Record → Answer
-show_by (At i) row = answer 0 0 (device_at row i)
-show_by Everyone row = answer 0 0 (device_at row 0)
-show_by (Refused f) row = fault_answer f
+abbrev pub show_by : Result Reach Fault → List Record → Answer
+show_by (Ok (At i)) row = answer 0 0 (device_at row i)
+show_by (Ok Everyone) row = answer 0 0 (device_at row 0)
+show_by (Err f) row = fault_answer f
 
 -- refused like an event that names this place; no record changes
 unfoldable pub shelf_show : List Record → ℕ → Answer

@@ -12,8 +12,8 @@ use Rattle.arbiter.specs.Witnesses.{number, sets_rt, sets_contr, writes_contr, s
 use Rattle.arbiter.specs.declared.Master.{Master}
 use Rattle.arbiter.specs.declared.Master.TheVariants.{Zero}
 use Rattle.arbiter.specs.declared.Kind.TheVariants.{Tpt29641}
-use Rattle.arbiter.specs.declared.Decoded.TheVariants.{UnknownKind}
-use Rattle.shelf.specs.Names.{ℕ, Bool, true, false, not, List, [], eqb, ltb, length, Pca9641, Device, Raw, Record, NotInRow, At, Everyone, Refused}
+use Rattle.arbiter.specs.declared.Unread.TheVariants.{UnknownKind}
+use Rattle.shelf.specs.Names.{ℕ, Bool, true, false, not, List, [], eqb, ltb, length, Pca9641, Device, Raw, Record, NotInRow, At, Everyone, Ok, Err}
 use Rattle.shelf.specs.Shelf.{addresses_of, device_at, reaches, reaches_place}
 use Rattle.shelf.specs.Runs.{Named, Slot, shelf_after, reached_at, reaches_at, answers_at}
 use Rattle.shelf.specs.Examples.{at}
@@ -53,12 +53,12 @@ abbrev pub OneEventMet : Type 0
 OneEventMet =
     (reaches_place 0 (reaches (addresses_of (used two)) 0x71 (command 0 1)) ≡ false)
     × (reaches_place 1 (reaches (addresses_of (used two)) 0x71 (command 0 1)) ≡ true)
-    × (reaches (addresses_of (used two)) 0x71 (command 0 1) ≡ At 1)
-    × (reaches (addresses_of (used turned)) 0x71 (command 0 1) ≡ At 0)
+    × (reaches (addresses_of (used two)) 0x71 (command 0 1) ≡ Ok (At 1))
+    × (reaches (addresses_of (used turned)) 0x71 (command 0 1) ≡ Ok (At 0))
     × (device_at (used two) 1 ≡ device_at (used turned) 0)
-    × (reaches (addresses_of (used two)) 0x33 (command 0 1) ≡ Refused NotInRow)
-    × (decode (raw 77 0 0 0) ≡ UnknownKind)
-    × (reaches (addresses_of (used two)) 0 (raw 77 0 0 0) ≡ Everyone)
+    × (reaches (addresses_of (used two)) 0x33 (command 0 1) ≡ Err NotInRow)
+    × (decode (raw 77 0 0 0) ≡ Err UnknownKind)
+    × (reaches (addresses_of (used two)) 0 (raw 77 0 0 0) ≡ Ok Everyone)
 
 -- ---- a run of the first shelf: the premises of each statement, in its order, as tests
 

@@ -5,14 +5,14 @@
 use arbiter::Device;
 
 // One record of the row: a device and its address.
-#[derive(Clone, Copy)]
+#[derive(Clone, Copy, PartialEq, Eq)]
 pub struct Record {
     pub address: u8,
     pub device: Device,
 }
 
 // What an event names, by its kind: an address, a place in the row, or nothing.
-#[derive(Clone, Copy)]
+#[derive(Clone, Copy, PartialEq, Eq)]
 pub enum Naming {
     AnAddress,
     APlace,
@@ -20,7 +20,7 @@ pub enum Naming {
 }
 
 // Why the shelf refuses an event before any device meets it.
-#[derive(Clone, Copy)]
+#[derive(Clone, Copy, PartialEq, Eq)]
 pub enum Fault {
     EmptyRow,
     TooMany,
@@ -28,10 +28,9 @@ pub enum Fault {
     NotInRow,
 }
 
-// Whom an event reaches: the device at one place, every device, or none, since the shelf refuses it.
-#[derive(Clone, Copy)]
+// Whom an event reaches that the shelf does not refuse: the device at one place, or every device.
+#[derive(Clone, Copy, PartialEq, Eq)]
 pub enum Reach {
     At(u8),
     Everyone,
-    Refused(Fault),
 }

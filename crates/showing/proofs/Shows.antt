@@ -8,7 +8,7 @@ use mathlib.Core.List.{List}
 use lib.Dec.{eqb, ltb}
 use lib.ListN.{length}
 use borrow.Author.Tests.{eqb-true, eqb-false, ltb-true, ltb-false}
-use Rattle.std.specs.Prelude.{if◌then◌else◌}
+use Rattle.std.specs.Prelude.{Result, Ok, Err, if◌then◌else◌}
 use Rattle.arbiter.specs.Steps.{answer}
 use Rattle.arbiter.specs.declared.Answer.{Answer}
 use Rattle.arbiter.proofs.Choice.{split, if_true, if_false}
@@ -17,7 +17,7 @@ use Rattle.shelf.specs.declared.Naming.TheVariants.{APlace}
 use Rattle.shelf.specs.declared.Fault.{Fault}
 use Rattle.shelf.specs.declared.Fault.TheVariants.{EmptyRow, TooMany, EqualAddresses, NotInRow}
 use Rattle.shelf.specs.declared.Reach.{Reach}
-use Rattle.shelf.specs.declared.Reach.TheVariants.{At, Refused}
+use Rattle.shelf.specs.declared.Reach.TheVariants.{At}
 use Rattle.shelf.specs.Shelf.{addresses_of, record_at, device_at, two_equal, reach_of, show_by, shelf_show}
 use Rattle.shelf.proofs.Rows.{addresses_length}
 use Rattle.routing.specs.declared.Seen.{Seen}
@@ -50,13 +50,13 @@ met (suc i) place row l h k =
     further n = omega (arith, n, l)
 
 -- past a refusal, where it is none; and at the last test
-past : (b : Bool) (f : Fault) (w : Reach) (a : Answer) (row : List Record) → (b ≡ false → shown_with w a ≡ show_by w row)
-    → shown_with (if b then Refused f else w) a ≡ show_by (if b then Refused f else w) row
+past : (b : Bool) (f : Fault) (w : Result Reach Fault) (a : Answer) (row : List Record) → (b ≡ false → shown_with w a ≡ show_by w row)
+    → shown_with (if b then Err f else w) a ≡ show_by (if b then Err f else w) row
 past true f w a row k = refl
 past false f w a row k = k refl
 
 last : (b : Bool) (i : ℕ) (a : Answer) (row : List Record) → (b ≡ true → a ≡ answer 0 0 (device_at row i))
-    → shown_with (if b then At i else Refused NotInRow) a ≡ show_by (if b then At i else Refused NotInRow) row
+    → shown_with (if b then Ok (At i) else Err NotInRow) a ≡ show_by (if b then Ok (At i) else Err NotInRow) row
 last true i a row k = k refl
 last false i a row k = refl
 
@@ -71,7 +71,8 @@ by_tests place roll a row k =
 pub shows_place : (place : ℕ) (row : List Record) → shown_of (looked_of place row) ≡ shelf_show row place
 unfolding shown_of looked_of shelf_show seen_of
 shows_place place row =
-    ap (λ (w : Reach). shown_with w there) (ap (λ (s : Seen). reach_for s APlace) (seen_too (length row) place row ∙ whole) ∙ reach_for_is APlace place row)
+    ap (λ (w : Result Reach Fault). shown_with w there)
+    (ap (λ (s : Seen). reach_for s APlace) (seen_too (length row) place row ∙ whole) ∙ reach_for_is APlace place row)
     ∙ by_tests place (addresses_of row) there row
     (λ l h. met (length row) place row (subst (λ (n : ℕ). place < n) (addresses_length row) l) (omega arith)
     (subst (λ (n : ℕ). n ≤ 16) (addresses_length row) h))

@@ -1,13 +1,13 @@
 -- What the code knows of a row that it shows a place of, in the shape in which it decides it.
 -- Assumes nothing.
-use Rattle.std.specs.Prelude.{ℕ, zero, suc, Bool, List, eqb, length, if◌then◌else◌}
+use Rattle.std.specs.Prelude.{ℕ, zero, suc, Bool, List, Result, Ok, Err, eqb, length, if◌then◌else◌}
 use Rattle.arbiter.specs.Steps.{answer}
 use Rattle.arbiter.specs.declared.Device.{Device}
 use Rattle.arbiter.specs.declared.Answer.{Answer}
 use Rattle.shelf.specs.declared.Record.{Record}
 use Rattle.shelf.specs.declared.Naming.TheVariants.{APlace}
 use Rattle.shelf.specs.declared.Reach.{Reach}
-use Rattle.shelf.specs.declared.Reach.TheVariants.{At, Everyone, Refused}
+use Rattle.shelf.specs.declared.Fault.{Fault}
 use Rattle.shelf.specs.Shelf.{record_at, fault_answer}
 use Rattle.routing.specs.Deciding.{start_of, see_of, reach_for, no_answer}
 use Rattle.showing.specs.declared.Looked.{Looked}
@@ -32,10 +32,9 @@ looked_to (suc i) place row = look_of (looked_to i place row) (record_at row i)
 unfoldable pub looked_of : ℕ → List Record → Looked
 looked_of place row = looked_to (length row) place row
 
-abbrev pub shown_with : Reach → Answer → Answer
-shown_with (At i) a = a
-shown_with Everyone a = a
-shown_with (Refused f) a = fault_answer f
+abbrev pub shown_with : Result Reach Fault → Answer → Answer
+shown_with (Ok w) a = a
+shown_with (Err f) a = fault_answer f
 
 unfoldable pub shown_of : Looked → Answer
 shown_of s = shown_with (reach_for s.seen APlace) s.answer

@@ -3,47 +3,32 @@
 #![tactic(auto)]
 
 ghost use Rattle.std.specs.Prelude.{◌≡◌};
-ghost use Rattle.arbiter.specs.Steps.{answer};
-ghost use Rattle.routing.specs.Deciding.{first_answer, visit_of};
+ghost use Rattle.arbiter.specs.Steps.{step, answer};
+ghost use Rattle.shelf.specs.Shelf.{step_record};
+ghost use Rattle.routing.specs.Deciding.{first_answer};
 ghost use Rattle.showing.specs.Showing.{look_start, shown_here, look_of, shown_with, shown_of};
 
 use arbiter::{Answer, Device, Raw};
-use routing::{Seen, Task, Visited, fault_answer, no_answer, reach_for, see_record, start};
-use shelf::{Naming, Reach, Record};
+use routing::{Seen, fault_answer, no_answer, reach_for, see_record, start};
+use shelf::{Fault, Naming, Reach, Record};
 use step::{answered, step_device};
 
 // ---- what one record does
 
-fn first_answer(told: bool, before: Answer, now: Answer) -> Answer
-    ensures { result ≡ first_answer told before now }
+// The record makes the step. Where others did so before it, the first one answers.
+#[tactic(auto, unfolding(shelf::specs::Shelf::step_record))]
+pub fn visit(c: &mut Record, r: Raw, told: Option<Answer>) -> Answer
+    ensures { (c.new ≡ step_record r c.old) × (result ≡ first_answer told (step c.old.device r).answer) }
 {
-    if told { before } else { now }
-}
-
-pub fn visit(c: Record, t: Task) -> Visited
-    ensures { result ≡ visit_of c t }
-{
-    let before = c.device;
-    let event = t.event;
-    let s = step_device(before, event);
-    let device = s.device;
-    let answer = first_answer(t.told, t.answer, s.answer);
-    Visited {
-        stepped: Record {
-            address: c.address,
-            device,
-        },
-        task: Task {
-            event,
-            told: true,
-            answer,
-        },
-    }
+    let s = step_device(c.device, r);
+    c.device = s.device;
+    told.unwrap_or(s.answer)
 }
 
 // ---- what a place shows
 
 // What is known of a row after some records, its name a place, and what the device at that place shows once it has been met.
+// Whether the answer counts `shown` tells; no flag stands beside it.
 #[derive(Clone, Copy)]
 pub struct Looked {
     pub seen: Seen,
@@ -57,6 +42,7 @@ pub fn show_device(d: Device) -> Answer
     answered(0, 0, d)
 }
 
+#[tactic(auto, unfolding(crate::specs::Showing::look_start))]
 pub fn look_start(place: u8) -> Looked
     ensures { result ≡ look_start place }
 {
@@ -73,31 +59,30 @@ fn shown_here(here: bool, d: Device, before: Answer) -> Answer
 }
 
 // One more record. It is shown if its place is the one that is looked for.
+#[tactic(auto, unfolding(crate::specs::Showing::look_of))]
 pub fn look(s: Looked, c: Record) -> Looked
     ensures { result ≡ look_of s c }
 {
     let before = s.seen;
-    let device = c.device;
-    let answer = shown_here(before.count == before.name, device, s.answer);
-    let seen = see_record(before, c);
-    Looked { seen, answer }
+    Looked {
+        seen: see_record(before, c),
+        answer: shown_here(before.count == before.name, c.device, s.answer),
+    }
 }
 
-fn shown_with(w: Reach, a: Answer) -> Answer
+fn shown_with(w: Result<Reach, Fault>, a: Answer) -> Answer
     ensures { result ≡ shown_with w a }
 {
     match w {
-        Reach::At(_) => a,
-        Reach::Everyone => a,
-        Reach::Refused(f) => fault_answer(f),
+        Ok(_) => a,
+        Err(f) => fault_answer(f),
     }
 }
 
 // What the whole row shows: a refusal of the shelf, or the device.
+#[tactic(auto, unfolding(crate::specs::Showing::shown_of))]
 pub fn shown(s: Looked) -> Answer
     ensures { result ≡ shown_of s }
 {
-    let w = reach_for(s.seen, Naming::APlace);
-    let a = s.answer;
-    shown_with(w, a)
+    shown_with(reach_for(s.seen, Naming::APlace), s.answer)
 }

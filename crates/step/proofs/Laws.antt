@@ -17,7 +17,7 @@ use Rattle.arbiter.specs.declared.Bus.{Bus}
 use Rattle.arbiter.specs.declared.Device.{Device}
 use Rattle.arbiter.specs.declared.Event.{Event}
 use Rattle.arbiter.specs.declared.Event.TheVariants.{Command, Write, Read, Stop, Pair, Lines, Tick, Pulse, Reset, GeneralCall}
-use Rattle.arbiter.specs.declared.Decoded.TheVariants.{Reads}
+use Rattle.std.specs.Prelude.{Ok}
 use Rattle.arbiter.specs.declared.Outcome.{Outcome}
 use Rattle.arbiter.specs.declared.Outcome.TheVariants.{Done, NotAcknowledged, OutOfSequence}
 use Rattle.effects.specs.declared.Effect.{Effect}
@@ -72,7 +72,7 @@ told seq ack = if seq then (if ack then Done else NotAcknowledged) else OutOfSeq
 abbrev carried : Bool → Bool → Device → Event → Device → Effect
 carried seq ack x e d = if seq then did x (outcome_number (told seq ack)) (byte_read e d) else did d (outcome_number OutOfSequence) 0
 
-pub moved_law : (e : Event) (d : Device) → finished e d.bus (effect_of e d) ≡ moved (Reads e) d
+pub moved_law : (e : Event) (d : Device) → finished e d.bus (effect_of e d) ≡ moved (Ok e) d
 unfolding finished effect_of moved outcome
 moved_law e d = go (in_sequence e d) (acknowledged e d)
   where

@@ -7,15 +7,16 @@ use Rattle.arbiter.specs.Events.{decoded_number, in_sequence, outcome, outcome_n
 use Rattle.arbiter.specs.Steps.{parts, byte_read, answer, taken, refused, step_event, step_decoded}
 use Rattle.arbiter.specs.declared.Device.{Device}
 use Rattle.arbiter.specs.declared.Event.{Event}
-use Rattle.arbiter.specs.declared.Decoded.{Decoded}
-use Rattle.arbiter.specs.declared.Decoded.TheVariants.{Reads, UnknownKind, BadField}
+use Rattle.std.specs.Prelude.{Result, Ok, Err}
+use Rattle.arbiter.specs.declared.Unread.TheVariants.{BadField, UnknownKind}
+use Rattle.arbiter.specs.declared.Unread.{Unread}
 use Rattle.arbiter.specs.declared.Outcome.TheVariants.{OutOfSequence}
 use Rattle.effects.specs.declared.Effect.{Effect}
 use Rattle.effects.specs.Effect.{did, effect_of}
 use Rattle.step.specs.Carried.{finished, moved, stepped_with, told}
 use Rattle.step.proofs.Laws.{moved_law}
 
-told_moved : (e : Event) (d : Device) → told (moved (Reads e) d) ≡ step_event e d
+told_moved : (e : Event) (d : Device) → told (moved (Ok e) d) ≡ step_event e d
 unfolding moved step_event taken refused
 told_moved e d = go (in_sequence e d)
   where
@@ -30,8 +31,8 @@ pub told_event : (e : Event) (d : Device) → told (finished e d.bus (effect_of 
 told_event e d = ap told (moved_law e d) ∙ told_moved e d
 
 -- four bytes that do not read as an event
-pub told_unread : (x : Decoded) (d : Device) → ((e : Event) → x ≡ Reads e → ⊥) → stepped_with d (answer (decoded_number x) 0 d) ≡ step_decoded x d
+pub told_unread : (x : Result Event Unread) (d : Device) → ((e : Event) → x ≡ Ok e → ⊥) → stepped_with d (answer (decoded_number x) 0 d) ≡ step_decoded x d
 unfolding step_decoded refused
-told_unread (Reads e) d h = absurd (h e refl)
-told_unread UnknownKind d h = refl
-told_unread BadField d h = refl
+told_unread (Ok e) d h = absurd (h e refl)
+told_unread (Err UnknownKind) d h = refl
+told_unread (Err BadField) d h = refl

@@ -12,8 +12,9 @@ use Rattle.arbiter.specs.declared.Clock.TheVariants.{NoClock, ClockLow, ClockHig
 use Rattle.arbiter.specs.declared.Event.{Event}
 use Rattle.arbiter.specs.declared.Answer.{Answer}
 use Rattle.arbiter.specs.declared.Stepped.{Stepped}
-use Rattle.arbiter.specs.declared.Decoded.{Decoded}
-use Rattle.arbiter.specs.declared.Decoded.TheVariants.{Reads, UnknownKind, BadField}
+use Rattle.std.specs.Prelude.{Result, Ok, Err}
+use Rattle.arbiter.specs.declared.Unread.TheVariants.{BadField, UnknownKind}
+use Rattle.arbiter.specs.declared.Unread.{Unread}
 use Rattle.arbiter.specs.declared.Outcome.TheVariants.{OutOfSequence}
 use Rattle.arbitration.specs.Quiet.{no_loss, no_cut, no_claim, no_grant}
 use Rattle.connection.specs.Quiet.{switch_stays}
@@ -45,11 +46,10 @@ finished e before f =
     if eqb f.outcome (outcome_number OutOfSequence) then f
     else did (parts_three_to_seven (is_tick e) (clock_of e) (levels false before f.device)) f.outcome f.read
 
-unfoldable pub moved : Decoded → Device → Effect
-moved (Reads e) d =
+unfoldable pub moved : Result Event Unread → Device → Effect
+moved (Ok e) d =
     if in_sequence e d then did (parts e d) (outcome_number (outcome e d)) (byte_read e d) else did d (outcome_number OutOfSequence) 0
-moved UnknownKind d = did d (decoded_number UnknownKind) 0
-moved BadField d = did d (decoded_number BadField) 0
+moved (Err u) d = did d (decoded_number (Err u)) 0
 
 abbrev pub stepped_with : Device → Answer → Stepped
 stepped_with d a = record { device = d; answer = a }

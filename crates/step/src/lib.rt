@@ -10,8 +10,7 @@ ghost use Rattle.arbiter.specs.Steps.{master_number, owner_number, ground_number
 ghost use Rattle.step.specs.Carried.{parts_three_to_seven, is_silent, is_quiet, finished, stepped_with};
 
 use arbiter::{
-    Answer, Bus, Clock, Decoded, Device, Event, Ground, Kind, Master, Outcome, Raw, Stepped,
-    Switch, Turn,
+    Answer, Bus, Clock, Device, Event, Ground, Kind, Master, Outcome, Raw, Stepped, Switch, Turn,
 };
 use arbitration::claims::{claim_of, grant_of, no_claim, no_grant};
 use arbitration::losses::{cut_at, losses_of, no_cut, no_loss};
@@ -20,37 +19,37 @@ use bus::{bus_hung, scl_high, sda_high, settled_bus};
 use connection::{connect_of, switch_stays};
 use effects::{Effect, did_so, effect_of};
 use events::{clock_of, decode_raw, decoded_number, is_tick, outcome_number};
-use fields::{device_with, switch_of, turn_of};
 use registers::is_asserted_by;
 use resets::fresh_device;
 
 // ---- parts 2 to 7
 
+#[tactic(auto, unfolding(arbiter::specs::Order::levels))]
 fn levelled(before: Bus, d: Device) -> Device
     ensures { result ≡ levels false before d }
 {
-    device_with(d.side0, d.side1, settled_bus(before, d.bus), d.arb, d)
+    Device {
+        bus: settled_bus(before, d.bus),
+        ..d
+    }
 }
 
 fn is_silent(c: Clock) -> bool
     ensures { result ≡ is_silent c }
 {
-    match c {
-        Clock::NoClock => true,
-        Clock::ClockLow => false,
-        Clock::ClockHigh => false,
-    }
+    c == Clock::NoClock
 }
 
 // Parts 3 to 7 have nothing to do, the event being no clock. Asked from the last part to the first, which was measured to run fastest.
+#[tactic(auto, unfolding(crate::specs::Carried::is_quiet))]
 fn is_quiet(tick: bool, d: Device) -> bool
     ensures { result ≡ is_quiet tick d }
 {
-    switch_stays(turn_of(d.arb), d)
-        & no_grant(turn_of(d.arb), d)
-        & no_claim(turn_of(d.arb), d)
-        & no_cut(tick, turn_of(d.arb), d)
-        & no_loss(turn_of(d.arb), d)
+    switch_stays(d.arb.turn, d)
+        & no_grant(d.arb.turn, d)
+        & no_claim(d.arb.turn, d)
+        & no_cut(tick, d.arb.turn, d)
+        & no_loss(d.arb.turn, d)
 }
 
 fn parts_3_to_7_in_full(tick: bool, c: Clock, d: Device) -> Device
@@ -74,20 +73,13 @@ fn parts_3_to_7(tick: bool, c: Clock, d: Device) -> Device
 fn bits_0_and_1(m: Master) -> u8
     ensures { (result ≡ master_number m) × (result ≤ 2) }
 {
-    match m {
-        Master::Zero => 1,
-        Master::One => 2,
-    }
+    m as u8 + 1
 }
 
 fn bits_5_and_6(g: Ground) -> u8
     ensures { (result ≡ 32 * ground_number g) × (result ≤ 96) }
 {
-    match g {
-        Ground::Sole => 32,
-        Ground::Priority => 64,
-        Ground::LastGranted => 96,
-    }
+    32 * (g as u8)
 }
 
 // The owner at bits 0 and 1, and the ground of the present claim at bits 5 and 6.
@@ -104,10 +96,7 @@ fn turn_bits(t: Turn) -> u8
 fn bits_2_and_3(m: Master) -> u8
     ensures { (result ≡ 4 * master_number m) × (result ≤ 8) }
 {
-    match m {
-        Master::Zero => 4,
-        Master::One => 8,
-    }
+    4 * (m as u8 + 1)
 }
 
 // The switch at bits 2 and 3, or the initialisation at bit 4.
@@ -121,10 +110,11 @@ fn switch_bits(w: Switch) -> u8
     }
 }
 
+#[tactic(auto, using(crate::proofs::Laws::owner_sum), unfolding(arbiter::specs::Steps::owner_byte))]
 fn owner_byte(d: Device) -> u8
     ensures { result ≡ owner_byte d }
 {
-    turn_bits(turn_of(d.arb)) + switch_bits(switch_of(d.arb))
+    turn_bits(d.arb.turn) + switch_bits(d.arb.switch)
 }
 
 fn lines_byte(d: Device) -> u8
@@ -194,7 +184,7 @@ pub fn step_device(d: Device, r: Raw) -> Stepped
     ensures { result ≡ step d r }
 {
     let read = decode_raw(r);
-    let Decoded::Reads(e) = read else {
+    let Ok(e) = read else {
         return stepped_with(d, answered(decoded_number(read), 0, d));
     };
     step_event(e, d)

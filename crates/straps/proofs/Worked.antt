@@ -9,8 +9,7 @@ use borrow.Author.Tests.{ltb-true, ltb-false, eqb-true, not-true}
 use Rattle.std.specs.Prelude.{if◌then◌else◌}
 use Rattle.arbiter.specs.Straps.{is_tie, is_code, low_bits, in_range, address_of, pins}
 use Rattle.arbiter.specs.declared.Pins.{Pins}
-use Rattle.arbiter.specs.declared.Strapped.{Strapped}
-use Rattle.arbiter.specs.declared.Strapped.TheVariants.{Address, Unlisted}
+use Rattle.std.specs.Prelude.{Option, Some, None}
 use Rattle.arbiter.proofs.Every.{every, every_at}
 
 -- ---- a test at every setting of four pins that have codes, AD3 a tie
@@ -40,20 +39,20 @@ class_of p = 4 * (p.ad2 / 2 % 2) + 2 * (p.ad1 / 2 % 2) + p.ad0 / 2 % 2
 abbrev pub worked_address : Pins → ℕ
 worked_address p = 0x10 * ((class_of p + 7) % 8) + 8 * (p.ad3 % 2) + low_bits p
 
-abbrev pub worked : Pins → Bool → Strapped
-worked p listed = if listed then Address (worked_address p) else Unlisted
+abbrev pub worked : Pins → Bool → Option ℕ
+worked p listed = if listed then Some (worked_address p) else None
 
-abbrev same : Strapped → Strapped → Bool
-same (Address a) (Address b) = eqb a b
-same (Address a) Unlisted = false
-same Unlisted (Address b) = false
-same Unlisted Unlisted = true
+abbrev same : Option ℕ → Option ℕ → Bool
+same (Some a) (Some b) = eqb a b
+same (Some a) None = false
+same None (Some b) = false
+same None None = true
 
-is_same : (s t : Strapped) → same s t ≡ true → s ≡ t
-is_same (Address a) (Address b) e = ap Address (eqb-true a b e)
-is_same (Address a) Unlisted e = absurd (false≢true e)
-is_same Unlisted (Address b) e = absurd (false≢true e)
-is_same Unlisted Unlisted e = refl
+is_same : (s t : Option ℕ) → same s t ≡ true → s ≡ t
+is_same (Some a) (Some b) e = ap Some (eqb-true a b e)
+is_same (Some a) None e = absurd (false≢true e)
+is_same None (Some b) e = absurd (false≢true e)
+is_same None None e = refl
 
 abbrev right_address : Pins → Bool
 right_address p = same (address_of p) (worked p (coded p && in_range (worked_address p)))
@@ -80,13 +79,13 @@ abbrev pub worked_pins : ℕ → Pins
 worked_pins a = pins (a / 8 % 2) (2 * (class_at a / 4 % 2) + a / 4 % 2) (2 * (class_at a / 2 % 2) + a / 2 % 2) (2 * (class_at a % 2) + a % 2)
 
 abbrev right_pins : ℕ → Bool
-right_pins a = same (address_of (worked_pins a)) (Address a)
+right_pins a = same (address_of (worked_pins a)) (Some a)
 
 all_pins : every (λ k. right_pins (k + 8)) 112 ≡ true
 unfolding address_of
 all_pins = refl
 
-pub pins_worked : (a : ℕ) → in_range a ≡ true → address_of (worked_pins a) ≡ Address a
+pub pins_worked : (a : ℕ) → in_range a ≡ true → address_of (worked_pins a) ≡ Some a
 pins_worked a h =
     let b = (and-eq-true_iff (not (ltb a 0x08)) (ltb a 0x78)).0 h in
     let low : 8 ≤ a = ltb-false _ _ (not-true _ b.0) in

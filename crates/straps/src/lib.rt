@@ -14,7 +14,7 @@ ghost use Rattle.std.specs.Prelude.{◌≡◌};
 ghost use Rattle.arbiter.specs.Straps.{in_range, address_of, straps_of};
 ghost use Rattle.arbiter.specs.Straps.{strapped_number, strapped_address, strapping_number, address_number, address_value, straps_number};
 
-use arbiter::{Pins, Strapped, Strapping};
+use arbiter::Pins;
 
 // The addresses that straps can give: 08h to 77h.
 pub fn in_range(address: u8) -> bool
@@ -24,7 +24,7 @@ pub fn in_range(address: u8) -> bool
 }
 
 // The address of four pins. Refusal 8, with no address: a code above 3, or an unlisted strapping.
-pub fn address_of(p: Pins) -> Strapped
+pub fn address_of(p: Pins) -> Option<u8>
     ensures value { result ≡ address_of p }
     ensures result_value { (strapped_number result ≡ address_number p) × (strapped_address result ≡ address_value p) }
 {
@@ -37,14 +37,14 @@ pub fn address_of(p: Pins) -> Strapped
     let first = 0x10 * ((class + 7) % 8) + 8 * (p.ad3 % 2);
     let address = first + bits;
     if coded & in_range(address) {
-        Strapped::Address(address)
+        Some(address)
     } else {
-        Strapped::Unlisted
+        None
     }
 }
 
 // The four pins of an address. Refusal 11, with no strapping: an address outside 08h to 77h.
-pub fn straps_of(address: u8) -> Strapping
+pub fn straps_of(address: u8) -> Option<Pins>
     ensures value { result ≡ straps_of address }
     ensures result_value { strapping_number result ≡ straps_number address }
 {
@@ -57,8 +57,8 @@ pub fn straps_of(address: u8) -> Strapping
             ad1: 2 * (class / 2 % 2) + address / 2 % 2,
             ad0: 2 * (class % 2) + address % 2,
         };
-        Strapping::Straps(pins)
+        Some(pins)
     } else {
-        Strapping::Outside
+        None
     }
 }

@@ -59,17 +59,3 @@ lines_length (suc k) b = let h = lines_length k (drop event_bytes b) in omega (a
 
 pub listed_length : (a n : ℕ) (b : List ℕ) → head_chars + line_chars * n ≡ length (head_line a n ++ lines_in n b)
 listed_length a n b = let h = lines_length n b in omega (arith, h)
-
--- ---- the line of a refusal
-
-pub short_line : (n : ℕ) → n < 10 → refusal_line n ≡ 0x52 ∷ (0x30 + n) ∷ 0x0A ∷ []
-short_line n h = ap (λ (b : Bool). 0x52 ∷ (if b then (0x30 + n) ∷ [] else (0x30 + n / 10) ∷ (0x30 + n % 10) ∷ []) ++ newline) (lt-ltb n 10 h)
-
-pub long_line : (n : ℕ) → 10 ≤ n → refusal_line n ≡ 0x52 ∷ (0x30 + n / 10) ∷ (0x30 + n % 10) ∷ 0x0A ∷ []
-long_line n h = ap (λ (b : Bool). 0x52 ∷ (if b then (0x30 + n) ∷ [] else (0x30 + n / 10) ∷ (0x30 + n % 10) ∷ []) ++ newline) (le-ltb n 10 h)
-
-pub short_length : (n : ℕ) → n < 10 → 3 ≡ length (refusal_line n)
-short_length n h = ap length (sym (short_line n h))
-
-pub long_length : (n : ℕ) → 10 ≤ n → 4 ≡ length (refusal_line n)
-long_length n h = ap length (sym (long_line n h))

@@ -5,22 +5,22 @@ use mathlib.Core.List.{List, [], ◌∷◌, ◌++◌}
 use Prim.Native.Nat.{ℕ, zero, suc, ◌*◌, ◌≤◌, ◌<◌}
 use native.Mathlib.Omega.{arith}
 use lib.ListN.{length, drop}
+use Rattle.arbiter.specs.declared.Accepted.{Accepted}
 use Rattle.arbiter.specs.Effects.{power_up}
 use Rattle.arbiter.specs.Steps.{step, answers_from}
 use Rattle.arbiter.specs.Traces.{head_bytes, event_bytes, most_events, answer_room, raw_in, raws_in, answers_in, bytes_of, read_trace, refusal_number}
 use Rattle.arbiter.specs.Traces.{report_of, buffer_of}
 use Rattle.arbiter.specs.Traces.{report, buffer_after}
 use Rattle.arbiter.specs.Listing.{head_line, answer_line, answer_lines, most_chars, listing_of, listing}
-use Rattle.traces.specs.declared.Head.{Head}
-use Rattle.traces.specs.Bodies.{head_of}
+use Rattle.traces.specs.Bodies.{Head, head_of}
 use Rattle.arbiter.specs.declared.Kind.{Kind}
 use Rattle.arbiter.specs.declared.Device.{Device}
 use Rattle.arbiter.specs.declared.Answer.{Answer}
 use Rattle.arbiter.specs.declared.Refusal.{Refusal}
 use Rattle.arbiter.specs.declared.Refusal.TheVariants.{TraceCut, TooManyEvents, BytesAfterEnd, BadStraps, NoRoom, BadCount, UnknownPart}
-use Rattle.arbiter.specs.declared.TraceRead.{TraceRead}
-use Rattle.arbiter.specs.declared.TraceRead.TheVariants.{Accepted, Refused}
+use Rattle.std.specs.Prelude.{Result, Err, Ok}
 use Rattle.traces.proofs.Accepted.{accepted_fits}
+use Rattle.traces.proofs.Told.{no_refusal}
 use Rattle.text.specs.Written.{lines_in, refusal_line}
 use Rattle.text.proofs.Lines.{listed_length}
 
@@ -42,15 +42,6 @@ lines_in_lem k n t rest =
     ∙ ap (λ (m : ℕ). lines_in m (bytes_of (answers_in k n t) ++ rest)) (answers_count (power_up k) n (drop head_bytes t))
 
 -- ---- a refusal's number is 3 or 5 to 10
-
-some_number : (r : Refusal) → refusal_number r ≡ 0 → ⊥
-some_number TraceCut h = omega arith
-some_number TooManyEvents h = omega arith
-some_number BytesAfterEnd h = omega arith
-some_number BadStraps h = omega arith
-some_number NoRoom h = omega arith
-some_number BadCount h = omega arith
-some_number UnknownPart h = omega arith
 
 two_digits : (r : Refusal) → refusal_number r < 100
 two_digits TraceCut = omega arith
@@ -76,12 +67,15 @@ pub listing_short : (t : List ℕ) → length (listing t) ≤ most_chars
 unfolding listing listing_of
 listing_short t = go (read_trace t answer_room) refl
   where
-    go : (x : TraceRead) → read_trace t answer_room ≡ x → length (listing_of x t) ≤ most_chars
-    go (Accepted a n k) h =
+    go : (x : Result Accepted Refusal) → read_trace t answer_room ≡ x → length (listing_of x t) ≤ most_chars
+    go (Ok x) h =
+        let a = x.address in
+        let n = x.events in
+        let k = x.kind in
         let few = (accepted_fits t answer_room a n k h).2 in
         let l = ap length (ap (λ (l : List ℕ). head_line a n ++ l) (lines_in_lem k n t [])) ∙ sym (listed_length a n (bytes_of (answers_in k n t) ++ [])) in
         omega (arith, few, l)
-    go (Refused r) h = omega (arith, refusal_short r)
+    go (Err r) h = omega (arith, refusal_short r)
 
 -- ---- a trace run with room for the answers of any
 
@@ -95,26 +89,29 @@ module _ (t room : List ℕ) (e : answer_room ≡ length room) where
   unfolding listing_of report report_of buffer_after buffer_of
   accepted_listing h = go (read_trace t (length room)) h ∙ sym same_reading
     where
-      go : (x : TraceRead) → (report_of x t).number ≡ 0 → head_line (report_of x t).address (report_of x t).events
+      go : (x : Result Accepted Refusal) → (report_of x t).number ≡ 0 → head_line (report_of x t).address (report_of x t).events
           ++ lines_in (report_of x t).events (buffer_of x t room) ≡ listing_of x t
-      go (Accepted a n k) z = ap (λ (l : List ℕ). head_line a n ++ l) (sym (lines_in_lem k n t (drop (event_bytes * n) room)))
-      go (Refused r) z = absurd (some_number r z)
+      go (Ok x) z =
+          ap (λ (l : List ℕ). head_line x.address x.events ++ l) (sym (lines_in_lem x.kind x.events t (drop (event_bytes * x.events) room)))
+      go (Err r) z = absurd (no_refusal r z)
 
   answers_fit : (event_bytes * (report t room).events ≤ length room) × ((report t room).events ≤ most_events)
   unfolding report report_of
   answers_fit = go (read_trace t (length room)) refl
     where
-      go : (x : TraceRead) → read_trace t (length room) ≡ x → (event_bytes * (report_of x t).events ≤ length room) × ((report_of x t).events ≤ most_events)
-      go (Accepted a n k) h = let fits = accepted_fits t (length room) a n k h in (fits.1, fits.2)
-      go (Refused r) h = (omega arith, omega arith)
+      go : (x : Result Accepted Refusal) → read_trace t (length room) ≡ x
+          → (event_bytes * (report_of x t).events ≤ length room) × ((report_of x t).events ≤ most_events)
+      go (Ok x) h = let fits = accepted_fits t (length room) x.address x.events x.kind h in (fits.1, fits.2)
+      go (Err r) h = (omega arith, omega arith)
 
   refused_listing : ((report t room).number ≡ 0 → ⊥) → (refusal_line (report t room).number ≡ listing t) × ((report t room).number < 100)
   unfolding listing_of report report_of
   refused_listing h = let told = go (read_trace t (length room)) h in (told.0 ∙ sym same_reading, told.1)
     where
-      go : (x : TraceRead) → ((report_of x t).number ≡ 0 → ⊥) → (refusal_line (report_of x t).number ≡ listing_of x t) × ((report_of x t).number < 100)
-      go (Accepted a n k) z = absurd (z refl)
-      go (Refused r) z = (refl, two_digits r)
+      go : (x : Result Accepted Refusal) → ((report_of x t).number ≡ 0 → ⊥)
+          → (refusal_line (report_of x t).number ≡ listing_of x t) × ((report_of x t).number < 100)
+      go (Ok x) z = absurd (z refl)
+      go (Err r) z = (refl, two_digits r)
 
   -- ---- the same of any head r and buffer b that are the run's
 

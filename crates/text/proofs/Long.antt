@@ -19,18 +19,16 @@ use Rattle.arbiter.specs.Listing.{listing_of, listing}
 use Rattle.arbiter.specs.declared.Pins.{Pins}
 use Rattle.arbiter.specs.declared.Refusal.{Refusal}
 use Rattle.arbiter.specs.declared.Refusal.TheVariants.{TraceCut, TooManyEvents, BytesAfterEnd, BadStraps, BadCount, UnknownPart}
-use Rattle.arbiter.specs.declared.Strapped.{Strapped}
-use Rattle.arbiter.specs.declared.Strapped.TheVariants.{Address, Unlisted}
-use Rattle.arbiter.specs.declared.TraceRead.{TraceRead}
-use Rattle.arbiter.specs.declared.TraceRead.TheVariants.{Refused}
+use Rattle.std.specs.Prelude.{Option, Some, None, Result, Err}
+use Rattle.arbiter.specs.declared.Accepted.{Accepted}
 use Rattle.text.specs.Long.{enough, LongListing}
 
 -- why it is refused: its first byte is not 4, its pins are unlisted, its count of events is above 4,096, or what stands after its events
-abbrev why_long : Bool → Strapped → Bool → Refusal → Refusal
+abbrev why_long : Bool → Option ℕ → Bool → Refusal → Refusal
 why_long true s many after = BadCount
-why_long false Unlisted many after = BadStraps
-why_long false (Address a) true after = TooManyEvents
-why_long false (Address a) false after = after
+why_long false None many after = BadStraps
+why_long false (Some a) true after = TooManyEvents
+why_long false (Some a) false after = after
 
 -- there the count is not 1, the kind is another, or there is more than these
 abbrev why_after : ℕ → ℕ → Refusal
@@ -40,7 +38,7 @@ abbrev after_events : List ℕ → Refusal
 after_events t = why_after (byte_at (events_end (count_in t)) t) (kind_at (count_in t) t)
 
 module _ (t : List ℕ) (room : ℕ) (long : enough ≤ length t) where
-  after : (a n : ℕ) → n ≤ most_events → read_kind a n t room ≡ Refused (why_after (byte_at (events_end n) t) (kind_at n t))
+  after : (a n : ℕ) → n ≤ most_events → read_kind a n t room ≡ Err (why_after (byte_at (events_end n) t) (kind_at n t))
   unfolding read_kind
   after a n few =
       simp (
@@ -50,13 +48,14 @@ module _ (t : List ℕ) (room : ℕ) (long : enough ≤ length t) where
       )
       (go (not (eqb (byte_at (events_end n) t) kind_count)) (not (is_kind (kind_at n t))))
     where
-      go : (wrong unknown : Bool) → (if wrong then Refused BadCount else if unknown then Refused UnknownPart else Refused BytesAfterEnd)
-          ≡ Refused (if wrong then BadCount else if unknown then UnknownPart else BytesAfterEnd)
+      go : (wrong unknown : Bool)
+          → ◌≡◌ {A = Result Accepted Refusal} (if wrong then Err BadCount else if unknown then Err UnknownPart else Err BytesAfterEnd)
+          (Err (if wrong then BadCount else if unknown then UnknownPart else BytesAfterEnd))
       go true unknown = refl
       go false true = refl
       go false false = refl
 
-  counted : (a : ℕ) → read_counted a t room ≡ Refused (why_long false (Address a) (ltb most_events (count_in t)) (after_events t))
+  counted : (a : ℕ) → read_counted a t room ≡ Err (why_long false (Some a) (ltb most_events (count_in t)) (after_events t))
   unfolding read_counted
   counted a = simp (le-ltb (length t) head_bytes (omega arith)) (go (ltb most_events (count_in t)) refl)
     where
@@ -64,33 +63,33 @@ module _ (t : List ℕ) (room : ℕ) (long : enough ≤ length t) where
       n = count_in t
 
       go : (many : Bool) → ltb most_events n ≡ many
-          → (if many then Refused TooManyEvents else if ltb (length t) (events_end n) then Refused TraceCut else read_kind a n t room)
-          ≡ Refused (why_long false (Address a) many (after_events t))
+          → (if many then Err TooManyEvents else if ltb (length t) (events_end n) then Err TraceCut else read_kind a n t room)
+          ≡ Err (why_long false (Some a) many (after_events t))
       go true h = refl
       go false h =
           let few = ltb-false most_events n h in
           simp (le-ltb (length t) (events_end n) (omega (arith, few))) (after a n few)
 
-  read : read_trace t room ≡ Refused (why_long (not (eqb (byte_at 0 t) pin_count)) (address_of (pins_in t)) (ltb most_events (count_in t)) (after_events t))
+  read : read_trace t room ≡ Err (why_long (not (eqb (byte_at 0 t) pin_count)) (address_of (pins_in t)) (ltb most_events (count_in t)) (after_events t))
   unfolding read_trace read_strapped
   read =
       simp (le-ltb (length t) 1 (omega arith), le-ltb (length t) pin_bytes (omega arith)) (go (not (eqb (byte_at 0 t) pin_count)) (address_of (pins_in t)))
     where
-      go : (b : Bool) (s : Strapped) → (if b then Refused BadCount else read_strapped s t room)
-          ≡ Refused (why_long b s (ltb most_events (count_in t)) (after_events t))
+      go : (b : Bool) (s : Option ℕ) → (if b then Err BadCount else read_strapped s t room)
+          ≡ Err (why_long b s (ltb most_events (count_in t)) (after_events t))
       go true s = refl
-      go false Unlisted = refl
-      go false (Address a) = counted a
+      go false None = refl
+      go false (Some a) = counted a
 
 byte_kept : (t : List ℕ) (i : ℕ) → i < enough → byte_at i (take enough t) ≡ byte_at i t
 byte_kept t i h = get_or-take enough t i 0 h
 
 -- what stands after the events matters only where they are few enough
-same_why : (b : Bool) (s : Strapped) (many : Bool) (x y : Refusal) → (many ≡ false → x ≡ y) → why_long b s many x ≡ why_long b s many y
+same_why : (b : Bool) (s : Option ℕ) (many : Bool) (x y : Refusal) → (many ≡ false → x ≡ y) → why_long b s many x ≡ why_long b s many y
 same_why true s many x y h = refl
-same_why false Unlisted many x y h = refl
-same_why false (Address a) true x y h = refl
-same_why false (Address a) false x y h = h refl
+same_why false None many x y h = refl
+same_why false (Some a) true x y h = refl
+same_why false (Some a) false x y h = h refl
 
 pub long_listing : LongListing
 unfolding listing listing_of
@@ -100,16 +99,16 @@ long_listing t long =
     let pins : pins_in k ≡ pins_in t = λ j. record
     { ad3 = byte_kept t 1 (lit< tt) j; ad2 = byte_kept t 2 (lit< tt) j; ad1 = byte_kept t 3 (lit< tt) j; ad0 = byte_kept t 4 (lit< tt) j } in
     let count : count_in k ≡ count_in t = λ j. byte_kept t 5 (lit< tt) j + 256 * byte_kept t 6 (lit< tt) j in
-    ap (λ (x : TraceRead). listing_of x k) (read k answer_room whole)
-    ∙ ap (λ (b : ℕ). listing_of (Refused (why_long (not (eqb b pin_count)) (address_of (pins_in k)) (ltb most_events (count_in k)) (after_events k))) t)
+    ap (λ (x : Result Accepted Refusal). listing_of x k) (read k answer_room whole)
+    ∙ ap (λ (b : ℕ). listing_of (Err (why_long (not (eqb b pin_count)) (address_of (pins_in k)) (ltb most_events (count_in k)) (after_events k))) t)
     (byte_kept t 0 (lit< tt))
     ∙ ap (λ (p : Pins). listing_of
-    (Refused (why_long (not (eqb (byte_at 0 t) pin_count)) (address_of p) (ltb most_events (count_in k)) (after_events k))) t) pins
-    ∙ ap (λ (n : ℕ). listing_of (Refused (why_long (not (eqb (byte_at 0 t) pin_count)) (address_of (pins_in t)) (ltb most_events n)
+    (Err (why_long (not (eqb (byte_at 0 t) pin_count)) (address_of p) (ltb most_events (count_in k)) (after_events k))) t) pins
+    ∙ ap (λ (n : ℕ). listing_of (Err (why_long (not (eqb (byte_at 0 t) pin_count)) (address_of (pins_in t)) (ltb most_events n)
     (why_after (byte_at (events_end n) k) (kind_at n k)))) t) count
-    ∙ ap (λ (r : Refusal). listing_of (Refused r) t)
+    ∙ ap (λ (r : Refusal). listing_of (Err r) t)
     (same_why (not (eqb (byte_at 0 t) pin_count)) (address_of (pins_in t)) (ltb most_events (count_in t)) _ _ kept)
-    ∙ sym (ap (λ (x : TraceRead). listing_of x t) (read t answer_room long))
+    ∙ sym (ap (λ (x : Result Accepted Refusal). listing_of x t) (read t answer_room long))
   where
     kept : ltb most_events (count_in t) ≡ false → why_after (byte_at (events_end (count_in t)) (take enough t)) (kind_at (count_in t) (take enough t))
         ≡ after_events t

@@ -7,7 +7,7 @@ ghost use Rattle.arbiter.specs.Traces.{event_bytes, most_events, answer_room};
 ghost use Rattle.arbiter.specs.Listing.{hex_digit, hex2, head_line, head_chars, line_chars, most_chars, listing};
 ghost use Rattle.text.specs.Written.{fitted, text_after, line_in, lines_in, refusal_line};
 
-use format::{ANSWER_ROOM, EVENT_BYTES, MOST_EVENTS};
+use format::{ANSWER_ROOM, EVENT_BYTES, MOST_EVENTS, refusal_number};
 use traces::answer_trace;
 
 // The lengths of the first line and of an answer's line, their ends counted.
@@ -21,6 +21,8 @@ pub const LISTING_ROOM: usize = HEAD_CHARS + LINE_CHARS * MOST_EVENTS;
 const NEWLINE: u8 = 0x0A;
 
 const SPACE: u8 = 0x20;
+
+const REFUSED: u8 = 0x52;
 
 // ---- digits
 
@@ -82,10 +84,8 @@ fn put_lines(text: &mut [u8], answers: &[u8], n: usize)
     requires { (head_chars + line_chars * n ≤ length text.old) × (event_bytes * n ≤ length answers.now) }
     ensures { text.new ≡ sets text.old head_chars (lines_in n answers.now) }
 {
-    let mut i: usize = 0;
-    while i < n {
+    for i in 0..n {
         put_line(text, HEAD_CHARS + LINE_CHARS * i, answers, EVENT_BYTES * i);
-        i += 1;
     }
 }
 
@@ -104,42 +104,28 @@ fn list_accepted(address: u8, n: usize, answers: &[u8], text: &mut [u8]) -> usiz
     needed
 }
 
-// R, a number of one digit, and the end of the line; then the same with two digits.
-fn put_short(text: &mut [u8], number: u8)
-    requires { (3 ≤ length text.old) × (number < 10) }
-    ensures { text.new ≡ sets text.old 0 (refusal_line number) }
+// A whole text at the start of the buffer, if it has room.
+fn put_whole(text: &mut [u8], written: &[u8]) -> usize
+    ensures { (result ≡ length written.now) × (text.new ≡ fitted written.now text.old) }
 {
-    text[0] = 0x52;
-    text[1] = 0x30 + number;
-    text[2] = NEWLINE;
+    let n = written.len();
+    if n <= text.len() {
+        text[..n].copy_from_slice(written);
+    }
+    n
 }
 
-fn put_long(text: &mut [u8], number: u8)
-    requires { (4 ≤ length text.old) × (10 ≤ number) × (number < 100) }
-    ensures { text.new ≡ sets text.old 0 (refusal_line number) }
-{
-    text[0] = 0x52;
-    text[1] = 0x30 + number / 10;
-    text[2] = 0x30 + number % 10;
-    text[3] = NEWLINE;
-}
-
+// R, the number in one digit or two, and the end of the line.
 fn list_refused(number: u8, text: &mut [u8]) -> usize
     requires { number < 100 }
     ensures { (result ≡ length (refusal_line number)) × (text.new ≡ fitted (refusal_line number) text.old) }
 {
     if number < 10 {
-        if text.len() < 3 {
-            return 3;
-        }
-        put_short(text, number);
-        return 3;
+        put_whole(text, &[REFUSED, 0x30 + number, NEWLINE])
+    } else {
+        let line = [REFUSED, 0x30 + number / 10, 0x30 + number % 10, NEWLINE];
+        put_whole(text, &line)
     }
-    if text.len() < 4 {
-        return 4;
-    }
-    put_long(text, number);
-    4
 }
 
 // Room for the answers of any trace.
@@ -154,11 +140,9 @@ fn list_by(t: &[u8], answers: &mut [u8], text: &mut [u8]) -> usize
     requires { answer_room ≡ length answers.old }
     ensures { (result ≡ length (listing t.now)) × (text.new ≡ text_after t.now text.old) }
 {
-    let report = answer_trace(t, answers);
-    if report.number == 0 {
-        list_accepted(report.address, report.events, answers, text)
-    } else {
-        list_refused(report.number, text)
+    match answer_trace(t, answers) {
+        Ok(head) => list_accepted(head.address, head.events, answers, text),
+        Err(why) => list_refused(refusal_number(why), text),
     }
 }
 

@@ -37,8 +37,9 @@ use Rattle.arbiter.specs.declared.Raw.{Raw}
 use Rattle.arbiter.specs.declared.Clock.TheVariants.{NoClock}
 use Rattle.arbiter.specs.declared.Event.{Event}
 use Rattle.arbiter.specs.declared.Event.TheVariants.{Command, Write, Read, Stop, Pair, Lines, Pulse, Reset, GeneralCall}
-use Rattle.arbiter.specs.declared.Decoded.{Decoded}
-use Rattle.arbiter.specs.declared.Decoded.TheVariants.{Reads, UnknownKind, BadField}
+use Rattle.std.specs.Prelude.{Result, Ok, Err}
+use Rattle.arbiter.specs.declared.Unread.TheVariants.{BadField, UnknownKind}
+use Rattle.arbiter.specs.declared.Unread.{Unread}
 use Rattle.arbiter.specs.declared.Outcome.TheVariants.{Done, NotAcknowledged, OutOfSequence}
 use Rattle.arbiter.specs.declared.Answer.{Answer}
 use Rattle.events.proofs.Numbers.{raw_told}
@@ -89,19 +90,19 @@ module _ (k : Kind) (l : List Side) (b : Bus) (a : Arbitration) (two : length l 
   abbrev now : Device
   now = held k l b a
 
-  stepped : (e : Event) → decode r ≡ Reads e → step now r ≡ step_event e now
+  stepped : (e : Event) → decode r ≡ Ok e → step now r ≡ step_event e now
   unfolding step step_decoded
-  stepped e h = ap (λ (x : Decoded). step_decoded x now) h
+  stepped e h = ap (λ (x : Result Event Unread). step_decoded x now) h
 
   -- out of sequence
-  refused_arm : (e : Event) → decode r ≡ Reads e → in_sequence e now ≡ false → stepped_with now (kept 4 0 owner lines) ≡ step now r
+  refused_arm : (e : Event) → decode r ≡ Ok e → in_sequence e now ≡ false → stepped_with now (kept 4 0 owner lines) ≡ step now r
   unfolding step_event refused
   refused_arm e h q =
       joined now now 4 4 0 0 owner _ lines _ refl refl refl o i
       ∙ sym (stepped e h ∙ ap (λ (x : Bool). if x then taken e now else refused (outcome_number OutOfSequence) now) q)
 
   -- in sequence, and ended by itself
-  ended_arm : (e : Event) → decode r ≡ Reads e → Settled now → in_sequence e now ≡ true → ends_itself e now ≡ true
+  ended_arm : (e : Event) → decode r ≡ Ok e → Settled now → in_sequence e now ≡ true → ends_itself e now ≡ true
       → (d : Device) (number byte li : ℕ) → d ≡ its_end e now → number ≡ outcome_number (if acknowledged e now then Done else NotAcknowledged) → byte
       ≡ byte_read e now
       → li ≡ (if keeps_lines e now then lines_byte now else lines_byte (its_end e now)) → stepped_with d (kept number byte owner li) ≡ step now r
@@ -111,7 +112,7 @@ module _ (k : Kind) (l : List Side) (b : Bus) (a : Arbitration) (two : length l 
       joined d _ number _ byte _ owner _ li _ f (g ∙ asked) p o n ∙ sym (stepped e h ∙ ended_is_step e now s q t)
 
   -- in sequence, acknowledged, and stepped in full
-  taken_arm : (e : Event) → decode r ≡ Reads e → in_sequence e now ≡ true → acknowledged e now ≡ true → byte_read e now ≡ 0
+  taken_arm : (e : Event) → decode r ≡ Ok e → in_sequence e now ≡ true → acknowledged e now ≡ true → byte_read e now ≡ 0
       → (d : Device) (ow li : ℕ) → d ≡ parts e now → ow ≡ owner_byte d → li ≡ lines_byte d → stepped_with d (kept 0 0 ow li) ≡ step now r
   unfolding step_event taken outcome
   taken_arm e h q t z d ow li f g n =
@@ -167,7 +168,7 @@ module _ (k : Kind) (l : List Side) (b : Bus) (a : Arbitration) (two : length l 
     other : side (partner m) now ≡ side_at l (1 - at)
     other = partner_at k b a l r.x fits
 
-    pub command-arm : decode r ≡ Reads (Command m r.y) → Settled now → (v : Side) (number : ℕ) → v ≡ commanded r.y (side_at l at) → number
+    pub command-arm : decode r ≡ Ok (Command m r.y) → Settled now → (v : Side) (number : ℕ) → v ≡ commanded r.y (side_at l at) → number
         ≡ outcome_number (if good_command r.y then Done else NotAcknowledged)
         → stepped_with (held k (set l at v) b a) (kept number 0 owner lines) ≡ step now r
     unfolding in_sequence acknowledged ends_itself keeps_lines its_end effect byte_read
@@ -175,11 +176,11 @@ module _ (k : Kind) (l : List Side) (b : Bus) (a : Arbitration) (two : length l 
         ended_arm (Command m r.y) h s refl refl _ number 0 lines
         (set_one k b a l two r.x fits v ∙ ap (λ (x : Side). with_side m x now) (e ∙ ap (commanded r.y) (sym own))) g refl i
 
-    pub stop_refused : decode r ≡ Reads (Stop m) → at_rest (side_at l at).port ≡ true → stepped_with now (kept 4 0 owner lines) ≡ step now r
+    pub stop_refused : decode r ≡ Ok (Stop m) → at_rest (side_at l at).port ≡ true → stepped_with now (kept 4 0 owner lines) ≡ step now r
     unfolding in_sequence
     stop_refused h q = refused_arm (Stop m) h (ap (λ (x : Side). not (at_rest x.port)) own ∙ ap not q)
 
-    pub stop-arm : decode r ≡ Reads (Stop m) → Settled now → at_rest (side_at l at).port ≡ false → claims_turn m a.turn && eqb b.hold 0 ≡ false → (v : Side)
+    pub stop-arm : decode r ≡ Ok (Stop m) → Settled now → at_rest (side_at l at).port ≡ false → claims_turn m a.turn && eqb b.hold 0 ≡ false → (v : Side)
         → v ≡ with_port Rest (side_at l at)
         → stepped_with (held k (set l at v) b a) (kept 0 0 owner lines) ≡ step now r
     unfolding in_sequence acknowledged ends_itself keeps_lines its_end effect byte_read
@@ -187,7 +188,7 @@ module _ (k : Kind) (l : List Side) (b : Bus) (a : Arbitration) (two : length l 
         ended_arm (Stop m) h s (ap (λ (x : Side). not (at_rest x.port)) own ∙ ap not q) (ap not c) _ 0 0 lines
         (set_one k b a l two r.x fits v ∙ ap (λ (x : Side). with_side m x now) (e ∙ ap (with_port Rest) (sym own))) refl refl i
 
-    pub write-refused : decode r ≡ Reads (Write m r.y) → for_writing (side_at l at).port ≡ false → stepped_with now (kept 4 0 owner lines) ≡ step now r
+    pub write-refused : decode r ≡ Ok (Write m r.y) → for_writing (side_at l at).port ≡ false → stepped_with now (kept 4 0 owner lines) ≡ step now r
     unfolding in_sequence
     write-refused h q = refused_arm (Write m r.y) h (ap (λ (x : Side). for_writing x.port) own ∙ q)
 
@@ -201,7 +202,7 @@ module _ (k : Kind) (l : List Side) (b : Bus) (a : Arbitration) (two : length l 
     light-byte MailLow = refl
     light-byte MailHigh = refl
 
-    pub write-arm : decode r ≡ Reads (Write m r.y) → Settled now → for_writing (side_at l at).port ≡ true
+    pub write-arm : decode r ≡ Ok (Write m r.y) → Settled now → for_writing (side_at l at).port ≡ true
         → byte_is_light (side_at l at).pointer m (owns_turn m a.turn) r.y a.turn (side_at l at).contr.busconnect ≡ true
         → (v w : Side) (number li : ℕ) → v ≡ write_risen (rolls now) (own_written (owns_turn m a.turn) (side_at l at).pointer r.y (side_at l at)) → w
         ≡ mail_written (side_at l at).pointer r.y (side_at l (1 - at))
@@ -230,7 +231,7 @@ module _ (k : Kind) (l : List Side) (b : Bus) (a : Arbitration) (two : length l 
     grant-room s t = omega (arith, o, waits_below m now s ((and-eq-true_iff (claims_turn m a.turn) (eqb b.hold 0)).0 t).0)
 
     -- the STOP of a claimant brings it the grant
-    pub grant-arm : decode r ≡ Reads (Stop m) → Settled now → not (at_rest (side_at l at).port) ≡ true → claims_turn m a.turn && eqb b.hold 0 ≡ true
+    pub grant-arm : decode r ≡ Ok (Stop m) → Settled now → not (at_rest (side_at l at).port) ≡ true → claims_turn m a.turn && eqb b.hold 0 ≡ true
         → (v : Side) (n : Bus) (w : Arbitration) (bits li : ℕ) → v ≡ side_granted (side_at l at) → n ≡ with_idle 0 b → w ≡ arb_granted m (side_at l at) a → bits
         ≡ granted_bits r.x (side_at l at).contr
         → li ≡ lines_shown (side_at (set l at v) 0) (side_at (set l at v) 1) n
@@ -268,7 +269,7 @@ module _ (k : Kind) (l : List Side) (b : Bus) (a : Arbitration) (two : length l 
     risen_ints true p x = (refl, refl)
     risen_ints false p x = (refl, refl)
 
-    pub claim-arm : decode r ≡ Reads (Write m r.y) → Settled now → for_writing (side_at l at).port ≡ true → is_contr (side_at l at).pointer ≡ true
+    pub claim-arm : decode r ≡ Ok (Write m r.y) → Settled now → for_writing (side_at l at).port ≡ true → is_contr (side_at l at).pointer ≡ true
         → bit 0 r.y ≡ true → is_nobody a.turn ≡ true
         → (v : Side) (w : Arbitration) → v ≡ write_risen (rolls now) claimer → w ≡ with_turn (Claims m Sole) a
         → stepped_with (held k (set l at v) b w) (kept 0 0 32 lines) ≡ step now r
@@ -304,7 +305,7 @@ module _ (k : Kind) (l : List Side) (b : Bus) (a : Arbitration) (two : length l 
     emptied-is : (t : Bool) → empties (side_at l at) ≡ t → empties (side m now) ≡ t
     emptied-is t q = ap empties own ∙ q
 
-    pub read-emptying : decode r ≡ Reads (Read m) → Settled now → empties (side_at l at) ≡ true → (v w : Side) (byte li : ℕ) → v ≡ reader_side (side_at l at)
+    pub read-emptying : decode r ≡ Ok (Read m) → Settled now → empties (side_at l at) ≡ true → (v w : Side) (byte li : ℕ) → v ≡ reader_side (side_at l at)
         → w
         ≡ sender_side true (side_at l (1 - at)) → byte ≡ handed
         → li ≡ lines_shown (side_at (set (set l at v) (1 - at) w) 0) (side_at (set (set l at v) (1 - at) w) 1) b
@@ -323,7 +324,7 @@ module _ (k : Kind) (l : List Side) (b : Bus) (a : Arbitration) (two : length l 
     unsent : (x : Side) → x ≡ sender_side false x
     unsent x = ap (λ (n : ℕ). with_ints n x) (sym (or_zero_r x.ints))
 
-    pub read-arm : decode r ≡ Reads (Read m) → Settled now → empties (side_at l at) ≡ false → (v : Side) (byte : ℕ) → v ≡ reader_side (side_at l at) → byte
+    pub read-arm : decode r ≡ Ok (Read m) → Settled now → empties (side_at l at) ≡ false → (v : Side) (byte : ℕ) → v ≡ reader_side (side_at l at) → byte
         ≡ handed
         → stepped_with (held k (set l at v) b a) (kept 0 byte owner lines) ≡ step now r
     unfolding in_sequence acknowledged ends_itself keeps_lines its_end effect was_read
@@ -337,7 +338,7 @@ module _ (k : Kind) (l : List Side) (b : Bus) (a : Arbitration) (two : length l 
         (i ∙ ap (λ (x : Bool). if not x then lines_byte now else lines_byte (was_read m now)) (sym (emptied-is false t)))
 
     -- GENERAL CALL of 06h
-    pub soft-arm : decode r ≡ Reads (GeneralCall m r.y) → soft_reset r.y ≡ true → (hold : ℕ) → hold ≡ hold_asked (side_at l at) → (d : Device) (x : Answer)
+    pub soft-arm : decode r ≡ Ok (GeneralCall m r.y) → soft_reset r.y ≡ true → (hold : ℕ) → hold ≡ hold_asked (side_at l at) → (d : Device) (x : Answer)
         → d ≡ was_reset hold now → x ≡ answer 0 0 d
         → stepped_with d x ≡ step now r
     unfolding step_event taken in_sequence acknowledged outcome byte_read parts effect
@@ -358,10 +359,10 @@ module _ (k : Kind) (l : List Side) (b : Bus) (a : Arbitration) (two : length l 
   unfolding step step_decoded refused
   unread_arm n e some = go (decode r) (e ∙ sym (raw_told r (decode r) refl).1)
     where
-      go : (x : Decoded) → n ≡ decoded_number x → stepped_with now (kept n 0 owner lines) ≡ step_decoded x now
-      go (Reads v) h = absurd (some h)
-      go UnknownKind h = joined now now n 2 0 0 owner _ lines _ refl h refl o i
-      go BadField h = joined now now n 3 0 0 owner _ lines _ refl h refl o i
+      go : (x : Result Event Unread) → n ≡ decoded_number x → stepped_with now (kept n 0 owner lines) ≡ step_decoded x now
+      go (Ok v) h = absurd (some h)
+      go (Err UnknownKind) h = joined now now n 2 0 0 owner _ lines _ refl h refl o i
+      go (Err BadField) h = joined now now n 3 0 0 owner _ lines _ refl h refl o i
 
   byte_light : (p : Register) (c : Master) (v : ℕ) → write_is_light p c v now
       ≡ byte_is_light p c (owns_turn c a.turn) v a.turn (side c now).contr.busconnect
@@ -374,7 +375,7 @@ module _ (k : Kind) (l : List Side) (b : Bus) (a : Arbitration) (two : length l 
   byte_light MailLow c v = refl
   byte_light MailHigh c v = refl
 
-  pub pair_arm : decode r ≡ Reads (Pair r.x r.y) → Settled now → for_writing (side_at l 0).port && for_writing (side_at l 1).port ≡ true
+  pub pair_arm : decode r ≡ Ok (Pair r.x r.y) → Settled now → for_writing (side_at l 0).port && for_writing (side_at l 1).port ≡ true
       → byte_is_light (side_at l 0).pointer Zero (owns_turn Zero a.turn) r.x a.turn (side_at l 0).contr.busconnect && byte_is_light (side_at l 1).pointer
       One (owns_turn One a.turn) r.y a.turn (side_at l 1).contr.busconnect ≡ true
       → (v w : Side) (number li : ℕ) → v ≡ mail_written (side_at l 1).pointer r.y
@@ -396,16 +397,16 @@ module _ (k : Kind) (l : List Side) (b : Bus) (a : Arbitration) (two : length l 
       ended_arm (Pair r.x r.y) h s q (ap₂ (λ (x y : Bool). x && y) l0 l1) _ number 0 li gone g refl
       (n ∙ lines_of k v w b a ∙ ap lines_byte (sym (set_all k b a l two v w) ∙ gone))
 
-  pub pair_refused : decode r ≡ Reads (Pair r.x r.y) → for_writing (side_at l 0).port && for_writing (side_at l 1).port ≡ false
+  pub pair_refused : decode r ≡ Ok (Pair r.x r.y) → for_writing (side_at l 0).port && for_writing (side_at l 1).port ≡ false
       → stepped_with now (kept 4 0 owner lines) ≡ step now r
   unfolding in_sequence
   pair_refused h q = refused_arm (Pair r.x r.y) h q
 
-  pub pulse_refused : decode r ≡ Reads (Pulse (level r.x)) → is_initialising a.switch ≡ false → stepped_with now (kept 4 0 owner lines) ≡ step now r
+  pub pulse_refused : decode r ≡ Ok (Pulse (level r.x)) → is_initialising a.switch ≡ false → stepped_with now (kept 4 0 owner lines) ≡ step now r
   unfolding in_sequence
   pulse_refused h q = refused_arm (Pulse (level r.x)) h q
 
-  pub lines_arm : decode r ≡ Reads (Lines (level r.x) (level r.y) (level r.z)) → Settled now → (n : Bus) → n
+  pub lines_arm : decode r ≡ Ok (Lines (level r.x) (level r.y) (level r.z)) → Settled now → (n : Bus) → n
       ≡ lined_bus (level r.x) (level r.y) (level r.z) b → no_loss a.turn (held k l n a) ≡ true
       → (fell : Bool) → fell ≡ b.intin && not (level r.z) → (v w : Side) (li : ℕ) → v ≡ int_in_fallen fell (side_at l 0) → w ≡ int_in_fallen fell (side_at l 1)
       → li ≡ lines_shown v w n
@@ -421,7 +422,7 @@ module _ (k : Kind) (l : List Side) (b : Bus) (a : Arbitration) (two : length l 
       (u ∙ lines_of k v w n a ∙ ap lines_byte (sym (set_all k n a l two v w) ∙ gone))
 
   -- GENERAL CALL of another byte: nothing happens, and parts 2 to 7 have nothing to do in a settled device
-  pub call_arm : decode r ≡ Reads (GeneralCall (master r.x) r.y) → Settled now → soft_reset r.y ≡ false → stepped_with now (kept 1 0 owner lines)
+  pub call_arm : decode r ≡ Ok (GeneralCall (master r.x) r.y) → Settled now → soft_reset r.y ≡ false → stepped_with now (kept 1 0 owner lines)
       ≡ step now r
   unfolding step_event taken in_sequence acknowledged outcome byte_read parts effect parts_three_to_seven
   call_arm h s q =
@@ -434,7 +435,7 @@ module _ (k : Kind) (l : List Side) (b : Bus) (a : Arbitration) (two : length l 
       (o ∙ ap owner_byte (sym rest)) (i ∙ ap lines_byte (sym rest))
       ∙ sym (stepped (GeneralCall (master r.x) r.y) h)
 
-  pub reset_arm : decode r ≡ Reads Reset → (d : Device) (x : Answer) → d ≡ was_reset 0 now → x ≡ answer 0 0 d → stepped_with d x ≡ step now r
+  pub reset_arm : decode r ≡ Ok Reset → (d : Device) (x : Answer) → d ≡ was_reset 0 now → x ≡ answer 0 0 d → stepped_with d x ≡ step now r
   unfolding step_event taken in_sequence acknowledged outcome byte_read
   reset_arm h d x e f =
       ap (λ (y : Answer). stepped_with d y) f

@@ -1,9 +1,8 @@
 -- What the tests of the loop over events tell: a byte that moves nothing else, a move of the turn, and which event four bytes are.
 -- Assumes nothing.
 use Prim.Native.Nat.{ℕ}
-use mathlib.Core.Path.{◌≡◌, refl, sym, ap, ◌∙◌}
+use mathlib.Core.Path.{◌≡◌, refl, ap, ◌∙◌}
 use mathlib.Core.Bool.{Bool, true, false, not, ◌&&◌, ◌||◌, false≢true, and-eq-true_iff}
-use native.Mathlib.Omega.{arith}
 use lib.Dec.{eqb}
 use borrow.Author.Tests.{eqb-true}
 use Rattle.arbiter.specs.Words.{bit}
@@ -20,8 +19,8 @@ use Rattle.arbiter.specs.declared.Arbitration.{Arbitration}
 use Rattle.arbiter.specs.declared.Raw.{Raw}
 use Rattle.arbiter.specs.declared.Event.{Event}
 use Rattle.arbiter.specs.declared.Event.TheVariants.{Command, Write, Read, Stop, Pair, Lines, Pulse, Reset, GeneralCall}
-use Rattle.arbiter.specs.declared.Decoded.{Decoded}
-use Rattle.arbiter.specs.declared.Decoded.TheVariants.{Reads}
+use Rattle.std.specs.Prelude.{Result, Ok}
+use Rattle.arbiter.specs.declared.Unread.{Unread}
 use Rattle.light.specs.Ended.{leaves_turn}
 use Rattle.light.specs.Turns.{is_contr, is_nobody}
 use Rattle.traces.specs.Sides.{byte_is_light}
@@ -75,50 +74,50 @@ claim_told r a s h =
     (eqb-true r.kind 1 all.0, all.1, all.2, all.3, most.1, last.1)
 
 module _ (r : Raw) (k : ℕ) (kind : r.kind ≡ k) where
-  abbrev same : Decoded
+  abbrev same : Result Event Unread
   same = decode (record { kind = k; x = r.x; y = r.y; z = r.z })
 
   as_kind : decode r ≡ same
   as_kind = ap (λ (n : ℕ). decode (record { kind = n; x = r.x; y = r.y; z = r.z })) kind
 
 -- the event of a kind whose fields fit
-fitted : (e : Event) (t : Bool) → t ≡ true → fitting t e ≡ Reads e
+fitted : (e : Event) (t : Bool) → t ≡ true → fitting t e ≡ Ok e
 fitted e t h = ap (λ (b : Bool). fitting b e) h
 
 module _ (r : Raw) where
-  pub reads_command : r.kind ≡ 0 → zero_or_one r.x && unused r.z ≡ true → decode r ≡ Reads (Command (master r.x) r.y)
+  pub reads_command : r.kind ≡ 0 → zero_or_one r.x && unused r.z ≡ true → decode r ≡ Ok (Command (master r.x) r.y)
   unfolding decode
   reads_command k h = as_kind r 0 k ∙ fitted _ _ h
 
-  pub reads_write : r.kind ≡ 1 → zero_or_one r.x && unused r.z ≡ true → decode r ≡ Reads (Write (master r.x) r.y)
+  pub reads_write : r.kind ≡ 1 → zero_or_one r.x && unused r.z ≡ true → decode r ≡ Ok (Write (master r.x) r.y)
   unfolding decode
   reads_write k h = as_kind r 1 k ∙ fitted _ _ h
 
-  pub reads_read : r.kind ≡ 2 → zero_or_one r.x && unused r.y && unused r.z ≡ true → decode r ≡ Reads (Read (master r.x))
+  pub reads_read : r.kind ≡ 2 → zero_or_one r.x && unused r.y && unused r.z ≡ true → decode r ≡ Ok (Read (master r.x))
   unfolding decode
   reads_read k h = as_kind r 2 k ∙ fitted _ _ h
 
-  pub reads_stop : r.kind ≡ 3 → zero_or_one r.x && unused r.y && unused r.z ≡ true → decode r ≡ Reads (Stop (master r.x))
+  pub reads_stop : r.kind ≡ 3 → zero_or_one r.x && unused r.y && unused r.z ≡ true → decode r ≡ Ok (Stop (master r.x))
   unfolding decode
   reads_stop k h = as_kind r 3 k ∙ fitted _ _ h
 
-  pub reads_pair : r.kind ≡ 4 → unused r.z ≡ true → decode r ≡ Reads (Pair r.x r.y)
+  pub reads_pair : r.kind ≡ 4 → unused r.z ≡ true → decode r ≡ Ok (Pair r.x r.y)
   unfolding decode
   reads_pair k h = as_kind r 4 k ∙ fitted _ _ h
 
   pub reads_lines : r.kind ≡ 5 → zero_or_one r.x && zero_or_one r.y && zero_or_one r.z ≡ true → decode r
-      ≡ Reads (Lines (level r.x) (level r.y) (level r.z))
+      ≡ Ok (Lines (level r.x) (level r.y) (level r.z))
   unfolding decode
   reads_lines k h = as_kind r 5 k ∙ fitted _ _ h
 
-  pub reads_pulse : r.kind ≡ 7 → zero_or_one r.x && unused r.y && unused r.z ≡ true → decode r ≡ Reads (Pulse (level r.x))
+  pub reads_pulse : r.kind ≡ 7 → zero_or_one r.x && unused r.y && unused r.z ≡ true → decode r ≡ Ok (Pulse (level r.x))
   unfolding decode
   reads_pulse k h = as_kind r 7 k ∙ fitted _ _ h
 
-  pub reads_reset : r.kind ≡ 8 → unused r.x && unused r.y && unused r.z ≡ true → decode r ≡ Reads Reset
+  pub reads_reset : r.kind ≡ 8 → unused r.x && unused r.y && unused r.z ≡ true → decode r ≡ Ok Reset
   unfolding decode
   reads_reset k h = as_kind r 8 k ∙ fitted _ _ h
 
-  pub reads_call : r.kind ≡ 9 → zero_or_one r.x && unused r.z ≡ true → decode r ≡ Reads (GeneralCall (master r.x) r.y)
+  pub reads_call : r.kind ≡ 9 → zero_or_one r.x && unused r.z ≡ true → decode r ≡ Ok (GeneralCall (master r.x) r.y)
   unfolding decode
   reads_call k h = as_kind r 9 k ∙ fitted _ _ h

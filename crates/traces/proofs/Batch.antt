@@ -10,7 +10,7 @@ use native.Mathlib.Omega.{arith}
 use lib.Dec.{eqb, ltb}
 use lib.ListN.{length, drop, length-set}
 use borrow.Author.Tests.{eq-eqb, ne_eqb, eqb-true, eqb-false, ltb-true, ltb-false}
-use Rattle.std.specs.Prelude.{if◌then◌else◌}
+use Rattle.std.specs.Prelude.{min, if◌then◌else◌}
 use Rattle.arbiter.specs.State.{scl_high, sda_high, is_idle}
 use Rattle.arbiter.specs.Steps.{owner_byte, lines_byte, answer, step, run_from, answers_from}
 use Rattle.arbiter.specs.Traces.{event_bytes, raws_in, bytes_of, event_count}
@@ -24,10 +24,9 @@ use Rattle.arbitration.specs.Quiet.{no_loss, no_cut, no_claim, no_grant}
 use Rattle.connection.specs.Quiet.{switch_stays}
 use Rattle.step.specs.Carried.{is_quiet}
 use Rattle.light.specs.Light.{Still, Settled}
-use Rattle.step.specs.Carried.{kept}
 use Rattle.light.proofs.Settles.{stays_settled}
 use Rattle.light.proofs.Ended.{answer_shows}
-use Rattle.quiet.specs.Counts.{least, after_ticks}
+use Rattle.quiet.specs.Counts.{after_ticks}
 use Rattle.quiet.specs.Quiet.{is_still, counts_left, quiet_ticks, tick, ticks}
 use Rattle.quiet.proofs.Ticks.{quiet, quiet_together}
 use Rattle.traces.specs.Ticks.{is_tick_raw, AllTicks, with_same}
@@ -238,12 +237,8 @@ module _ (from : Device) (b l : List ℕ) (i : ℕ) (d : Device) (out : List ℕ
 
 -- ---- what the code's tests tell
 
-pub least_both : (x y r : ℕ) → r ≡ least x y → (r ≤ x) × (r ≤ y) × (1 ≤ x → 1 ≤ y → 1 ≤ r)
-least_both x y r h = go (ltb x y) refl h
-  where
-    go : (t : Bool) → ltb x y ≡ t → r ≡ (if t then x else y) → (r ≤ x) × (r ≤ y) × (1 ≤ x → 1 ≤ y → 1 ≤ r)
-    go true e q = let low = ltb-true x y e in (omega (arith, q), omega (arith, q, low), λ a b. omega (arith, q, a))
-    go false e q = let high = ltb-false x y e in (omega (arith, q, high), omega (arith, q), λ a b. omega (arith, q, b))
+pub least_both : (x y r : ℕ) → r ≡ min x y → (r ≤ x) × (r ≤ y) × (1 ≤ x → 1 ≤ y → 1 ≤ r)
+least_both x y r h = (omega (arith, h), omega (arith, h), λ a b. omega (arith, h, a, b))
 
 pub some_one : (k : ℕ) → (k ≡ 0 → ⊥) → 1 ≤ k
 some_one zero h = absurd (h refl)

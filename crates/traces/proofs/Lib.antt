@@ -1,3 +1,4 @@
+pub mod Told
 pub mod Runs
 pub mod Batch
 pub mod Owners

@@ -2,24 +2,27 @@
 -- what a whole run leaves, accepted or refused.
 -- Assumes nothing.
 use mathlib.Core.Path.{◌≡◌, ◌∙◌, refl, sym, ap}
-use mathlib.Core.Bool.{false}
+use mathlib.Core.Bool.{Bool, true, false, not}
 use mathlib.Core.List.{List, [], ◌∷◌, ◌++◌, append_assoc, append-nil}
-use Prim.Native.Nat.{ℕ, zero, suc, ◌+◌, ◌*◌, ◌/◌, ◌%◌, ◌≤◌, ◌<◌}
+use Prim.Native.Nat.{ℕ, zero, suc, ◌+◌, ◌*◌, ◌%◌, ◌≤◌, ◌<◌}
 use native.Mathlib.Nat.{le_of_eq}
 use native.Mathlib.Numerals.{add-one}
 use native.Mathlib.Omega.{arith}
-use lib.Dec.{ltb}
+use lib.Dec.{ltb, eqb}
 use lib.ListN.{length, get_or, set, take, drop, length-append, drop_of_length-le}
 use lib.Seq.{drop-cons, set_at, drop-drop, length-take-le}
-use borrow.Author.Tests.{eq-eqb, ne_eqb, lt-ltb, le-ltb}
+use borrow.Author.Tests.{eq-eqb, eqb-true, ltb-false, lt-ltb, le-ltb}
+use Rattle.std.specs.Prelude.{Result, Ok, Err, if◌then◌else◌}
 use Rattle.arbiter.specs.Steps.{step, run_from, answers_from}
-use Rattle.arbiter.specs.Traces.{event_bytes, raw_in, raws_in, bytes_of, event_count, ran_number, ran_count, ran, buffer_ran}
+use Rattle.arbiter.specs.Traces.{event_bytes, raw_in, raws_in, bytes_of, event_count, ran_number, ran_count, ran, buffer_ran, refusal_number}
+use Rattle.arbiter.specs.declared.Refusal.{Refusal}
+use Rattle.arbiter.specs.declared.Refusal.TheVariants.{TraceCut, NoRoom}
 use Rattle.arbiter.specs.declared.Device.{Device}
 use Rattle.arbiter.specs.declared.Raw.{Raw}
 use Rattle.arbiter.specs.declared.Answer.{Answer}
 use Rattle.arbiter.specs.declared.Stepped.{Stepped}
 use Rattle.format.specs.Places.{event_at, put_at, with_answer}
-use Rattle.traces.specs.Bodies.{ran_with}
+use Rattle.traces.specs.Bodies.{with_room, ran_with}
 
 -- ---- lists with one element more
 
@@ -130,17 +133,39 @@ module _ (from : Device) (b : List ℕ) (k : ℕ) (d : Device) (s : Stepped) (mo
 
 -- ---- what a whole run leaves: refused for its bytes, refused for the room, or run to the end
 
-module _ (d : Device) (events buffer : List ℕ) where
-  pub odd_ran : (length events % event_bytes ≡ 0 → ⊥) → (ran_with 5 0 d ≡ ran d events buffer) × (buffer ≡ buffer_ran d events buffer)
-  unfolding ran buffer_ran ran_number ran_count run_from answers_from raws_in
-  odd_ran odd = (simp (ne_eqb _ _ odd), simp (ne_eqb _ _ odd))
+-- ---- how many events some bytes are, by the two tests
 
-  pub short_ran : length events % event_bytes ≡ 0 → length buffer / event_bytes < event_count events → (ran_with 9 0 d ≡ ran d events buffer)
+apart : (n : ℕ) (why : Refusal) → ◌≡◌ {A = Result ℕ Refusal} (Ok n) (Err why) → ⊥
+apart n why h = let z : ◌≡◌ {A = ℕ} 0 1 = cc in omega arith
+
+counted_by : (fours short : Bool) (n m : ℕ) → (if not fours then Err TraceCut else if short then Err NoRoom else Ok n) ≡ Ok m
+    → (fours ≡ true) × (short ≡ false) × (n ≡ m)
+counted_by false short n m h = absurd (apart _ _ (sym h))
+counted_by true true n m h = absurd (apart _ _ (sym h))
+counted_by true false n m h = (refl, refl, cc)
+
+-- events that are counted are there, and their answers have room
+pub roomy : (events : List ℕ) (room n : ℕ) → with_room events room ≡ Ok n → (length events ≡ event_bytes * n) × (event_bytes * n ≤ room)
+unfolding with_room
+roomy events room n h =
+    let p = counted_by (eqb (length events % event_bytes) 0) (ltb room (event_bytes * event_count events)) (event_count events) n h in
+    let fours = eqb-true (length events % event_bytes) 0 p.0 in
+    let fits = ltb-false room (event_bytes * event_count events) p.1 in
+    let same : event_count events ≡ n = p.2 in
+    (omega (arith, fours, same), omega (arith, fits, same))
+
+module _ (d : Device) (events buffer : List ℕ) where
+  pub refused_ran : (why : Refusal) → with_room events (length buffer) ≡ Err why → (ran_with (refusal_number why) 0 d ≡ ran d events buffer)
       × (buffer ≡ buffer_ran d events buffer)
-  unfolding ran buffer_ran ran_number ran_count run_from answers_from raws_in
-  short_ran fours short =
-      let room = lt-ltb (length buffer) (event_bytes * event_count events) (omega arith) in
-      (simp (eq-eqb _ _ fours, room), simp (eq-eqb _ _ fours, room))
+  unfolding with_room ran buffer_ran ran_number ran_count run_from answers_from raws_in
+  refused_ran why h = go (eqb (length events % event_bytes) 0) (ltb (length buffer) (event_bytes * event_count events)) refl refl h
+    where
+      go : (fours short : Bool) → eqb (length events % event_bytes) 0 ≡ fours → ltb (length buffer) (event_bytes * event_count events) ≡ short
+          → (if not fours then Err TraceCut else if short then Err NoRoom else Ok (event_count events)) ≡ Err why
+          → (ran_with (refusal_number why) 0 d ≡ ran d events buffer) × (buffer ≡ buffer_ran d events buffer)
+      go false short e f g = let s : TraceCut ≡ why = cc in (simp (← s, e), simp e)
+      go true true e f g = let s : NoRoom ≡ why = cc in (simp (← s, e, f), simp (e, f))
+      go true false e f g = absurd (apart _ _ g)
 
   module _ (n : ℕ) (whole : length events ≡ event_bytes * n) (fits : event_bytes * n ≤ length buffer) where
     counted : ran_count events (length buffer) ≡ n

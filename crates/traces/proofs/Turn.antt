@@ -6,7 +6,8 @@ use mathlib.Core.Bool.{true}
 use mathlib.Core.List.{List, ◌++◌}
 use native.Mathlib.Omega.{arith}
 use lib.ListN.{length, drop, set, length-set}
-use Rattle.arbiter.specs.Steps.{owner_byte, lines_byte, answer, step, run_from, answers_from}
+use Rattle.std.specs.Prelude.{min}
+use Rattle.arbiter.specs.Steps.{owner_byte, lines_byte, step, run_from, answers_from}
 use Rattle.arbiter.specs.Traces.{event_bytes, raws_in, bytes_of, event_count}
 use Rattle.arbiter.specs.declared.Side.{Side}
 use Rattle.arbiter.specs.declared.Bus.{Bus}
@@ -18,7 +19,7 @@ use Rattle.arbiter.specs.declared.Answer.{Answer}
 use Rattle.arbiter.specs.declared.Stepped.{Stepped}
 use Rattle.arbiter.proofs.KindKept.{keeps_kind}
 use Rattle.format.specs.Places.{event_at, with_answer}
-use Rattle.quiet.specs.Counts.{with_counts, after_ticks, least}
+use Rattle.quiet.specs.Counts.{with_counts, after_ticks}
 use Rattle.quiet.specs.Quiet.{counts_left}
 use Rattle.step.specs.Carried.{kept}
 use Rattle.light.specs.Light.{Settled}
@@ -65,7 +66,7 @@ module _ (events buffer : List ℕ) (n : ℕ) (from : Device) (out : List ℕ) (
 
   -- TICKs up to event j, of k that the counts have left, answered alike
   module _ (k : ℕ) (left : k ≡ counts_left d) (some : k ≡ 0 → ⊥) (r : Raw) (read : r ≡ event_at i events) (tick : is_tick_raw r ≡ true) (few : ℕ)
-      (least-is : few ≡ least k (n - i)) where
+      (least-is : few ≡ min k (n - i)) where
     pub last_fits : (few ≤ n - i) × (few ≤ k) × (1 ≤ few)
     last_fits =
         let both = least_both k (n - i) few least-is in
@@ -120,7 +121,7 @@ module _ (events buffer : List ℕ) (n : ℕ) (from : Device) (out : List ℕ) (
 
   -- TICKs together, which leave the sides
   pub ticked_on : (d : Device) → d ≡ held k l b a → (left : ℕ) → left ≡ counts_left d → (left ≡ 0 → ⊥) → (r : Raw) → r
-      ≡ event_at i events → is_tick_raw r ≡ true → (few : ℕ) → few ≡ least left (n - i)
+      ≡ event_at i events → is_tick_raw r ≡ true → (few : ℕ) → few ≡ min left (n - i)
       → (j : ℕ) → i < j → j ≤ i + few → AllTicks (i + 1) j events → (x : Answer) → x ≡ kept 0 0 owner lines → (last : List ℕ) → length last ≡ length out → last
       ≡ with_same out i (j - i) x
       → (e : Device) → e ≡ after_ticks (j - i) d → Known events buffer n from last owner lines (held k l e.bus e.arb) j

@@ -8,116 +8,103 @@ mod sides;
 pub mod ticks;
 mod turns;
 
-ghost use Rattle.std.specs.Prelude.{◌≡◌, true};
+ghost use Rattle.std.specs.Prelude.{◌≡◌};
 ghost use Rattle.arbiter.specs.Traces.{report, buffer_after, ran, buffer_ran};
 ghost use Rattle.light.specs.Light.{Settled};
-ghost use Rattle.traces.specs.Bodies.{ran_with, report_with, head_of};
+ghost use Rattle.traces.specs.Bodies.{with_room, ran_of, report_of_run, head_of, head_of_run};
 
-use arbiter::{Device, Kind, Ran, Report, TraceRead};
-use format::{EVENT_BYTES, events_in, kind_byte, refusal_number};
+use arbiter::{Device, Kind, Refusal};
+use format::{EVENT_BYTES, events_in};
 use playing::{play, step_each};
 use reading::read_trace;
 use sides::is_settled;
 use step::fresh;
 
-// A report with the kind of its device alone, by its number.
-#[derive(Clone, Copy)]
-pub struct Head {
-    pub number: u8,
+// What a run of raw events leaves: how many there were, and the device after them.
+#[derive(Clone, Copy, PartialEq, Eq)]
+pub struct Run {
+    pub events: usize,
+    pub device: Device,
+}
+
+// What a run of a trace tells: its address, how many events there were, and the device after them.
+#[derive(Clone, Copy, PartialEq, Eq)]
+pub struct Traced {
     pub address: u8,
     pub events: usize,
-    pub kind: u8,
+    pub device: Device,
 }
 
-fn ran_with(number: u8, events: usize, device: Device) -> Ran
-    ensures { result ≡ ran_with number events device }
+// The same with the kind of the device alone.
+#[derive(Clone, Copy, PartialEq, Eq)]
+pub struct Head {
+    pub address: u8,
+    pub events: usize,
+    pub kind: Kind,
+}
+
+// How many events these bytes are, where they are in fours and the answers have room.
+fn events_with_room(events: &[u8], room: usize) -> Result<usize, Refusal>
+    ensures { result ≡ with_room events.now room }
 {
-    Ran {
-        number,
-        events,
-        device,
+    if events.len() % EVENT_BYTES != 0 {
+        return Err(Refusal::TraceCut);
     }
-}
-
-// Raw events from a device, which is settled if `settled` says so.
-fn run_from(settled: bool, d: Device, events: &[u8], answers: &mut [u8]) -> Ran
-    requires { settled ≡ true → Settled d }
-    ensures { (result ≡ ran d events.now answers.old) × (answers.new ≡ buffer_ran d events.now answers.old) }
-{
     let n = events.len() / EVENT_BYTES;
-    if events.len() % EVENT_BYTES == 0 {
-        if answers.len() / EVENT_BYTES < n {
-            return ran_with(9, 0, d);
-        }
-        // The part of the buffer that the answers fill: so each answer's place is known to be there without a test.
-        let end = EVENT_BYTES * n;
-        if settled {
-            let last = play(d, events, &mut answers[..end], n);
-            ran_with(0, n, last)
-        } else {
-            let stepped = step_each(d, events, &mut answers[..end], n);
-            ran_with(0, n, stepped)
-        }
-    } else {
-        ran_with(5, 0, d)
+    if room / EVENT_BYTES < n {
+        return Err(Refusal::NoRoom);
     }
+    Ok(n)
 }
 
 // Raw events from any device, each answered in the lent buffer: the count of them and the device after them. Bytes that are not in fours,
-// and a buffer without room for the answers, are refused by number and leave device and buffer as they were. A device that tells that it is settled, as
+// and a buffer without room for the answers, are refused and leave the buffer as it was. A device that tells that it is settled, as
 // every one does that a run reached, goes the short way.
-pub fn run_events(d: Device, events: &[u8], answers: &mut [u8]) -> Ran
-    ensures { (result ≡ ran d events.now answers.old) × (answers.new ≡ buffer_ran d events.now answers.old) }
+pub fn run_events(d: Device, events: &[u8], answers: &mut [u8]) -> Result<Run, Refusal>
+    ensures { (ran_of d result ≡ ran d events.now answers.old) × (answers.new ≡ buffer_ran d events.now answers.old) }
 {
-    run_from(is_settled(d), d, events, answers)
+    if is_settled(d) {
+        return run_settled(d, events, answers);
+    }
+    let n = events_with_room(events, answers.len())?;
+    let device = step_each(d, events, answers, n);
+    Ok(Run { events: n, device })
 }
 
 // The same from a settled device, of which nobody asks whether it is. A caller knows that it is: see docs/PROMISES.md.
-pub fn run_settled(d: Device, events: &[u8], answers: &mut [u8]) -> Ran
+pub fn run_settled(d: Device, events: &[u8], answers: &mut [u8]) -> Result<Run, Refusal>
     requires { Settled d }
-    ensures { (result ≡ ran d events.now answers.old) × (answers.new ≡ buffer_ran d events.now answers.old) }
+    ensures { (ran_of d result ≡ ran d events.now answers.old) × (answers.new ≡ buffer_ran d events.now answers.old) }
 {
-    run_from(true, d, events, answers)
+    let n = events_with_room(events, answers.len())?;
+    // The part of the buffer that the answers fill: so each answer's place is known to be there without a test.
+    let end = EVENT_BYTES * n;
+    let device = play(d, events, &mut answers[..end], n);
+    Ok(Run { events: n, device })
 }
 
-fn reported(number: u8, address: u8, events: usize, device: Device) -> Report
-    ensures { result ≡ report_with number address events device }
+// A whole trace: what is told of it, and each answer in the lent buffer. A refused trace leaves the buffer as it was.
+#[tactic(auto, using(crate::proofs::Accepted::refused_report, crate::proofs::Accepted::refused_buffer))]
+pub fn run_trace(t: &[u8], out: &mut [u8]) -> Result<Traced, Refusal>
+    ensures { (report_of_run result ≡ report t.now out.old) × (out.new ≡ buffer_after t.now out.old) }
 {
-    Report {
-        number,
-        address,
-        events,
-        device,
-    }
-}
-
-// A whole trace: the report, and each answer in the lent buffer. A refused trace leaves the buffer as it was and reports its number, no
-// events and a fresh device of kind 0.
-pub fn run_trace(t: &[u8], out: &mut [u8]) -> Report
-    ensures { (result ≡ report t.now out.old) × (out.new ≡ buffer_after t.now out.old) }
-{
-    let read = read_trace(t, out.len());
-    match read {
-        TraceRead::Refused(why) => {
-            let number = refusal_number(why);
-            reported(number, 0, 0, fresh(Kind::Pca9641))
-        }
-        TraceRead::Accepted(address, _, kind) => {
-            let r = run_settled(fresh(kind), events_in(t), out);
-            reported(r.number, address, r.events, r.device)
-        }
-    }
+    let read = read_trace(t, out.len())?;
+    let run = run_settled(fresh(read.kind), events_in(t), out)?;
+    Ok(Traced {
+        address: read.address,
+        events: run.events,
+        device: run.device,
+    })
 }
 
 // The same without the device, for callers that want the answers alone: the step is faster where nobody asks for the last state.
-pub fn answer_trace(t: &[u8], out: &mut [u8]) -> Head
-    ensures { (result ≡ head_of (report t.now out.old)) × (out.new ≡ buffer_after t.now out.old) }
+pub fn answer_trace(t: &[u8], out: &mut [u8]) -> Result<Head, Refusal>
+    ensures { (head_of_run result ≡ head_of (report t.now out.old)) × (out.new ≡ buffer_after t.now out.old) }
 {
-    let r = run_trace(t, out);
-    Head {
-        number: r.number,
-        address: r.address,
-        events: r.events,
-        kind: kind_byte(r.device),
-    }
+    let run = run_trace(t, out)?;
+    Ok(Head {
+        address: run.address,
+        events: run.events,
+        kind: run.device.kind,
+    })
 }

@@ -16,7 +16,6 @@ use crate::turns::{
     byte_claims, claimed_arb, granted_arb, granted_bits, granted_side, stop_grants,
 };
 use arbiter::{Device, Raw};
-use bits::least_usize;
 use bus::idle_kept;
 use fields::rolls_over;
 use format::{event_at, put_answer};
@@ -32,7 +31,8 @@ use writing::writer_side;
 // and so does what is refused. All else is stepped in full.
 //
 // It is one long function because it has to be fast: the two sides stand in an array of the loop and are taken by the number of their master, without a
-// branch on it, which no function over them by value or by reference keeps.
+// branch on it, which no function over them by value or by reference keeps. Its index goes on by one at an event and by several at TICKs in a row, so
+// it is counted by hand.
 pub(crate) fn play(from: Device, events: &[u8], answers: &mut [u8], n: usize) -> Device
     requires { (event_bytes * n ≤ length events.now) × (event_bytes * n ≤ length answers.old) × Settled from }
     ensures { (result ≡ run_from from (raws_in n events.now)) × (answers.new ≡ bytes_of (answers_from from (raws_in n events.now)) ++ drop (event_bytes * n) answers.old) }
@@ -56,7 +56,7 @@ pub(crate) fn play(from: Device, events: &[u8], answers: &mut [u8], n: usize) ->
             let d = device_of(kind, s0, s1, bus, arb);
             let k = counts_left(d);
             if k == 0 {} else {
-                let last = i + least_usize(k as usize, n - i);
+                let last = i + (k as usize).min(n - i);
                 let j = play_ticks(events, answers, i, last, answer_kept(0, 0, owner, lines));
                 let e = after_ticks((j - i) as u16, d);
                 bus = e.bus;
@@ -300,12 +300,10 @@ pub(crate) fn step_each(from: Device, events: &[u8], answers: &mut [u8], n: usiz
     ensures { (result ≡ run_from from (raws_in n events.now)) × (answers.new ≡ bytes_of (answers_from from (raws_in n events.now)) ++ drop (event_bytes * n) answers.old) }
 {
     let mut d = from;
-    let mut i: usize = 0;
-    while i < n {
+    for i in 0..n {
         let s = step_device(d, event_at(events, i));
         put_answer(answers, i, s.answer);
         d = s.device;
-        i += 1;
     }
     d
 }

@@ -3,7 +3,7 @@ ghost use Rattle.std.specs.Prelude.{◌≡◌, ◌&&◌};
 ghost use Rattle.arbiter.specs.Events.{unused, zero_or_one, first_fits, second_fits, third_fits, raw_number};
 
 use arbiter::Raw;
-use bits::pick_bool;
+use bits::pick;
 
 // A master and a byte, as COMMAND and WRITE have them.
 pub(crate) fn fits_byte(r: Raw) -> bool
@@ -37,7 +37,7 @@ pub(crate) fn fits_none(r: Raw) -> bool
 fn first_fits(r: Raw) -> bool
     ensures { result ≡ first_fits r }
 {
-    (r.kind == 4) | pick_bool((r.kind == 6) | (r.kind == 8), r.x == 0, r.x < 2)
+    (r.kind == 4) | pick((r.kind == 6) | (r.kind == 8), r.x == 0, r.x < 2)
 }
 
 // The second: of COMMAND, WRITE, PAIR and GENERAL CALL any byte, of LINES a level, of all others unused.
@@ -48,17 +48,17 @@ fn second_fits(r: Raw) -> bool
         | (r.kind == 1)
         | (r.kind == 4)
         | (r.kind == 9)
-        | pick_bool(r.kind == 5, r.y < 2, r.y == 0)
+        | pick(r.kind == 5, r.y < 2, r.y == 0)
 }
 
 // The third: of LINES a level, of all others unused.
 fn third_fits(r: Raw) -> bool
     ensures { result ≡ third_fits r }
 {
-    pick_bool(r.kind == 5, r.z < 2, r.z == 0)
+    pick(r.kind == 5, r.z < 2, r.z == 0)
 }
 
-// The number of four bytes that are no event, or 0.
+// The answer's first byte for four bytes that are no event, or 0: it goes into the answer as it is.
 pub(crate) fn unread_number(r: Raw) -> u8
     ensures { result ≡ raw_number r }
 {

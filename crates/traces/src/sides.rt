@@ -21,10 +21,7 @@ use bits::{bit_0, worth_of};
 use bus::{bus_hung, outside_of, scl_high, sda_high, settled_bus};
 use connection::initialises;
 use events::acknowledged_number;
-use fields::{
-    claims_turn, is_connect, master_of, owns_turn, pointer_of, port_of, register_number,
-    same_master, switch_of, turn_of,
-};
+use fields::{claims_turn, master_of, owns_turn, register_number};
 use ports::{is_at_rest, is_for_writing};
 use quiet::{is_calm, is_still};
 use registers::{is_asserted_by, register_byte};
@@ -32,6 +29,7 @@ use writing::{mail_written, writable_at, writer_side};
 
 // ---- the turn, as a master finds it
 
+// One test, as the loop wants it.
 fn partner_at(x: u8) -> Master
     ensures { result ≡ partner (master x) }
 {
@@ -41,7 +39,7 @@ fn partner_at(x: u8) -> Master
 fn claims_at(x: u8, a: Arbitration) -> bool
     ensures { result ≡ claims_turn (master x) a.turn }
 {
-    claims_turn(master_of(x), turn_of(a))
+    claims_turn(master_of(x), a.turn)
 }
 
 // A STOP of this master brings it the grant: it claims, and SCL is not held.
@@ -54,19 +52,19 @@ pub(crate) fn is_granted_at_rest(x: u8, b: Bus, a: Arbitration) -> bool
 pub(crate) fn granted_at(x: u8, a: Arbitration) -> bool
     ensures { result ≡ owns_turn (master x) a.turn }
 {
-    owns_turn(master_of(x), turn_of(a))
+    owns_turn(master_of(x), a.turn)
 }
 
 fn partner_granted_at(x: u8, a: Arbitration) -> bool
     ensures { result ≡ owns_turn (partner (master x)) a.turn }
 {
-    owns_turn(partner_at(x), turn_of(a))
+    owns_turn(partner_at(x), a.turn)
 }
 
 pub(crate) fn is_initialising(a: Arbitration) -> bool
     ensures { result ≡ is_initialising a.switch }
 {
-    initialises(switch_of(a))
+    initialises(a.switch)
 }
 
 // ---- a side, and a byte that is written or read
@@ -74,13 +72,13 @@ pub(crate) fn is_initialising(a: Arbitration) -> bool
 pub(crate) fn takes_bytes(s: Side) -> bool
     ensures { result ≡ for_writing s.port }
 {
-    is_for_writing(port_of(s))
+    is_for_writing(s.port)
 }
 
 pub(crate) fn is_resting(s: Side) -> bool
     ensures { result ≡ at_rest s.port }
 {
-    is_at_rest(port_of(s))
+    is_at_rest(s.port)
 }
 
 fn leaves_turn(m: Master, request: bool, t: Turn) -> bool
@@ -88,8 +86,8 @@ fn leaves_turn(m: Master, request: bool, t: Turn) -> bool
 {
     match t {
         Turn::Nobody => !request,
-        Turn::Claims(k, _) => request | !same_master(m, k),
-        Turn::Owns(k, _) => !same_master(m, k),
+        Turn::Claims(k, _) => request | (m != k),
+        Turn::Owns(k, _) => m != k,
     }
 }
 
@@ -106,15 +104,21 @@ pub(crate) fn writes_lightly(x: u8, v: u8, a: Arbitration, s: Side) -> bool
     ensures { result ≡ byte_is_light s.pointer (master x) (owns_turn (master x) a.turn) v a.turn s.contr.busconnect }
 {
     let granted = granted_at(x, a);
-    let connect = is_connect(s.contr);
-    byte_is_light(pointer_of(s), master_of(x), granted, v, turn_of(a), connect)
+    byte_is_light(
+        s.pointer,
+        master_of(x),
+        granted,
+        v,
+        a.turn,
+        s.contr.busconnect,
+    )
 }
 
 // The partner's side o after a byte that was written at the pointer of s.
 pub(crate) fn partner_written(v: u8, s: Side, o: Side) -> Side
     ensures { result ≡ mail_written s.pointer v o }
 {
-    mail_written(pointer_of(s), v, o)
+    mail_written(s.pointer, v, o)
 }
 
 // The byte that a READ of this master hands out; s is its side, and o is its partner's.
@@ -135,7 +139,7 @@ pub(crate) fn commanded_number(c: u8) -> u8
 pub(crate) fn written_number(s: Side) -> u8
     ensures { result ≡ outcome_number (if writable s.pointer then Done else NotAcknowledged) }
 {
-    acknowledged_number(writable_at(pointer_of(s)))
+    acknowledged_number(writable_at(s.pointer))
 }
 
 // ---- LINES
@@ -160,9 +164,7 @@ pub(crate) fn is_settled(d: Device) -> bool
     ensures { result ≡ is_settled d }
 {
     is_still(d.bus)
-        & (is_calm(turn_of(d.arb), d)
-            & no_cut(false, turn_of(d.arb), d)
-            & no_loss(turn_of(d.arb), d))
+        & (is_calm(d.arb.turn, d) & no_cut(false, d.arb.turn, d) & no_loss(d.arb.turn, d))
 }
 
 // ---- the device and its answer
@@ -189,7 +191,7 @@ pub(crate) fn ends_no_grant(
 ) -> bool
     ensures { result ≡ no_loss arb.turn (device_of kind side0 side1 bus arb) }
 {
-    no_loss(turn_of(arb), device_of(kind, side0, side1, bus, arb))
+    no_loss(arb.turn, device_of(kind, side0, side1, bus, arb))
 }
 
 pub(crate) fn lines_shown(s0: Side, s1: Side, b: Bus) -> u8
@@ -225,13 +227,13 @@ pub(crate) fn pairs_lightly(v0: u8, v1: u8, a: Arbitration, s0: Side, s1: Side) 
 pub(crate) fn pair_side(rolls: bool, granted: bool, v: u8, w: u8, s: Side, o: Side) -> Side
     ensures { result ≡ mail_written o.pointer w (write_risen rolls (own_written granted s.pointer v s)) }
 {
-    mail_written(pointer_of(o), w, writer_side(rolls, granted, v, s))
+    mail_written(o.pointer, w, writer_side(rolls, granted, v, s))
 }
 
 pub(crate) fn paired_number(s0: Side, s1: Side) -> u8
     ensures { result ≡ outcome_number (if writable s0.pointer && writable s1.pointer then Done else NotAcknowledged) }
 {
-    acknowledged_number(writable_at(pointer_of(s0)) & writable_at(pointer_of(s1)))
+    acknowledged_number(writable_at(s0.pointer) & writable_at(s1.pointer))
 }
 
 // For how many ticks SCL is held after a soft reset by the master with the side s.

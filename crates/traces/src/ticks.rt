@@ -5,17 +5,17 @@ ghost use Rattle.format.specs.Places.{event_at, with_answer};
 ghost use Rattle.traces.specs.Ticks.{is_tick_raw, AllTicks, with_same};
 
 use arbiter::{Answer, Raw};
-use bits::wide_u32;
 use format::EVENT_BYTES;
 
 // The four bytes as one number, low first: one load and one test in machine code.
 pub fn is_tick(r: Raw) -> bool
     ensures { result ≡ is_tick_raw r }
 {
-    wide_u32(r.kind) + 256 * wide_u32(r.x) + 65536 * wide_u32(r.y) + 16777216 * wide_u32(r.z) == 6
+    u32::from_le_bytes([r.kind, r.x, r.y, r.z]) == 6
 }
 
-// Event i of these bytes, which have it, is a TICK.
+// Event i of these bytes, which have it, is a TICK. It and the next function do what `event_at` and `put_answer` do without their test of the
+// place: play_ticks has made it.
 fn is_tick_at(events: &[u8], i: usize) -> bool
     requires { event_bytes * (i + 1) ≤ length events.now }
     ensures { result ≡ is_tick_raw (event_at i events.now) }

@@ -11,12 +11,10 @@ ghost use Rattle.traces.specs.Turns.{stop_grants, granted_bits, byte_claims};
 
 use crate::raws::{fits_byte, fits_one};
 use crate::sides::{is_granted_at_rest, is_resting, takes_bytes};
-use arbiter::{
-    Arbitration, Bus, Control, Ground, Last, Master, Port, Raw, Register, Side, Switch, Turn,
-};
+use arbiter::{Arbitration, Bus, Control, Ground, Master, Port, Raw, Register, Side, Switch, Turn};
 use arbitration::claims::ground_in;
 use bits::bit_0;
-use fields::{arb_with, master_of, pointer_of, side_with, turn_of, with_turn};
+use fields::master_of;
 use registers::raised_in;
 
 // ---- the grant at a STOP
@@ -32,16 +30,11 @@ pub(crate) fn stop_grants(r: Raw, b: Bus, a: Arbitration, s: Side) -> bool
 pub(crate) fn granted_side(s: Side) -> Side
     ensures { result ≡ side_granted s }
 {
-    side_with(
-        pointer_of(s),
-        s.rt,
-        s.contr,
-        raised_in(s.ints, 0x04, true),
-        s.mail,
-        s.auto,
-        Port::Rest,
-        s.mask,
-    )
+    Side {
+        ints: raised_in(s.ints, 0x04, true),
+        port: Port::Rest,
+        ..s
+    }
 }
 
 fn granted_switch(m: Master, c: Control) -> Switch
@@ -63,13 +56,13 @@ pub(crate) fn granted_arb(x: u8, s: Side, a: Arbitration) -> Arbitration
     ensures { result ≡ arb_granted (master x) s a }
 {
     let m = master_of(x);
-    arb_with(
-        Last::Was(m),
-        !(s.contr.busconnect & s.contr.businit) & a.initfail,
-        granted_switch(m, s.contr),
-        s.rt,
-        Turn::Owns(m, ground_in(turn_of(a))),
-    )
+    Arbitration {
+        last: Some(m),
+        initfail: !(s.contr.busconnect & s.contr.businit) & a.initfail,
+        switch: granted_switch(m, s.contr),
+        reserve: s.rt,
+        turn: Turn::Owns(m, ground_in(a.turn)),
+    }
 }
 
 fn number_at(x: u8) -> u8
@@ -95,26 +88,13 @@ pub(crate) fn granted_bits(x: u8, c: Control) -> u8
 fn is_contr(r: Register) -> bool
     ensures { result ≡ is_contr r }
 {
-    match r {
-        Register::Id => false,
-        Register::Contr => true,
-        Register::Status => false,
-        Register::Rt => false,
-        Register::IntStatus => false,
-        Register::IntMask => false,
-        Register::MailLow => false,
-        Register::MailHigh => false,
-    }
+    r == Register::Contr
 }
 
 fn is_nobody(t: Turn) -> bool
     ensures { result ≡ is_nobody t }
 {
-    match t {
-        Turn::Nobody => true,
-        Turn::Claims(_, _) => false,
-        Turn::Owns(_, _) => false,
-    }
+    t == Turn::Nobody
 }
 
 // The event is a byte to CONTR that makes its master, whose side is s, the claimant.
@@ -124,14 +104,17 @@ pub(crate) fn byte_claims(r: Raw, a: Arbitration, s: Side) -> bool
     (r.kind == 1)
         & fits_byte(r)
         & takes_bytes(s)
-        & is_contr(pointer_of(s))
+        & is_contr(s.pointer)
         & bit_0(r.y)
-        & is_nobody(turn_of(a))
+        & is_nobody(a.turn)
 }
 
 // The arbitration with master x as the sole claimant.
 pub(crate) fn claimed_arb(x: u8, a: Arbitration) -> Arbitration
     ensures { result ≡ with_turn (Claims (master x) Sole) a }
 {
-    with_turn(Turn::Claims(master_of(x), Ground::Sole), a)
+    Arbitration {
+        turn: Turn::Claims(master_of(x), Ground::Sole),
+        ..a
+    }
 }

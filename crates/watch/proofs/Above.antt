@@ -11,8 +11,8 @@ use Rattle.capture.specs.declared.Sign.TheVariants.{Steady, Starts, Stops, Clock
 use Rattle.capture.specs.declared.Awaited.{Awaited}
 use Rattle.capture.specs.declared.Awaited.TheVariants.{NoByte, AddressByte, CommandByte, WriteByte, ReadByte, CallByte, SkippedByte}
 use Rattle.capture.specs.declared.Given.{Given}
-use Rattle.capture.specs.declared.Given.TheVariants.{Nothing, Written, Gives}
-use Rattle.std.specs.Prelude.{◌&&◌, ◌∷◌, ◌++◌, if◌then◌else◌}
+use Rattle.capture.specs.declared.Given.TheVariants.{Written, Gives}
+use Rattle.std.specs.Prelude.{◌&&◌, ◌∷◌, ◌++◌, if◌then◌else◌, Option, Some, None}
 use Rattle.watch.specs.Names.{ℕ, Bool, true, false, not, List, [], eqb, ltb, bit, Master, Zero, One, Event, Write, Lines}
 use Rattle.watch.specs.Names.{Tick, Listener, Both, Settings, Ear}
 use Rattle.watch.specs.Sample.{below_before, levels_below, lines_given, heard_now, is_timed, is_due, ticks_given, events_at}
@@ -30,10 +30,10 @@ above_append (e ∷ xs) ys =
 
 -- ---- what a bus gives
 
-fine : Given → Bool
-fine Nothing = true
-fine (Written v) = true
-fine (Gives e) = is_above e
+fine : Option Given → Bool
+fine None = true
+fine (Some (Written v)) = true
+fine (Some (Gives e)) = is_above e
 
 gives_fine : (m : Master) (g : Sign) (l : Listener) → fine (gives m g l) ≡ true
 unfolding gives byte_gives is_above fine
@@ -55,17 +55,17 @@ one : (e : Event) (es : List Event) → is_above e ≡ true → above es ≡ es 
 unfolding above
 one e es t h = if_true (e ∷ above es) (above es) t ∙ ap (λ (l : List Event). e ∷ l) h
 
-together_fine : (g h : Given) → fine g ≡ true → fine h ≡ true → above (together g h) ≡ together g h
+together_fine : (g h : Option Given) → fine g ≡ true → fine h ≡ true → above (together g h) ≡ together g h
 unfolding together above is_above fine
-together_fine Nothing Nothing p q = refl
-together_fine Nothing (Written u) p q = refl
-together_fine Nothing (Gives f) p q = one f [] q refl
-together_fine (Written v) Nothing p q = refl
-together_fine (Written v) (Written u) p q = refl
-together_fine (Written v) (Gives f) p q = ap (λ (l : List Event). Write Zero v ∷ l) (one f [] q refl)
-together_fine (Gives e) Nothing p q = one e [] p refl
-together_fine (Gives e) (Written u) p q = one e (Write One u ∷ []) p refl
-together_fine (Gives e) (Gives f) p q = one e (f ∷ []) p (one f [] q refl)
+together_fine None None p q = refl
+together_fine None (Some (Written u)) p q = refl
+together_fine None (Some (Gives f)) p q = one f [] q refl
+together_fine (Some (Written v)) None p q = refl
+together_fine (Some (Written v)) (Some (Written u)) p q = refl
+together_fine (Some (Written v)) (Some (Gives f)) p q = ap (λ (l : List Event). Write Zero v ∷ l) (one f [] q refl)
+together_fine (Some (Gives e)) None p q = one e [] p refl
+together_fine (Some (Gives e)) (Some (Written u)) p q = one e (Write One u ∷ []) p refl
+together_fine (Some (Gives e)) (Some (Gives f)) p q = one e (f ∷ []) p (one f [] q refl)
 
 heard_fine : (address before x : ℕ) (s : Both) → above (events_in (sampled address before x s)) ≡ events_in (sampled address before x s)
 unfolding sampled

@@ -13,7 +13,6 @@ pub use Rattle.arbiter.specs.declared.Raw.{Raw}
 pub use Rattle.arbiter.specs.declared.Event.{Event}
 pub use Rattle.arbiter.specs.declared.Event.TheVariants.{Command, Write, Read, Stop, Pair, Lines, Tick, Pulse, Reset, GeneralCall}
 pub use Rattle.capture.specs.declared.Listener.{Listener}
-pub use Rattle.capture.specs.declared.Given.TheVariants.{Nothing}
 pub use Rattle.capture.specs.declared.Both.{Both}
 pub use Rattle.capture.specs.declared.Heard.{Heard}
 pub use Rattle.watch.specs.declared.Settings.{Settings}

@@ -1,9 +1,9 @@
 -- One sample of a watched bus: the events that it gives, in their order, and what is known after it. START, bits, bytes and STOP are those of request
 -- #104 (capture/specs/OneBus); what is added here is time, the bus below, and that listening goes on after a fault.
 -- Assumes nothing.
-use Rattle.std.specs.Prelude.{◌/◌, ◌%◌, ◌+◌, ◌&&◌, ◌∷◌, ◌++◌, if◌then◌else◌}
+use Rattle.std.specs.Prelude.{◌/◌, ◌%◌, ◌+◌, ◌&&◌, ◌∷◌, ◌++◌, if◌then◌else◌, None}
 use Rattle.capture.specs.Samples.{sampled, events_in, both_silent}
-use Rattle.watch.specs.Names.{ℕ, Bool, true, false, not, List, [], eqb, ltb, bit, worth, Event, Lines, Tick, Listener, Nothing, Both, Heard, Settings, Ear}
+use Rattle.watch.specs.Names.{ℕ, Bool, true, false, not, List, [], eqb, ltb, bit, worth, Event, Lines, Tick, Listener, Both, Heard, Settings, Ear}
 
 -- ---- the bus below: bits 4, 5 and 6 of a sample are downstream SCL, SDA and INT_IN, if the settings say so
 
@@ -25,7 +25,7 @@ lines_given c x e =
 -- #104: "The first sample is only a starting level."
 unfoldable pub heard_now : Settings → ℕ → Ear → Heard
 heard_now c x e =
-    if e.begun then sampled c.address e.before x e.both else record { both = e.both; given0 = Nothing; given1 = Nothing }
+    if e.begun then sampled c.address e.before x e.both else record { both = e.both; given0 = None; given1 = None }
 
 -- A START or STOP inside a byte, for which #104 refuses a capture with 12, is a fault. It is counted, the byte is lost, and listening goes on: after
 -- a START with the transfer that it begins, after a STOP with the next START.

@@ -15,6 +15,7 @@ pub struct Settings {
 }
 
 // What is known between two samples: whether there was one, the last one, how many came since the last TICK, and both buses.
+// A flag stands beside the last sample: a buffer holds both bytes, and `ReadBack` of `watchlayout` says that both come back, whatever the flag.
 #[derive(Clone, Copy)]
 pub struct Ear {
     pub begun: bool,
@@ -35,6 +36,7 @@ pub struct Check {
 
 // What was counted so far, the first READ that differed, the last READ of each master, and the sample of the first fault. Where there was none it is all
 // zeros.
+// Zeros stand for none, and each master has a field: `ReadBack` says that every byte of them comes back, and `with_read` names the fields.
 #[derive(Clone, Copy)]
 pub struct Tally {
     pub samples: u64,

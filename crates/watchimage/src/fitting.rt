@@ -2,17 +2,19 @@
 // are not looked at: the promise says it of them too.
 ghost use Rattle.std.specs.Prelude.{◌+◌, ◌<◌, ◌≡◌, length};
 ghost use Rattle.watchlayout.specs.Places.{watch_length, fits_at, settings_fit, bus_fits, ear_fits, check_fits, tally_fits, watch_in_range};
+ghost use Rattle.watchlayout.specs.Refusals.{number_of};
 ghost use Rattle.watchlayout.specs.Calls.{watch_number};
 
-use image::image_number;
+use format::byte_at;
+use image::check_image;
 use layout::IMAGE_LENGTH;
-use watchlayout::WATCH_LENGTH;
+use watchlayout::{WATCH_LENGTH, WatchRefusal};
 
 // A field of one byte is no more than its top.
 fn fits(at: usize, top: u8, b: &[u8]) -> bool
     ensures { result ≡ fits_at at top b.now }
 {
-    if at < b.len() { b[at] <= top } else { true }
+    byte_at(at, b) <= top
 }
 
 fn settings_fit(b: &[u8]) -> bool
@@ -51,16 +53,19 @@ fn in_range(b: &[u8]) -> bool
     requires { length b.now ≡ watch_length }
     ensures { result ≡ watch_in_range b.now }
 {
-    (image_number(&b[..IMAGE_LENGTH]) == 0) & settings_fit(b) & ear_fits(b) & tally_fits(b)
+    check_image(&b[..IMAGE_LENGTH]).is_ok() & settings_fit(b) & ear_fits(b) & tally_fits(b)
 }
 
-// 0 for a listener with every field in its range; 9 for a buffer of another length, and then 16.
-pub(crate) fn watch_number(b: &[u8]) -> u8
-    ensures { result ≡ watch_number b.now }
+// A listener has its length, and every field in its range.
+#[tactic(auto, unfolding(watchlayout::specs::Calls::watch_number, watchlayout::specs::Refusals::number_of))]
+pub(crate) fn check_watch(b: &[u8]) -> Result<(), WatchRefusal>
+    ensures { number_of result ≡ watch_number b.now }
 {
-    if b.len() == WATCH_LENGTH {
-        if in_range(b) { 0 } else { 16 }
+    if b.len() != WATCH_LENGTH {
+        Err(WatchRefusal::Length)
+    } else if in_range(b) {
+        Ok(())
     } else {
-        9
+        Err(WatchRefusal::Range)
     }
 }

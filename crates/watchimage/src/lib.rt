@@ -10,9 +10,10 @@ ghost use Rattle.watch.specs.Sample.{silent_ear};
 ghost use Rattle.watch.specs.Stream.{no_check, no_tally, beginning};
 ghost use Rattle.watch.specs.Told.{taken, listened};
 ghost use Rattle.watchlayout.specs.Places.{watch_length, laid, watcher_in};
+ghost use Rattle.watchlayout.specs.Refusals.{number_of, heeded_of};
 ghost use Rattle.watchlayout.specs.Calls.{settings_of, fresh_number, fresh_after, is_watch, heeded, heeded_after};
 
-use crate::fitting::watch_number;
+use crate::fitting::check_watch;
 use crate::laying::lay;
 use crate::reading::watcher_in;
 use arbiter::{Kind, Master, Register};
@@ -22,43 +23,48 @@ use step::fresh;
 use straps::in_range;
 use watch::{Check, Ear, Settings, Tally, Watcher};
 use watching::listen;
-use watchlayout::{Heeded, WATCH_LENGTH};
+use watchlayout::{WATCH_LENGTH, WatchRefusal};
 
 // ---- a fresh listener
 
-fn fresh_number(kind: u8, address: u8, below: u8, watch: &[u8]) -> u8
-    ensures { result ≡ fresh_number kind address below watch.now }
+#[tactic(auto, unfolding(watchlayout::specs::Calls::fresh_number, watchlayout::specs::Refusals::number_of))]
+fn check_fresh(kind: u8, address: u8, below: u8, watch: &[u8]) -> Result<(), WatchRefusal>
+    ensures { number_of result ≡ fresh_number kind address below watch.now }
 {
-    if watch.len() == WATCH_LENGTH {
-        if is_kind(kind) & (below < 2) {
-            if in_range(address) { 0 } else { 11 }
-        } else {
-            3
-        }
+    if watch.len() != WATCH_LENGTH {
+        Err(WatchRefusal::Length)
+    } else if !(is_kind(kind) & (below < 2)) {
+        Err(WatchRefusal::Argument)
+    } else if !in_range(address) {
+        Err(WatchRefusal::Address)
     } else {
-        9
+        Ok(())
     }
 }
 
+#[tactic(auto, unfolding(watch::specs::Sample::silent_ear))]
 fn silent_ear() -> Ear
     ensures { result ≡ silent_ear }
 {
-    let bus0 = Listener {
+    let silent = Listener {
         awaited: Awaited::NoByte,
         clocks: 0,
         value: 0,
         owed: false,
         broken: false,
     };
-    let bus1 = bus0;
     Ear {
         begun: false,
         before: 0,
         since: 0,
-        both: Both { bus0, bus1 },
+        both: Both {
+            bus0: silent,
+            bus1: silent,
+        },
     }
 }
 
+#[tactic(auto, unfolding(watch::specs::Stream::no_check))]
 fn no_check() -> Check
     ensures { result ≡ no_check }
 {
@@ -71,12 +77,11 @@ fn no_check() -> Check
     }
 }
 
+#[tactic(auto, unfolding(watch::specs::Stream::no_tally))]
 fn no_tally() -> Tally
     ensures { result ≡ no_tally }
 {
-    let first = no_check();
-    let read0 = first;
-    let read1 = first;
+    let none = no_check();
     Tally {
         samples: 0,
         events: 0,
@@ -84,23 +89,23 @@ fn no_tally() -> Tally
         differences: 0,
         faults: 0,
         fault: 0,
-        first,
-        read0,
-        read1,
+        first: none,
+        read0: none,
+        read1: none,
     }
 }
 
 // A listener before its first sample, beside a device after power-up.
+#[tactic(auto, unfolding(watch::specs::Stream::beginning))]
 fn begin(kind: Kind, address: u8, every: u32, below: u8) -> Watcher
     ensures { result ≡ beginning kind (settings_of address every below) }
 {
-    let settings = Settings {
-        address,
-        every,
-        below: below == 1,
-    };
     Watcher {
-        settings,
+        settings: Settings {
+            address,
+            every,
+            below: below == 1,
+        },
         ear: silent_ear(),
         device: fresh(kind),
         tally: no_tally(),
@@ -114,18 +119,21 @@ fn lay_fresh(kind: Kind, address: u8, every: u32, below: u8, watch: &mut [u8])
     lay(begin(kind, address, every, below), watch);
 }
 
-// A listener for a device of this kind and address, so many samples a TICK, with or without the bus below. Refused by 9 for a buffer of another length,
-// then by 3 for another kind or another word on the bus below, and by 11 for another address; a refused buffer is left as it was.
-pub fn fresh_watch(kind: u8, address: u8, every: u32, below: u8, watch: &mut [u8]) -> u8
-    ensures { (result ≡ fresh_number kind address below watch.old) × (watch.new ≡ fresh_after kind address every below watch.old) }
+// A listener for a device of this kind and address, so many samples a TICK, with or without the bus below. Refused for a buffer of another length, then
+// for another kind or another word on the bus below, and then for another address; a refused buffer is left as it was.
+#[tactic(auto, using(watchlayout::proofs::Once::is_zero, watchlayout::proofs::Once::is_above), unfolding(watchlayout::specs::Calls::fresh_after, watchlayout::specs::Refusals::number_of))]
+pub fn fresh_watch(
+    kind: u8,
+    address: u8,
+    every: u32,
+    below: u8,
+    watch: &mut [u8],
+) -> Result<(), WatchRefusal>
+    ensures { (number_of result ≡ fresh_number kind address below watch.old) × (watch.new ≡ fresh_after kind address every below watch.old) }
 {
-    let number = fresh_number(kind, address, below, watch);
-    if number == 0 {
-        lay_fresh(kind_of(kind), address, every, below, watch);
-        0
-    } else {
-        number
-    }
+    check_fresh(kind, address, below, watch)?;
+    lay_fresh(kind_of(kind), address, every, below, watch);
+    Ok(())
 }
 
 // ---- samples
@@ -139,16 +147,12 @@ fn hear(samples: &[u8], watch: &mut [u8]) -> usize
     done.taken
 }
 
-// Samples heard by a listener, all of them or those up to the first that has something to tell, and how many were taken. Refused by 9 for a buffer of
-// another length and then by 16 for a field outside its range; a refused buffer is left as it was, and nothing is taken.
-pub fn listen_watch(samples: &[u8], watch: &mut [u8]) -> Heeded
-    ensures { (result ≡ heeded samples.now watch.old) × (watch.new ≡ heeded_after samples.now watch.old) }
+// Samples heard by a listener, all of them or those up to the first that has something to tell, and how many were taken. Refused for a buffer of
+// another length and then for a field outside its range; a refused buffer is left as it was.
+#[tactic(auto, using(watchlayout::proofs::Once::is_good, watchlayout::proofs::Once::is_bad), unfolding(watchlayout::specs::Calls::heeded, watchlayout::specs::Calls::heeded_after, watchlayout::specs::Refusals::heeded_of, watchlayout::specs::Refusals::number_of))]
+pub fn listen_watch(samples: &[u8], watch: &mut [u8]) -> Result<usize, WatchRefusal>
+    ensures { (heeded_of result ≡ heeded samples.now watch.old) × (watch.new ≡ heeded_after samples.now watch.old) }
 {
-    let number = watch_number(watch);
-    if number == 0 {
-        let taken = hear(samples, watch);
-        Heeded { number: 0, taken }
-    } else {
-        Heeded { number, taken: 0 }
-    }
+    check_watch(watch)?;
+    Ok(hear(samples, watch))
 }

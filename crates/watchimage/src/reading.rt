@@ -1,10 +1,8 @@
 // A listener read from its buffer. A number of several bytes has the low one first.
-ghost use Rattle.std.specs.Prelude.{◌<◌, ◌≡◌, false, length};
-ghost use Rattle.layout.specs.Layout.{word_at};
+ghost use Rattle.std.specs.Prelude.{◌<◌, ◌≡◌, length};
 ghost use Rattle.watchlayout.specs.Numbers.{double_at, long_at, awaited_of};
 ghost use Rattle.watchlayout.specs.Places.{watch_length, settings_in, bus_at, ear_in, check_at, tally_in, watcher_in};
 
-use bits::wide_u32;
 use capture::{Awaited, Both, Listener};
 use fields::{master_of, register_at};
 use format::byte_at;
@@ -14,31 +12,32 @@ use watch::{Check, Ear, Settings, Tally, Watcher};
 
 // ---- bytes and numbers
 
-fn word_at(at: usize, b: &[u8]) -> u32
-    requires { at < 256 }
-    ensures { (result ≡ word_at at b.now) × (result < 65536) }
-{
-    wide_u32(byte_at(at, b)) + 256 * wide_u32(byte_at(at + 1, b))
-}
-
 fn double_at(at: usize, b: &[u8]) -> u32
     requires { at < 250 }
     ensures { result ≡ double_at at b.now }
 {
-    word_at(at, b) + 65536 * word_at(at + 2, b)
-}
-
-fn longer(x: u32) -> u64
-    ensures { (result ≡ x) × (result < 4294967296) }
-{
-    x as u64
+    u32::from_le_bytes([
+        byte_at(at, b),
+        byte_at(at + 1, b),
+        byte_at(at + 2, b),
+        byte_at(at + 3, b),
+    ])
 }
 
 fn long_at(at: usize, b: &[u8]) -> u64
     requires { at < 200 }
     ensures { result ≡ long_at at b.now }
 {
-    longer(double_at(at, b)) + 4294967296 * longer(double_at(at + 4, b))
+    u64::from_le_bytes([
+        byte_at(at, b),
+        byte_at(at + 1, b),
+        byte_at(at + 2, b),
+        byte_at(at + 3, b),
+        byte_at(at + 4, b),
+        byte_at(at + 5, b),
+        byte_at(at + 6, b),
+        byte_at(at + 7, b),
+    ])
 }
 
 fn awaited_of(v: u8) -> Awaited
@@ -57,6 +56,7 @@ fn awaited_of(v: u8) -> Awaited
 
 // ---- the parts of a listener
 
+#[tactic(auto, unfolding(watchlayout::specs::Places::settings_in))]
 fn settings_in(b: &[u8]) -> Settings
     ensures { result ≡ settings_in b.now }
 {
@@ -67,43 +67,36 @@ fn settings_in(b: &[u8]) -> Settings
     }
 }
 
-fn bus_with(awaited: Awaited, clocks: u8, value: u8, owed: bool) -> Listener
-    ensures { result ≡ record { awaited = awaited; clocks = clocks; value = value; owed = owed; broken = false } }
-{
-    Listener {
-        awaited,
-        clocks,
-        value,
-        owed,
-        broken: false,
-    }
-}
-
+#[tactic(auto, unfolding(watchlayout::specs::Places::bus_at))]
 fn bus_at(at: usize, b: &[u8]) -> Listener
     requires { at < 200 }
     ensures { result ≡ bus_at at b.now }
 {
-    bus_with(
-        awaited_of(byte_at(at, b)),
-        byte_at(at + 1, b),
-        byte_at(at + 2, b),
-        flag_at(at + 3, b),
-    )
+    Listener {
+        awaited: awaited_of(byte_at(at, b)),
+        clocks: byte_at(at + 1, b),
+        value: byte_at(at + 2, b),
+        owed: flag_at(at + 3, b),
+        broken: false,
+    }
 }
 
+#[tactic(auto, unfolding(watchlayout::specs::Places::ear_in))]
 fn ear_in(b: &[u8]) -> Ear
     ensures { result ≡ ear_in b.now }
 {
-    let bus0 = bus_at(50, b);
-    let bus1 = bus_at(54, b);
     Ear {
         begun: flag_at(44, b),
         before: byte_at(45, b),
         since: double_at(46, b),
-        both: Both { bus0, bus1 },
+        both: Both {
+            bus0: bus_at(50, b),
+            bus1: bus_at(54, b),
+        },
     }
 }
 
+#[tactic(auto, unfolding(watchlayout::specs::Places::check_at))]
 fn check_at(at: usize, b: &[u8]) -> Check
     requires { at < 200 }
     ensures { result ≡ check_at at b.now }
@@ -117,6 +110,7 @@ fn check_at(at: usize, b: &[u8]) -> Check
     }
 }
 
+#[tactic(auto, unfolding(watchlayout::specs::Places::tally_in))]
 fn tally_in(b: &[u8]) -> Tally
     ensures { result ≡ tally_in b.now }
 {

@@ -1,15 +1,16 @@
 -- Samples that repeat the one before and bring no TICK: many at once come to the same as one after the other, and none of them has anything to tell.
 -- Assumes nothing.
-use Prim.Native.Nat.{ℕ, suc, ◌+◌, ◌-◌, ◌≤◌, ◌<◌}
-use mathlib.Core.Path.{◌≡◌, refl, sym, ap, ◌∙◌}
+use Prim.Native.Nat.{ℕ, zero, suc, ◌+◌, ◌-◌, ◌≤◌, ◌<◌}
+use mathlib.Core.Path.{◌≡◌, refl, sym, ap, ap₂, ◌∙◌}
 use mathlib.Core.Bool.{Bool, true, false, not, ◌&&◌, ◌||◌, false≢true}
 use mathlib.Core.List.{List, [], ◌∷◌, ◌++◌}
 use native.Mathlib.Omega.{arith}
 use lib.Dec.{eqb, ltb}
-use lib.ListN.{length, get_or, take, drop}
-use lib.Seq.{take-suc, get_or-drop}
+use lib.ListN.{length, take}
 use borrow.Author.Tests.{ltb-true, ltb-false, eqb-true, eq-eqb, ne_eqb, lt-ltb, le-ltb}
 use Rattle.std.specs.Prelude.{if◌then◌else◌}
+use Rattle.std.specs.List.{prefix_len}
+use mathlib.Core.Bool.{cond}
 use Rattle.arbiter.proofs.Choice.{split, if_true, if_false, not_true}
 use Rattle.arbiter.specs.declared.Event.{Event}
 use Rattle.capture.specs.declared.Listener.{Listener}
@@ -260,19 +261,22 @@ taken_all (z ∷ ys) y zs w r a =
     ∙ ap (λ (n : ℕ). 1 + n) (later ∙ ap (λ (n : ℕ). length (z ∷ ys) + n) more)
     ∙ sum
 
--- ---- one more of them found
+-- ---- so many samples as are x, and `room` at most
 
-all_with : (x y : ℕ) (l : List ℕ) → are_all x l ≡ true → y ≡ x → are_all x (l ++ (y ∷ [])) ≡ true
+abbrev pub StillAt : ℕ → ℕ → List ℕ → ℕ → Type 0
+StillAt x room l n = (n ≤ room) × (n ≤ length l) × (are_all x (take n l) ≡ true)
+
+pub still_at : (x room : ℕ) (l : List ℕ) → StillAt x room l (prefix_len (λ (y : ℕ). eqb y x) (take room l))
 unfolding are_all
-all_with x y [] h p = rw (eq-eqb y x p) refl
-all_with x y (z ∷ l) h p =
-    let two = both_true (eqb z x) (are_all x l) h in
-    simp (two.0, all_with x y l two.1 p)
+still_at x zero l = (omega arith, omega arith, refl)
+still_at x (suc room) [] = (omega arith, omega arith, refl)
+still_at x (suc room) (y ∷ l) = step (still_at x room l) (eqb y x) refl
+  where
+    k : ℕ
+    k = prefix_len (λ (z : ℕ). eqb z x) (take room l)
 
-pub all_more : (x : ℕ) (samples : List ℕ) (from n : ℕ) → n < length (drop from samples) → are_all x (take n (drop from samples)) ≡ true
-    → get_or samples (from + n) 0 ≡ x → are_all x (take (n + 1) (drop from samples)) ≡ true
-all_more x samples from n h a p =
-    let next : n + 1 ≡ suc n = omega arith in
-    ap (λ (k : ℕ). are_all x (take k (drop from samples))) next
-    ∙ ap (are_all x) (take-suc (drop from samples) n 0 h)
-    ∙ all_with x (get_or (drop from samples) n 0) (take n (drop from samples)) a (get_or-drop from samples n 0 ∙ p)
+    step : StillAt x room l k → (b : Bool) → eqb y x ≡ b → StillAt x (suc room) (y ∷ l) (cond b (1 + k) 0)
+    step rest true e =
+        let next : 1 + k ≡ suc k = omega arith in
+        (omega (arith, rest.0), omega (arith, rest.1), ap (λ (n : ℕ). are_all x (take n (y ∷ l))) next ∙ ap₂ ◌&&◌ e rest.2)
+    step rest false e = (omega arith, omega arith, refl)

@@ -2,14 +2,11 @@
 -- Assumes nothing.
 use Prim.Native.Nat.{ℕ, ◌+◌, ◌-◌, ◌≤◌, ◌<◌, suc}
 use mathlib.Core.Path.{◌≡◌, refl, sym, ap, subst, ◌∙◌}
-use mathlib.Core.Bool.{Bool, true, false, not, ◌&&◌, false≢true}
+use mathlib.Core.Bool.{Bool, true, false}
 use mathlib.Core.List.{List, [], ◌∷◌, ◌++◌}
 use native.Mathlib.Omega.{arith}
-use lib.Dec.{ltb}
 use lib.ListN.{length, get_or, take, drop, length-drop, take-append-drop}
 use lib.Seq.{drop-cons, drop-drop, take-add, length-take-le}
-use borrow.Author.Tests.{ltb-true, ltb-false}
-use Rattle.arbiter.proofs.Choice.{split}
 use Rattle.std.specs.Prelude.{if◌then◌else◌}
 use Rattle.watch.specs.declared.Watcher.{Watcher}
 use Rattle.watch.specs.Stream.{watched_at, watched}
@@ -87,19 +84,7 @@ module _ (samples : List ℕ) (w : Watcher) (i j : ℕ) (v : Watcher) (so_far : 
       let all : i + (j - i + rest) ≡ j + rest = omega arith in
       t ∙ ap (λ (n : ℕ). i + n) (sym g) ∙ all ∙ ap (λ (x : Watcher). j + taken (drop j samples) x) (sym p)
 
--- ---- where the walk goes on, and where it ends
-
-pub goes_in : (at n : ℕ) (told : Bool) → (ltb at n && not told) ≡ true → (at < n) × (told ≡ false)
-goes_in at n true h = absurd (false≢true (sym (and_false (ltb at n)) ∙ h))
-  where
-    and_false : (b : Bool) → (b && false) ≡ false
-    and_false true = refl
-    and_false false = refl
-goes_in at n false h = (ltb-true at n (sym (and-true (ltb at n)) ∙ h), refl)
-  where
-    and-true : (b : Bool) → (b && true) ≡ b
-    and-true true = refl
-    and-true false = refl
+-- ---- where the walk ends
 
 none_left : (l : List ℕ) (w : Watcher) → length l ≡ 0 → taken l w ≡ 0
 unfolding taken
@@ -107,13 +92,10 @@ none_left [] w h = refl
 none_left (x ∷ l) w h = absurd (let some : suc (length l) ≡ 0 = h in omega arith)
 
 module _ (samples : List ℕ) (w v : Watcher) (at : ℕ) (so_far : v ≡ watched (take at samples) w) (inside : at ≤ length samples) where
-  ended : at ≡ taken samples w → (v ≡ listened samples w) × (at ≡ taken samples w)
+  pub ended : at ≡ taken samples w → (v ≡ listened samples w) × (at ≡ taken samples w)
   ended p = (so_far ∙ ap (λ (n : ℕ). watched (take n samples) w) p, p)
 
-  pub walked : (told : Bool) → taken samples w ≡ (if told then at else at + taken (drop at samples) v) → (ltb at (length samples) && not told) ≡ false
-      → (v ≡ listened samples w) × (at ≡ taken samples w)
-  walked true t h = ended (sym t)
-  walked false t h =
-      let past : length samples ≤ at = split (ltb at (length samples)) (λ y. absurd (false≢true (sym h ∙ rw y refl))) (λ n. ltb-false at (length samples) n) in
+  pub walked : taken samples w ≡ at + taken (drop at samples) v → length samples ≤ at → (v ≡ listened samples w) × (at ≡ taken samples w)
+  walked t past =
       let none = none_left (drop at samples) v (length-drop at samples ∙ (let gone : length samples - at ≡ 0 = omega arith in gone)) in
       ended (omega (arith, t, none))

@@ -3,17 +3,15 @@
 ghost use Rattle.std.specs.Prelude.{◌+◌, ◌<◌, ◌≡◌, true, ◌&&◌};
 ghost use Rattle.arbiter.specs.Words.{bit};
 ghost use Rattle.arbiter.specs.declared.Event.TheVariants.{Lines};
-ghost use Rattle.capture.specs.Events.{together};
-ghost use Rattle.importing.specs.Listed.{listed};
+ghost use Rattle.importing.specs.Listed.{listed, one_listed};
 ghost use Rattle.watch.specs.Sample.{levels_below, below_before, lines_given, heard_now, mended, both_mended, faults_in, is_timed, is_due, ticks_given, since_after, ear_after};
 ghost use Rattle.watch.specs.Stream.{followed, followed_all, heard_by, watched_at};
 
 use crate::counting::{tally_with, with_sample};
 use arbiter::Event;
-use bits::worth_of;
 use capture::{Both, Heard, Listener};
 use hearing::{hear_watched, nothing_given};
-use importing::{Few, few_of, raw_of};
+use importing::{few_of, raw_of};
 use step::step_device;
 use watch::{Ear, Settings, Watcher};
 
@@ -23,27 +21,31 @@ use watch::{Ear, Settings, Watcher};
 fn follow(e: Event, w: Watcher) -> Watcher
     ensures { result ≡ followed e w }
 {
-    let settings = w.settings;
-    let ear = w.ear;
     let stepped = step_device(w.device, raw_of(e));
-    let device = stepped.device;
-    let tally = tally_with(e, ear.both, w.device, w.tally, stepped.answer.read);
     Watcher {
-        settings,
-        ear,
-        device,
-        tally,
+        device: stepped.device,
+        tally: tally_with(e, w.ear.both, w.device, w.tally, stepped.answer.read),
+        ..w
     }
 }
 
 #[tactic(auto, unfolding(watch::specs::Stream::followed_all))]
-fn follow_few(f: Few, w: Watcher) -> Watcher
-    ensures { result ≡ followed_all (listed f) w }
+fn follow_one(event: Option<Event>, w: Watcher) -> Watcher
+    ensures { result ≡ followed_all (one_listed event) w }
 {
-    match f {
-        Few::NoEvent => w,
-        Few::OneEvent(e) => follow(e, w),
-        Few::TwoEvents(first, second) => follow(second, follow(first, w)),
+    match event {
+        None => w,
+        Some(e) => follow(e, w),
+    }
+}
+
+#[tactic(auto, unfolding(watch::specs::Stream::followed_all))]
+fn follow_few(few: Option<(Event, Option<Event>)>, w: Watcher) -> Watcher
+    ensures { result ≡ followed_all (listed few) w }
+{
+    match few {
+        None => w,
+        Some((first, second)) => follow_one(second, follow(first, w)),
     }
 }
 
@@ -68,13 +70,13 @@ fn lines_in(x: u8) -> Event
 }
 
 #[tactic(auto, unfolding(watch::specs::Sample::lines_given))]
-fn lines_given(c: Settings, x: u8, e: Ear) -> Few
-    ensures { listed result ≡ lines_given c x e }
+fn lines_given(c: Settings, x: u8, e: Ear) -> Option<Event>
+    ensures { one_listed result ≡ lines_given c x e }
 {
-    if c.below & !(below_before(e) == levels_below(x)) {
-        Few::OneEvent(lines_in(x))
+    if c.below & (below_before(e) != levels_below(x)) {
+        Some(lines_in(x))
     } else {
-        Few::NoEvent
+        None
     }
 }
 
@@ -91,41 +93,26 @@ fn heard_now(c: Settings, x: u8, e: Ear) -> Heard
     }
 }
 
-fn few_heard(h: Heard) -> Few
-    ensures { listed result ≡ together h.given0 h.given1 }
-{
-    let given0 = h.given0;
-    let given1 = h.given1;
-    few_of(given0, given1)
-}
-
 // A fault is forgotten when it is counted, and listening goes on.
 fn mended_of(l: Listener) -> Listener
     ensures { result ≡ mended l }
 {
-    let awaited = l.awaited;
-    Listener {
-        awaited,
-        clocks: l.clocks,
-        value: l.value,
-        owed: l.owed,
-        broken: false,
-    }
+    Listener { broken: false, ..l }
 }
 
 fn both_mended(s: Both) -> Both
     ensures { result ≡ both_mended s }
 {
-    let bus0 = mended_of(s.bus0);
-    let bus1 = mended_of(s.bus1);
-    Both { bus0, bus1 }
+    Both {
+        bus0: mended_of(s.bus0),
+        bus1: mended_of(s.bus1),
+    }
 }
 
 fn faults_in(s: Both) -> u64
     ensures { result ≡ faults_in s }
 {
-    let n = worth_of(1, s.bus0.broken) + worth_of(1, s.bus1.broken);
-    n as u64
+    u64::from(s.bus0.broken) + u64::from(s.bus1.broken)
 }
 
 // ---- time
@@ -133,7 +120,7 @@ fn faults_in(s: Both) -> u64
 fn is_timed(c: Settings, e: Ear) -> bool
     ensures { result ≡ is_timed c e }
 {
-    e.begun & !(c.every == 0)
+    e.begun & (c.every != 0)
 }
 
 // Asked without an addition, which could go past the top.
@@ -141,20 +128,20 @@ fn is_due(c: Settings, e: Ear) -> bool
     ensures { result ≡ is_due c e }
 {
     if e.since < c.every {
-        !(1 < c.every - e.since)
+        c.every - e.since <= 1
     } else {
         true
     }
 }
 
 #[tactic(auto, unfolding(watch::specs::Sample::ticks_given))]
-fn ticks_given(c: Settings, e: Ear) -> Few
-    ensures { listed result ≡ ticks_given c e }
+fn ticks_given(c: Settings, e: Ear) -> Option<Event>
+    ensures { one_listed result ≡ ticks_given c e }
 {
     if is_timed(c, e) & is_due(c, e) {
-        Few::OneEvent(Event::Tick)
+        Some(Event::Tick)
     } else {
-        Few::NoEvent
+        None
     }
 }
 
@@ -176,12 +163,11 @@ fn ear_after(c: Settings, x: u8, e: Ear, heard: Both) -> Ear
     requires { heard ≡ (heard_now c x e).both }
     ensures { result ≡ ear_after c x e }
 {
-    let both = both_mended(heard);
     Ear {
         begun: true,
         before: x,
         since: since_after(c, e),
-        both,
+        both: both_mended(heard),
     }
 }
 
@@ -190,15 +176,11 @@ fn heard_by(x: u8, w: Watcher, after: Watcher, heard: Both) -> Watcher
     requires { heard ≡ (heard_now w.settings x w.ear).both }
     ensures { result ≡ heard_by x w after }
 {
-    let settings = w.settings;
-    let ear = ear_after(settings, x, w.ear, heard);
-    let device = after.device;
-    let tally = with_sample(faults_in(heard), after.tally);
     Watcher {
-        settings,
-        ear,
-        device,
-        tally,
+        settings: w.settings,
+        ear: ear_after(w.settings, x, w.ear, heard),
+        device: after.device,
+        tally: with_sample(faults_in(heard), after.tally),
     }
 }
 
@@ -207,11 +189,9 @@ fn heard_by(x: u8, w: Watcher, after: Watcher, heard: Both) -> Watcher
 pub(crate) fn watch_sample(x: u8, w: Watcher) -> Watcher
     ensures { result ≡ watched_at x w }
 {
-    let settings = w.settings;
-    let ear = w.ear;
-    let heard = heard_now(settings, x, ear);
-    let moved = follow_few(lines_given(settings, x, ear), w);
-    let spoken = follow_few(few_heard(heard), moved);
-    let passed = follow_few(ticks_given(settings, ear), spoken);
+    let heard = heard_now(w.settings, x, w.ear);
+    let moved = follow_one(lines_given(w.settings, x, w.ear), w);
+    let spoken = follow_few(few_of(heard.given0, heard.given1), moved);
+    let passed = follow_one(ticks_given(w.settings, w.ear), spoken);
     heard_by(x, w, passed, heard.both)
 }

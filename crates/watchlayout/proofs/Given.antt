@@ -15,9 +15,9 @@ use Rattle.capture.specs.declared.Sign.{Sign}
 use Rattle.capture.specs.declared.Sign.TheVariants.{Steady, Starts, Stops, Clocks}
 use Rattle.capture.specs.declared.Given.{Given}
 use Rattle.capture.specs.declared.Given.TheVariants.{Written, Gives}
-use Rattle.std.specs.Prelude.{◌+◌, ◌&&◌, ◌∷◌, ◌++◌, if◌then◌else◌}
+use Rattle.std.specs.Prelude.{◌+◌, ◌&&◌, ◌∷◌, ◌++◌, if◌then◌else◌, Option, Some, None}
 use Rattle.watch.specs.Names.{ℕ, Bool, true, false, not, List, [], eqb, ltb, bit, worth, Master, Zero, One, Event, Command}
-use Rattle.watch.specs.Names.{Write, Read, Stop, Pair, Lines, Tick, GeneralCall, Listener, Nothing, Both, Heard}
+use Rattle.watch.specs.Names.{Write, Read, Stop, Pair, Lines, Tick, GeneralCall, Listener, Both, Heard}
 use Rattle.watch.specs.declared.Settings.{Settings}
 use Rattle.watch.specs.declared.Ear.{Ear}
 use Rattle.watch.specs.Sample.{levels_below, below_before, is_timed, is_due, heard_now, lines_given, ticks_given, events_at}
@@ -80,10 +80,10 @@ bytes_append (e ∷ p) q h g = (h.0, bytes_append p q h.1 g)
 
 -- ---- what one bus gives
 
-abbrev GivenBytes : Given → Type 0
-GivenBytes Nothing = Unit {0}
-GivenBytes (Written v) = v < 256
-GivenBytes (Gives e) = InBytes e
+abbrev GivenBytes : Option Given → Type 0
+GivenBytes None = Unit {0}
+GivenBytes (Some (Written v)) = v < 256
+GivenBytes (Some (Gives e)) = InBytes e
 
 byte_given : (m : Master) (a : Awaited) (v : ℕ) → v < 256 → GivenBytes (byte_gives m a v)
 unfolding byte_gives
@@ -120,21 +120,21 @@ sign_value address (Clocks b) l h =
 
 -- ---- what both buses give
 
-one_bytes : (h : Given) → GivenBytes h → AllBytes (from_one h)
-one_bytes Nothing b = tt
-one_bytes (Written v) b = (write_bytes One v b, tt)
-one_bytes (Gives e) b = (b, tt)
+one_bytes : (h : Option Given) → GivenBytes h → AllBytes (from_one h)
+one_bytes None b = tt
+one_bytes (Some (Written v)) b = (write_bytes One v b, tt)
+one_bytes (Some (Gives e)) b = (b, tt)
 
-beside_bytes : (v : ℕ) (h : Given) → v < 256 → GivenBytes h → AllBytes (beside_write v h)
-beside_bytes v Nothing a b = (write_bytes Zero v a, tt)
-beside_bytes v (Written u) a b = (pair_bytes v u a b, tt)
-beside_bytes v (Gives e) a b = (write_bytes Zero v a, (b, tt))
+beside_bytes : (v : ℕ) (h : Option Given) → v < 256 → GivenBytes h → AllBytes (beside_write v h)
+beside_bytes v None a b = (write_bytes Zero v a, tt)
+beside_bytes v (Some (Written u)) a b = (pair_bytes v u a b, tt)
+beside_bytes v (Some (Gives e)) a b = (write_bytes Zero v a, (b, tt))
 
-together_bytes : (g h : Given) → GivenBytes g → GivenBytes h → AllBytes (together g h)
+together_bytes : (g h : Option Given) → GivenBytes g → GivenBytes h → AllBytes (together g h)
 unfolding together
-together_bytes Nothing h a b = one_bytes h b
-together_bytes (Written v) h a b = beside_bytes v h a b
-together_bytes (Gives e) h a b = (a, one_bytes h b)
+together_bytes None h a b = one_bytes h b
+together_bytes (Some (Written v)) h a b = beside_bytes v h a b
+together_bytes (Some (Gives e)) h a b = (a, one_bytes h b)
 
 -- ---- a whole sample
 
@@ -155,7 +155,7 @@ sampled_fits address before x s h = (
 pub heard_fits : (c : Settings) (x : ℕ) (e : Ear) → BothFit e.both → HeardFits (heard_now c x e)
 unfolding heard_now
 heard_fits c x e h =
-    let unheard : HeardFits (record { both = e.both; given0 = Nothing; given1 = Nothing }) = (h, (tt, tt)) in
+    let unheard : HeardFits (record { both = e.both; given0 = None; given1 = None }) = (h, (tt, tt)) in
     either HeardFits e.begun (λ t. sampled_fits c.address e.before x e.both h) (λ f. unheard)
 
 -- one event or none

@@ -5,3 +5,4 @@ pub mod Given
 pub mod Stays
 pub mod Calls
 pub mod Answers
+pub mod Once

@@ -7,7 +7,7 @@ use Rattle.arbiter.specs.Traces.{is_kind, kind_of}
 use Rattle.watch.specs.declared.Settings.{Settings}
 use Rattle.watch.specs.Stream.{beginning}
 use Rattle.watch.specs.Told.{taken, listened}
-use Rattle.watchlayout.specs.declared.Heeded.{Heeded}
+use Rattle.watchlayout.specs.Refusals.{Heeded}
 use Rattle.watchlayout.specs.Places.{watch_length, laid, watcher_in, watch_in_range}
 
 abbrev pub is_long : List ℕ → Bool

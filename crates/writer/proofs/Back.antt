@@ -8,14 +8,14 @@ use native.Mathlib.Omega.{arith}
 use lib.ListN.{length, take, drop, length-append, length-drop, take-append-drop, drop_of_length-le}
 use lib.Seq.{drop-cons, drop-drop, length-take-le, get_or_at, get_or-append-add}
 use Rattle.arbiter.specs.Straps.{address_of}
-use Rattle.arbiter.specs.Traces.{pin_count, head_bytes, event_bytes, events_end, kind_count, kind_bytes, whole_bytes, byte_at, pins_in, count_in, raws_in}
+use Rattle.arbiter.specs.Traces.{pin_count, head_bytes, event_bytes, events_end, kind_count, kind_bytes}
+use Rattle.arbiter.specs.Traces.{whole_bytes, byte_at, pins_in, count_in, raws_in, accepted_with}
 use Rattle.arbiter.specs.Traces.{events_in}
 use Rattle.arbiter.specs.Traces.{kind_number, kind_section, kind_at, read_trace}
 use Rattle.arbiter.specs.Writing.{trace_head, raws_bytes, trace_of, ReadsBack, WritesAsGiven, Bytes, WritesBack, UndoEachOther}
 use Rattle.arbiter.specs.declared.Kind.{Kind}
 use Rattle.arbiter.specs.declared.Pins.{Pins}
 use Rattle.arbiter.specs.declared.Raw.{Raw}
-use Rattle.arbiter.specs.declared.TraceRead.TheVariants.{Accepted}
 use Rattle.arbiter.proofs.Traces.{accepts, raws_before}
 use Rattle.traces.proofs.Accepted.{Fits, accepted_fits, accepted_first}
 
@@ -114,7 +114,7 @@ seven t h =
     at : (i : ℕ) → i < length t → drop i t ≡ byte_at i t ∷ drop (suc i) t
     at i small = drop-cons t i 0 small
 
-module _ (t : List ℕ) (address n room : ℕ) (k : Kind) (bytes : Bytes t) (accepted : read_trace t room ≡ Accepted address n k) where
+module _ (t : List ℕ) (address n room : ℕ) (k : Kind) (bytes : Bytes t) (accepted : read_trace t room ≡ accepted_with address n k) where
   fits : Fits t room n k
   fits = accepted_fits t room address n k accepted
 

@@ -10,7 +10,8 @@ use lib.ListN.{length, take, drop}
 use lib.Seq.{take-append_seam}
 use borrow.Author.Tests.{eq-eqb, eqb-true, not-false, le-ltb}
 use Rattle.arbiter.specs.Straps.{address_of, strapped_number, strapped_address}
-use Rattle.arbiter.specs.Traces.{pin_count, pin_bytes, event_bytes, most_events, whole_bytes, byte_at, pins_in, raws_in, events_in, kind_number, is_kind}
+use Rattle.arbiter.specs.Traces.{pin_count, pin_bytes, event_bytes, most_events, whole_bytes, byte_at}
+use Rattle.arbiter.specs.Traces.{pins_in, raws_in, events_in, kind_number, is_kind, accepted_with}
 use Rattle.arbiter.specs.Traces.{kind_of}
 use Rattle.arbiter.specs.Traces.{read_strapped, read_trace, event_count}
 use Rattle.arbiter.specs.Writing.{raws_bytes, trace_of, written_number, written_bytes, written, buffer_written, Bytes}
@@ -18,10 +19,9 @@ use Rattle.arbiter.specs.declared.Kind.{Kind}
 use Rattle.arbiter.specs.declared.Kind.TheVariants.{Pca9641, Tpt29641}
 use Rattle.arbiter.specs.declared.Pins.{Pins}
 use Rattle.arbiter.specs.declared.Raw.{Raw}
-use Rattle.arbiter.specs.declared.Strapped.{Strapped}
-use Rattle.arbiter.specs.declared.Strapped.TheVariants.{Address, Unlisted}
-use Rattle.arbiter.specs.declared.TraceRead.{TraceRead}
-use Rattle.arbiter.specs.declared.TraceRead.TheVariants.{Accepted, Refused}
+use Rattle.std.specs.Prelude.{Option, Some, None, Result, Err}
+use Rattle.arbiter.specs.declared.Accepted.{Accepted}
+use Rattle.arbiter.specs.declared.Refusal.{Refusal}
 use Rattle.arbiter.proofs.Choice.{passed}
 use Rattle.traces.proofs.Accepted.{Fits, accepted_fits, accepted_first}
 use Rattle.writer.specs.Calls.{trace_left, WrittenReadBack, ReadWrittenBack, CallsUndo}
@@ -31,15 +31,15 @@ use Rattle.writer.proofs.Laws.{zero_fits}
 -- ---- what was written, read
 
 -- pins without a refusal have an address
-listed : (s : Strapped) → strapped_number s ≡ 0 → s ≡ Address (strapped_address s)
-listed (Address a) h = refl
-listed Unlisted h = absurd (omega (arith, h))
+listed : (s : Option ℕ) → strapped_number s ≡ 0 → s ≡ Some (strapped_address s)
+listed (Some a) h = refl
+listed None h = absurd (omega (arith, h))
 
 module _ (p : Pins) (kind : ℕ) (events buffer : List ℕ) (accepted : written_number p kind events (length buffer) ≡ 0) where
   abbrev rs : List Raw
   rs = raws_in (event_count events) events
 
-  has_address : address_of p ≡ Address (strapped_address (address_of p))
+  has_address : address_of p ≡ Some (strapped_address (address_of p))
   unfolding written_number
   has_address = listed (address_of p) (eqb-true _ _ (not-false _ (passed (not (eqb (strapped_number (address_of p)) 0)) 7 _ accepted).0))
 
@@ -61,7 +61,7 @@ written_read_back p kind events buffer room told fits =
     let back = reads_back p (rs p kind events buffer told) (kind_of kind) (strapped_address (address_of p)) room (has_address p kind events buffer told)
     (omega (arith, count, small)) (omega (arith, count, whole, fits)) in
     let is = left_is p kind events buffer told in (
-      ap (λ (t : List ℕ). read_trace t room) is ∙ back.0 ∙ ap (λ (n : ℕ). Accepted (strapped_address (address_of p)) n (kind_of kind)) count,
+      ap (λ (t : List ℕ). read_trace t room) is ∙ back.0 ∙ ap (λ (n : ℕ). accepted_with (strapped_address (address_of p)) n (kind_of kind)) count,
       ap pins_in is ∙ back.1,
       ap (λ (t : List ℕ). events_in (event_count events) t) is
           ∙ subst (λ (n : ℕ). events_in n (trace_of p (rs p kind events buffer told) (kind_of kind)) ≡ rs p kind events buffer told) count back.2,
@@ -69,10 +69,10 @@ written_read_back p kind events buffer room told fits =
 
 -- ---- what was read, written
 
-strapped_zero : (s : Strapped) (t : List ℕ) (room a n : ℕ) (k : Kind) → read_strapped s t room ≡ Accepted a n k → strapped_number s ≡ 0
+strapped_zero : (s : Option ℕ) (t : List ℕ) (room a n : ℕ) (k : Kind) → read_strapped s t room ≡ accepted_with a n k → strapped_number s ≡ 0
 unfolding read_strapped
-strapped_zero (Address x) t room a n k h = refl
-strapped_zero Unlisted t room a n k h = let z : ◌≡◌ {A = ℕ} 0 1 = cc in absurd (omega (arith, z))
+strapped_zero (Some x) t room a n k h = refl
+strapped_zero None t room a n k h = let z : ◌≡◌ {A = ℕ} 0 1 = cc in absurd (omega (arith, z))
 
 kind_known : (k : Kind) → is_kind (kind_number k) ≡ true
 kind_known Pca9641 = refl
@@ -82,7 +82,7 @@ kind_same : (k : Kind) → kind_of (kind_number k) ≡ k
 kind_same Pca9641 = refl
 kind_same Tpt29641 = refl
 
-module _ (t buffer : List ℕ) (address n room : ℕ) (k : Kind) (bytes : Bytes t) (accepted : read_trace t room ≡ Accepted address n k)
+module _ (t buffer : List ℕ) (address n room : ℕ) (k : Kind) (bytes : Bytes t) (accepted : read_trace t room ≡ accepted_with address n k)
     (fit : length t ≤ length buffer) where
   fits : Fits t room n k
   fits = accepted_fits t room address n k accepted

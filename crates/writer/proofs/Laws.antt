@@ -11,12 +11,14 @@ use lib.Seq.{take_at, drop-append-add, drop-drop}
 use borrow.Author.Tests.{eq-eqb, ne_eqb, eqb-true, eqb-false, not-false, ltb-false, le-ltb}
 use Rattle.arbiter.specs.Straps.{address_of, strapped_number}
 use Rattle.arbiter.specs.Traces.{head_bytes, event_bytes, most_events, events_end, kind_bytes, whole_bytes, most_bytes, raws_in, kind_section, is_kind, kind_of}
-use Rattle.arbiter.specs.Traces.{event_count}
+use Rattle.arbiter.specs.Traces.{event_count, refusal_number}
 use Rattle.arbiter.specs.Writing.{trace_head, raws_bytes, trace_of, written_number, written_bytes, written, buffer_written}
 use Rattle.arbiter.specs.declared.Pins.{Pins}
-use Rattle.arbiter.specs.declared.Written.{Written}
+use Rattle.arbiter.specs.declared.Refusal.{Refusal}
+use Rattle.arbiter.specs.Types.{Written}
 use Rattle.arbiter.proofs.Choice.{passed}
 use Rattle.format.specs.Places.{with_head, with_bytes, with_kind}
+use Rattle.format.proofs.Refused.{some_number}
 use Rattle.writer.proofs.Back.{writes_as_given, raws_length}
 
 -- ---- a number of 0 has passed every test
@@ -37,17 +39,17 @@ zero_fits p kind events room h =
 
 -- ---- refused: nothing is written
 
-module _ (p : Pins) (kind : ℕ) (events out : List ℕ) (number : ℕ) (told : number ≡ written_number p kind events (length out)) (refused : number ≡ 0 → ⊥) where
-  some_number : written_number p kind events (length out) ≡ 0 → ⊥
-  some_number h = refused (told ∙ h)
+module _ (p : Pins) (kind : ℕ) (events out : List ℕ) (r : Refusal) (told : refusal_number r ≡ written_number p kind events (length out)) where
+  refused : written_number p kind events (length out) ≡ 0 → ⊥
+  refused h = some_number r (told ∙ h)
 
-  pub refused_written : record { number = number; length = 0 } ≡ written p kind events out
+  pub refused_written : record { number = refusal_number r; length = 0 } ≡ written p kind events out
   unfolding written written_bytes
-  refused_written = ap (λ (k : ℕ). record { number = k; length = 0 }) told ∙ simp (ne_eqb _ _ some_number)
+  refused_written = ap (λ (k : ℕ). record { number = k; length = 0 }) told ∙ simp (ne_eqb _ _ refused)
 
   pub refused_buffer : out ≡ buffer_written p kind events out
   unfolding buffer_written written_bytes
-  refused_buffer = simp (ne_eqb _ _ some_number)
+  refused_buffer = simp (ne_eqb _ _ refused)
 
 -- ---- written: the head, the events' bytes as they are, the kind, and what was there before
 
@@ -130,6 +132,7 @@ module _ (p : Pins) (kind : ℕ) (events out : List ℕ) (accepted : written_num
 -- ---- nothing written is longer than the longest trace
 
 pub written_few : (p : Pins) (kind : ℕ) (events out : List ℕ) → (written p kind events out).length ≤ most_bytes
+unfolding written written_bytes
 written_few p kind events out = go (eqb (written_number p kind events (length out)) 0) refl
   where
     go : (b : Bool) → eqb (written_number p kind events (length out)) 0 ≡ b → (written p kind events out).length ≤ most_bytes
@@ -138,6 +141,4 @@ written_few p kind events out = go (eqb (written_number p kind events (length ou
         let fits = zero_fits p kind events (length out) accepted in
         let size = ap (λ (w : Written). w.length) (all_written p kind events out accepted) in
         omega (arith, size, fits.0, fits.1)
-    go false e =
-        let size = ap (λ (w : Written). w.length) (refused_written p kind events out _ refl (eqb-false _ _ e)) in
-        omega (arith, size)
+    go false e = simp e (omega arith)

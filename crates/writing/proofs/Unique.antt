@@ -2,8 +2,7 @@
 -- Assumes nothing.
 use Rattle.arbiter.proofs.Once.{OneResult, once}
 use Rattle.writing.proofs.writable_at.Reads as writable-at
-use Rattle.writing.proofs.written_by_0.Reads as written-by-0
-use Rattle.writing.proofs.written_by_1.Reads as written-by-1
+use Rattle.writing.proofs.written_by.Reads as written-by
 use Rattle.writing.proofs.paired_by.Reads as Paired-by
 use Rattle.writing.proofs.writer_side.Reads as writer_side
 use Rattle.writing.proofs.mail_written.Reads as mail-written
@@ -11,11 +10,8 @@ use Rattle.writing.proofs.mail_written.Reads as mail-written
 pub writable_at_once : OneResult writable-at.Post
 writable_at_once κ a x y s t p q = once p q
 
-pub written_by_0_once : OneResult written-by-0.Post
-written_by_0_once κ a x y s t p q = once p q
-
-pub written_by_1_once : OneResult written-by-1.Post
-written_by_1_once κ a x y s t p q = once p q
+pub written_by_once : OneResult written-by.Post
+written_by_once κ a x y s t p q = once p q
 
 pub paired_by_once : OneResult Paired-by.Post
 paired_by_once κ a x y s t p q = once p q

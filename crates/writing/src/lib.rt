@@ -6,15 +6,11 @@ ghost use Rattle.std.specs.Prelude.{◌≡◌, if◌then◌else◌};
 ghost use Rattle.arbiter.specs.Registers.{own_written, mail_written, drives_written, turn_written};
 ghost use Rattle.arbiter.specs.Events.{writable};
 ghost use Rattle.arbiter.specs.Effects.{after_write, write_risen, written, paired};
-ghost use Rattle.arbiter.specs.declared.Master.TheVariants.{Zero, One};
 ghost use Rattle.writing.specs.Written.{contr_written, ints_written, mail_after};
 
 use arbiter::{Bus, Control, Device, Mailbox, Master, Register, Side, Turn};
-use bits::{bit_0, pick_bool, pick_u8};
-use fields::{
-    device_with, is_connect, owns_turn, pick_register, pick_turn, pointer_of, port_of,
-    register_number, rolls_over, side_with, turn_of, with_turn,
-};
+use bits::{bit_0, pick};
+use fields::{owns_turn, register_number, rolls_over, sides_of, with_sides, with_turn};
 use registers::{after_read, raised_in};
 
 // ---- the register
@@ -23,23 +19,14 @@ use registers::{after_read, raised_in};
 pub fn writable_at(r: Register) -> bool
     ensures { result ≡ writable r }
 {
-    match r {
-        Register::Id => false,
-        Register::Contr => true,
-        Register::Status => true,
-        Register::Rt => true,
-        Register::IntStatus => true,
-        Register::IntMask => true,
-        Register::MailLow => true,
-        Register::MailHigh => true,
-    }
+    r != Register::Id
 }
 
 // The pointer one further: as after a READ, but at 7 it stays unless it rolls.
 fn after_write(rolls: bool, r: Register) -> Register
     ensures { result ≡ after_write rolls r }
 {
-    pick_register(
+    pick(
         !rolls & (register_number(r) == 7),
         Register::MailHigh,
         after_read(r),
@@ -82,24 +69,23 @@ fn ints_after(clears: bool, tests: bool, v: u8, ints: u8) -> u8
     ensures { result ≡ ints_written clears tests v ints }
 {
     let set = raised_in(ints, 0x08, tests & (v / 32 % 2 == 1));
-    pick_u8(clears, set & (0x3F - v % 64), set)
+    pick(clears, set & (0x3F - v % 64), set)
 }
 
 // The writer's own side after its byte, with the pointer risen.
+#[tactic(auto, using(crate::proofs::Laws::writer_law))]
 pub fn writer_side(rolls: bool, granted: bool, v: u8, s: Side) -> Side
     ensures { result ≡ write_risen rolls (own_written granted s.pointer v s) }
 {
-    let n = register_number(pointer_of(s));
-    side_with(
-        risen(rolls, s.auto, pointer_of(s)),
-        pick_u8((n == 3) & !granted, v, s.rt),
-        contr_after(n == 1, granted, v, s.contr),
-        ints_after(n == 4, n == 2, v, s.ints),
-        s.mail,
-        s.auto,
-        port_of(s),
-        pick_u8(n == 5, v % 128, s.mask),
-    )
+    let n = register_number(s.pointer);
+    Side {
+        pointer: risen(rolls, s.auto, s.pointer),
+        rt: pick((n == 3) & !granted, v, s.rt),
+        contr: contr_after(n == 1, granted, v, s.contr),
+        ints: ints_after(n == 4, n == 2, v, s.ints),
+        mask: pick(n == 5, v % 128, s.mask),
+        ..s
+    }
 }
 
 // ---- the partner's side, the drives and the turn
@@ -108,30 +94,27 @@ fn mail_after(n: u8, v: u8, m: Mailbox) -> Mailbox
     ensures { result ≡ mail_after n v m }
 {
     Mailbox {
-        low: pick_u8((n == 6) & !m.full, v, m.low),
-        high: pick_u8((n == 7) & !m.full, v, m.high),
+        low: pick((n == 6) & !m.full, v, m.low),
+        high: pick((n == 7) & !m.full, v, m.high),
         full: (n == 7) | m.full,
     }
 }
 
 // The partner's side after a byte that was written at the register r.
+#[tactic(auto, using(crate::proofs::Laws::mail_law))]
 pub fn mail_written(r: Register, v: u8, s: Side) -> Side
     ensures { result ≡ mail_written r v s }
 {
     let n = register_number(r);
-    side_with(
-        pointer_of(s),
-        s.rt,
-        s.contr,
-        raised_in(s.ints, 0x20, (n == 7) & !s.mail.full),
-        mail_after(n, v, s.mail),
-        s.auto,
-        port_of(s),
-        s.mask,
-    )
+    Side {
+        ints: raised_in(s.ints, 0x20, (n == 7) & !s.mail.full),
+        mail: mail_after(n, v, s.mail),
+        ..s
+    }
 }
 
 // The drives after a byte that was written at the register r by a master with this BUS_CONNECT.
+#[tactic(auto, using(crate::proofs::Laws::drives_law))]
 fn drives_written(granted: bool, connect: bool, r: Register, v: u8, b: Bus) -> Bus
     ensures { result ≡ drives_written granted connect r v b }
 {
@@ -140,89 +123,69 @@ fn drives_written(granted: bool, connect: bool, r: Register, v: u8, b: Bus) -> B
     let frees = (n == 1) & (granted & ((v / 4 % 2 == 1) | !request));
     let sets = (n == 2) & (granted & !connect);
     Bus {
-        outscl: b.outscl,
-        outsda: b.outsda,
-        intin: b.intin,
-        drivescl: frees | pick_bool(sets, v / 64 % 2 == 1, b.drivescl),
-        drivesda: frees | pick_bool(sets, v / 128 % 2 == 1, b.drivesda),
-        busy: b.busy,
-        hold: b.hold,
-        idle: b.idle,
-        lowscl: b.lowscl,
-        lowsda: b.lowsda,
+        drivescl: frees | pick(sets, v / 64 % 2 == 1, b.drivescl),
+        drivesda: frees | pick(sets, v / 128 % 2 == 1, b.drivesda),
+        ..b
     }
 }
 
 // The turn after a byte that was written at the register r.
+#[tactic(auto, using(crate::proofs::Laws::turn_law))]
 fn turn_written(granted: bool, r: Register, v: u8, t: Turn) -> Turn
     ensures { result ≡ turn_written granted r v t }
 {
     let n = register_number(r);
     let request = bit_0(v);
-    pick_turn((n == 1) & (granted & !request), Turn::Nobody, t)
+    pick((n == 1) & (granted & !request), Turn::Nobody, t)
 }
 
 // ---- the device
 
-// WRITE by master 0.
-pub fn written_by_0(v: u8, d: Device) -> Device
-    ensures { result ≡ written Zero v d }
+// WRITE by master m.
+#[tactic(auto, unfolding(arbiter::specs::Effects::written))]
+pub fn written_by(m: Master, v: u8, d: Device) -> Device
+    ensures { result ≡ written m v d }
 {
-    let rolls = rolls_over(d);
-    let at = pointer_of(d.side0);
-    let granted = owns_turn(Master::Zero, turn_of(d.arb));
-    let connect = is_connect(d.side0.contr);
-    let turn = turn_written(granted, at, v, turn_of(d.arb));
-    device_with(
-        writer_side(rolls, granted, v, d.side0),
-        mail_written(at, v, d.side1),
-        drives_written(granted, connect, at, v, d.bus),
-        with_turn(turn, d.arb),
-        d,
-    )
-}
-
-// WRITE by master 1.
-pub fn written_by_1(v: u8, d: Device) -> Device
-    ensures { result ≡ written One v d }
-{
-    let rolls = rolls_over(d);
-    let at = pointer_of(d.side1);
-    let granted = owns_turn(Master::One, turn_of(d.arb));
-    let connect = is_connect(d.side1.contr);
-    let turn = turn_written(granted, at, v, turn_of(d.arb));
-    device_with(
-        mail_written(at, v, d.side0),
-        writer_side(rolls, granted, v, d.side1),
-        drives_written(granted, connect, at, v, d.bus),
-        with_turn(turn, d.arb),
-        d,
+    let (own, other) = sides_of(m, d);
+    let granted = owns_turn(m, d.arb.turn);
+    let turn = turn_written(granted, own.pointer, v, d.arb.turn);
+    let moved = Device {
+        bus: drives_written(granted, own.contr.busconnect, own.pointer, v, d.bus),
+        arb: with_turn(turn, d.arb),
+        ..d
+    };
+    with_sides(
+        m,
+        writer_side(rolls_over(d), granted, v, own),
+        mail_written(own.pointer, v, other),
+        moved,
     )
 }
 
 // PAIR.
+#[tactic(auto, unfolding(arbiter::specs::Effects::paired))]
 pub fn paired_by(v0: u8, v1: u8, d: Device) -> Device
     ensures { result ≡ paired v0 v1 d }
 {
     let rolls = rolls_over(d);
-    let at0 = pointer_of(d.side0);
-    let at1 = pointer_of(d.side1);
-    let owns0 = owns_turn(Master::Zero, turn_of(d.arb));
-    let owns1 = owns_turn(Master::One, turn_of(d.arb));
-    let connect0 = is_connect(d.side0.contr);
-    let connect1 = is_connect(d.side1.contr);
-    let turn = turn_written(owns1, at1, v1, turn_written(owns0, at0, v0, turn_of(d.arb)));
-    device_with(
-        mail_written(at1, v1, writer_side(rolls, owns0, v0, d.side0)),
-        mail_written(at0, v0, writer_side(rolls, owns1, v1, d.side1)),
-        drives_written(
+    let at0 = d.side0.pointer;
+    let at1 = d.side1.pointer;
+    let owns0 = owns_turn(Master::Zero, d.arb.turn);
+    let owns1 = owns_turn(Master::One, d.arb.turn);
+    let connect0 = d.side0.contr.busconnect;
+    let connect1 = d.side1.contr.busconnect;
+    let turn = turn_written(owns1, at1, v1, turn_written(owns0, at0, v0, d.arb.turn));
+    Device {
+        side0: mail_written(at1, v1, writer_side(rolls, owns0, v0, d.side0)),
+        side1: mail_written(at0, v0, writer_side(rolls, owns1, v1, d.side1)),
+        bus: drives_written(
             owns1,
             connect1,
             at1,
             v1,
             drives_written(owns0, connect0, at0, v0, d.bus),
         ),
-        with_turn(turn, d.arb),
-        d,
-    )
+        arb: with_turn(turn, d.arb),
+        ..d
+    }
 }

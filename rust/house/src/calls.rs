@@ -7,7 +7,7 @@ const CLAUSES: [&str; 2] = ["requires", "ensures"];
 
 /// A public function, or a program's `main`.
 pub struct Call {
-    /// As `bus::is_idle`, or `listing::why::say` for a module.
+    /// As `bus::is_idle`, or `traces::reading::read_trace` for a module.
     pub name: String,
     pub file: String,
     /// From the signature to the body.
@@ -15,7 +15,7 @@ pub struct Call {
 }
 
 impl Call {
-    /// `listing` of `listing::why::say`.
+    /// `traces` of `traces::reading::read_trace`.
     pub fn crate_name(&self) -> &str {
         self.name.split("::").next().unwrap_or_default()
     }

@@ -6,8 +6,8 @@ use Rattle.advance.proofs.advance.Goals as goal
 
 pub returns-then-n-gt-MOST_TICKS : goal.returns-then-n-gt-MOST_TICKS
 unfolding advanced
-returns-then-n-gt-MOST_TICKS c = simp (← c.advanced_with.ensures, lt-ltb _ _ c.if-n-gt-MOST_TICKS.true)
+returns-then-n-gt-MOST_TICKS c = simp (lt-ltb _ _ c.if-n-gt-MOST_TICKS.true)
 
 pub returns-else-n-gt-MOST_TICKS : goal.returns-else-n-gt-MOST_TICKS
 unfolding advanced
-returns-else-n-gt-MOST_TICKS c = simp (← c.leap.ensures, le-ltb _ _ c.if-n-gt-MOST_TICKS.false)
+returns-else-n-gt-MOST_TICKS c = simp (le-ltb _ _ c.if-n-gt-MOST_TICKS.false) c.leap.ensures

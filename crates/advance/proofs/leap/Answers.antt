@@ -37,4 +37,4 @@ pub returns : goal.returns
 returns c =
     let start = c.way_with-w.ensures in
     let at = c.loop-w in
-    c.advanced_with.ensures ∙ arrived _ _ at.w _ start at.invariant.0 at.invariant.1 (omega (arith, c.loop-w-test.false))
+    arrived _ _ at.w _ start at.invariant.0 at.invariant.1 (omega (arith, c.loop-w-test.false))

@@ -15,7 +15,7 @@ use Rattle.bench.proofs.drive.Goals as goal
 
 pub loop-i-init : goal.loop-i-init
 unfolding run_from raws_in answers_from
-loop-i-init g c = record { within = omega arith; device = c.fresh_for-standing.ensures; lines = Appends-nil _ }
+loop-i-init g c = record { device = c.fresh_for-standing.ensures; lines = Appends-nil _ }
 
 pub loop-i-preserved : goal.loop-i-preserved
 loop-i-preserved g c =
@@ -23,18 +23,19 @@ loop-i-preserved g c =
     let at_i = c.loop-i.invariant.device in
     let same = c.event_of-r.ensures in
     record {
-      within = omega arith;
       device = c.step_lent-a.ensures.0 ∙ ap (λ (r : Raw). (step c.loop-i.standing r).device) same ∙ again_device _ _ _ _ _ more at_i refl;
       lines = line_again _ _ _ _ _ more at_i (c.step_lent-a.ensures.1 ∙ ap (λ (r : Raw). (step c.loop-i.standing r).answer) same) _ _ _
           c.loop-i.invariant.lines c.in_ok-print_answer.ensures;
     }
 
-pub returns : goal.returns
+pub returns-clause-device : goal.returns-clause-device
 unfolding run
-returns g c =
+returns-clause-device g c =
     let all : c.loop-i.i ≡ c.args.n = omega arith in
-    record {
-      device = c.loop-i.invariant.device ∙ ap (λ (k : ℕ). run_from (power_up (kind_in c.args.t.now)) (raws_in k (events_part c.args.t.now))) all;
-      lines = subst (λ (k : ℕ). Appends (g.W.Write.contents c.args.out.now) (g.W.Write.contents c.loop-i.out)
-          (answer_lines (answers_from (power_up (kind_in c.args.t.now)) (raws_in k (events_part c.args.t.now))))) all c.loop-i.invariant.lines;
-    }
+    c.loop-i.invariant.device ∙ ap (λ (k : ℕ). run_from (power_up (kind_in c.args.t.now)) (raws_in k (events_part c.args.t.now))) all
+
+pub returns-clause-lines : goal.returns-clause-lines
+returns-clause-lines g c =
+    let all : c.loop-i.i ≡ c.args.n = omega arith in
+    subst (λ (k : ℕ). Appends (g.W.Write.contents c.args.out.now) (g.W.Write.contents c.loop-i.out)
+    (answer_lines (answers_from (power_up (kind_in c.args.t.now)) (raws_in k (events_part c.args.t.now))))) all c.loop-i.invariant.lines

@@ -8,11 +8,11 @@ use Rattle.bench.proofs.print_trace.Goals as goal
 
 pub print_accepted-requires : goal.print_accepted-requires
 print_accepted-requires g c =
-    let h = sym c.read_trace-read.ensures.0 ∙ c.in-Accepted.is in
+    let h = sym c.read_trace-read.ensures.0 ∙ c.in-Ok.is in
     let size = part_length _ _ _ _ _ h in
     (omega (arith, size), (accepted_fits _ _ _ _ _ h).2)
 
-pub returns-in-Accepted : goal.returns-in-Accepted
-returns-in-Accepted g c =
+pub returns-in-Ok : goal.returns-in-Ok
+returns-in-Ok g c =
     subst (λ (l : List ℕ). OnOk c.print_accepted.result (Appends (g.W.Write.contents c.args.out.now) (g.W.Write.contents c.print_accepted.new.out) l))
-    (listed _ _ _ _ (sym c.read_trace-read.ensures.0 ∙ c.in-Accepted.is)) c.print_accepted.ensures
+    (listed _ _ _ _ (sym c.read_trace-read.ensures.0 ∙ c.in-Ok.is)) c.print_accepted.ensures

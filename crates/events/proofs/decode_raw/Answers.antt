@@ -1,7 +1,8 @@
 -- `events::decode_raw` meets its contract.
 -- Assumes nothing.
 use borrow.Author.Tests.{ne_eqb}
-use Rattle.arbiter.specs.declared.Decoded.TheVariants.{UnknownKind}
+use Rattle.std.specs.Prelude.{Err}
+use Rattle.arbiter.specs.declared.Unread.TheVariants.{UnknownKind}
 use Rattle.arbiter.specs.Events.{decode}
 use Rattle.events.proofs.Numbers.{raw_told}
 use Rattle.events.proofs.decode_raw.Goals as goal
@@ -125,7 +126,7 @@ returns-in_default-clause-value c =
 pub returns-in_default-clause-result_value : goal.returns-in_default-clause-result_value
 unfolding decode
 returns-in_default-clause-result_value c =
-    (raw_told c.args.r UnknownKind (simp (
+    (raw_told c.args.r (Err UnknownKind) (simp (
       ne_eqb _ _ c.in_default.in_default-own.rest.1,
       ne_eqb _ _ c.in_default.in_default-own.rest.0.1,
       ne_eqb _ _ c.in_default.in_default-own.rest.0.0.1,

@@ -3,16 +3,11 @@
 use mathlib.Core.Path.{subst, sym}
 use Prim.Native.Nat.{◌≤◌}
 use native.Mathlib.Omega.{arith}
-use Rattle.orders.specs.declared.Listed.{Listed}
+use Rattle.orders.specs.Call.{Listed}
 use Rattle.orders.proofs.Calls.{listed_few}
 use Rattle.packed_orders.proofs.list_packed.Goals as goal
 
 pub overflow_mul-result : goal.overflow_mul-result
 overflow_mul-result c =
-    let few = subst (λ (r : Listed). r.count ≤ 924) (sym c.list_orders-listed.ensures.0) (listed_few _ _ _ _) in
-    omega (arith, few)
-
-pub overflow_add-result : goal.overflow_add-result
-overflow_add-result c =
-    let few = subst (λ (r : Listed). r.count ≤ 924) (sym c.list_orders-listed.ensures.0) (listed_few _ _ _ _) in
+    let few : c.in-Ok.count ≤ 924 = subst (λ (r : Listed). r.count ≤ 924) (sym c.in-Ok.ensures.0) (listed_few _ _ _ _) in
     omega (arith, few)

@@ -1,19 +1,12 @@
--- `packed_traces::write_packed` meets its contract. Nothing written is longer than the longest trace, so the sum fits.
+-- `packed_traces::write_packed` meets its contract. Nothing written is longer than the longest trace, so its length can be packed.
 -- Assumes nothing.
 use mathlib.Core.Path.{subst, sym}
 use Prim.Native.Nat.{◌≤◌}
-use native.Mathlib.Omega.{arith}
 use Rattle.arbiter.specs.Traces.{most_bytes}
-use Rattle.arbiter.specs.declared.Written.{Written}
+use Rattle.arbiter.specs.Types.{Written}
 use Rattle.writer.proofs.Laws.{written_few}
 use Rattle.packed_traces.proofs.write_packed.Goals as goal
 
-pub overflow_mul-result : goal.overflow_mul-result
-overflow_mul-result c =
-    let few = subst (λ (w : Written). w.length ≤ most_bytes) (sym c.write_trace-w.ensures.0) (written_few _ _ _ _) in
-    omega (arith, few)
-
-pub overflow_add-result : goal.overflow_add-result
-overflow_add-result c =
-    let few = subst (λ (w : Written). w.length ≤ most_bytes) (sym c.write_trace-w.ensures.0) (written_few _ _ _ _) in
-    omega (arith, few)
+pub packed_length-requires : goal.packed_length-requires
+packed_length-requires c =
+    subst (λ (w : Written). w.length ≤ most_bytes) (sym c.write_trace-written.ensures.0) (written_few _ _ _ _)

@@ -1,12 +1,10 @@
--- `rowimage::images_fit` meets its contract: after i turns the images of the first i records are tested.
+-- `rowimage::images_fit` meets its contract: the images fit if those that are left do.
 -- Assumes nothing.
-use Prim.Native.Nat.{◌≤◌, ◌-◌}
 use mathlib.Core.Path.{◌≡◌}
-use Rattle.rowimage.specs.Row.{images_fit}
+use Rattle.rowimage.specs.Row.{record_bytes, record_count, images_fit}
 use Rattle.rowimage.proofs.images_fit.Given as goal
 
-abbrev pub invariant-loop-i : goal.invariant-loop-i
-invariant-loop-i l = (l.i ≤ l.n) × (l.good ≡ images_fit l.i l.row)
-
-abbrev pub decreases-loop-i : goal.decreases-loop-i
-decreases-loop-i l = l.n - l.i
+abbrev pub invariant-loop-record : goal.invariant-loop-record
+invariant-loop-record l =
+    let left = l.record-iterator.rest.now in
+    (l.record-iterator.size ≡ record_bytes) × (images_fit (record_count left) left ≡ images_fit (record_count l.row) l.row)

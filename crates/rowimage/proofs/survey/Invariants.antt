@@ -1,13 +1,11 @@
--- `rowimage::survey` meets its contract: after i turns the first i addresses are seen.
+-- `rowimage::survey` meets its contract: what is seen of the records that are left, after the others, is seen of all.
 -- Assumes nothing.
-use Prim.Native.Nat.{◌≤◌, ◌-◌}
 use mathlib.Core.Path.{◌≡◌}
-use Rattle.routing.specs.Deciding.{seen_to}
-use Rattle.rowimage.specs.Row.{records_in}
+use Rattle.routing.specs.Deciding.{seen_of}
+use Rattle.rowimage.specs.Row.{record_bytes, records_in}
+use Rattle.rowimage.proofs.Seeing.{see_all}
 use Rattle.rowimage.proofs.survey.Given as goal
 
-abbrev pub invariant-loop-i : goal.invariant-loop-i
-invariant-loop-i l = (l.i ≤ l.n) × (l.s ≡ seen_to l.i l.name (records_in l.row))
-
-abbrev pub decreases-loop-i : goal.decreases-loop-i
-decreases-loop-i l = l.n - l.i
+abbrev pub invariant-loop-place : goal.invariant-loop-place
+invariant-loop-place l =
+    (l.place-iterator.size ≡ record_bytes) × (see_all l.s (records_in l.place-iterator.rest.now) ≡ seen_of l.name (records_in l.row))

@@ -1,11 +1,8 @@
--- `rows::look_through` meets its contract: after i turns it is known what is seen and shown of the first i records.
+-- `rows::look_through` meets its contract: at each record it is known what is seen and shown of those before it.
 -- Assumes nothing.
-use Rattle.std.proofs.Common.{◌≡◌, ◌≤◌, ◌-◌, length}
+use Rattle.std.proofs.Common.{◌≡◌}
 use Rattle.showing.specs.Showing.{looked_to}
 use Rattle.rows.proofs.look_through.Given as goal
 
-abbrev pub invariant-loop-i : goal.invariant-loop-i
-invariant-loop-i l = (l.i ≤ length l.row) × (l.s ≡ looked_to l.i l.place l.row)
-
-abbrev pub decreases-loop-i : goal.decreases-loop-i
-decreases-loop-i l = length l.row - l.i
+abbrev pub invariant-loop-c : goal.invariant-loop-c
+invariant-loop-c l = l.s ≡ looked_to l.c-index l.place l.row

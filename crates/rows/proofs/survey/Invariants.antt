@@ -1,11 +1,8 @@
--- `rows::survey` meets its contract: after i turns it is known what is seen of the first i records.
+-- `rows::survey` meets its contract: at each record it is known what is seen of those before it.
 -- Assumes nothing.
-use Rattle.std.proofs.Common.{◌≡◌, ◌≤◌, ◌-◌, length}
+use Rattle.std.proofs.Common.{◌≡◌}
 use Rattle.routing.specs.Deciding.{seen_to}
 use Rattle.rows.proofs.survey.Given as goal
 
-abbrev pub invariant-loop-i : goal.invariant-loop-i
-invariant-loop-i l = (l.i ≤ length l.row) × (l.s ≡ seen_to l.i l.name l.row)
-
-abbrev pub decreases-loop-i : goal.decreases-loop-i
-decreases-loop-i l = length l.row - l.i
+abbrev pub invariant-loop-c : goal.invariant-loop-c
+invariant-loop-c l = l.s ≡ seen_to l.c-index l.name l.row

@@ -3,14 +3,15 @@
 use mathlib.Core.Path.{ap, ◌∙◌}
 use Rattle.share.specs.declared.Totals.{Totals}
 use Rattle.share.specs.Share.{added_with}
+use Rattle.share.proofs.Numbers.{plus_is}
 use Rattle.share.proofs.Joined.{call_past, call_in}
 use Rattle.share.proofs.join.Goals as goal
 
-pub returns-then-plus_of-gt-MOST_TRACES : goal.returns-then-plus_of-gt-MOST_TRACES
-returns-then-plus_of-gt-MOST_TRACES c = c.added_with.ensures ∙ call_past _ _ _ c.plus_of.ensures c.if-plus_of-gt-MOST_TRACES.true
+pub returns-then-saturating_add-gt-MOST_TRACES : goal.returns-then-saturating_add-gt-MOST_TRACES
+returns-then-saturating_add-gt-MOST_TRACES c =
+    call_past _ _ _ (c.saturating_add.ensures ∙ plus_is _ _) c.if-saturating_add-gt-MOST_TRACES.true
 
-pub returns-else-plus_of-gt-MOST_TRACES : goal.returns-else-plus_of-gt-MOST_TRACES
-returns-else-plus_of-gt-MOST_TRACES c =
-    c.added_with-else-plus_of-gt-MOST_TRACES.ensures
-    ∙ ap (λ (y : Totals). added_with y 0) c.put_together.ensures
-    ∙ call_in _ _ _ c.plus_of.ensures c.if-plus_of-gt-MOST_TRACES.false
+pub returns : goal.returns
+returns c =
+    let within = call_in _ _ _ (c.saturating_add.ensures ∙ plus_is _ _) c.if-saturating_add-gt-MOST_TRACES.false in
+    (within.0, ap (λ (y : Totals). added_with y 0) c.put_together.ensures ∙ within.1)

@@ -1,6 +1,6 @@
 -- `text::put_lines` meets its contract: after i turns the lines of i answers stand after the head's line.
 -- Assumes nothing.
-use Prim.Native.Nat.{◌-◌, ◌*◌, ◌+◌}
+use Prim.Native.Nat.{◌*◌, ◌+◌}
 use mathlib.Core.Path.{◌≡◌, refl, sym, ap, ◌∙◌}
 use native.Mathlib.Omega.{arith}
 use lib.ListN.{drop}

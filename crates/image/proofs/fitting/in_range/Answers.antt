@@ -8,8 +8,8 @@ pub returns : goal.returns
 unfolding image_in_range rows_fit_too
 returns c =
     simp (
-      c.port_1_fits.ensures,
-      c.port_0_fits.ensures,
+      c.port_fits-2.ensures One,
+      c.port_fits.ensures Zero,
       c.fits.ensures,
       c.shared_fit.ensures,
       c.counts_fit.ensures,

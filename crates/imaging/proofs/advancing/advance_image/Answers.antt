@@ -1,20 +1,40 @@
 -- `imaging::advancing::advance_image` meets its contract.
 -- Assumes nothing.
-use mathlib.Core.Path.{sym, ap, ◌∙◌}
-use borrow.Author.Tests.{eq-eqb, ne_eqb}
-use Rattle.imaging.specs.Advancing.{told_with, image_told, image_advanced}
+use Prim.Native.Nat.{ℕ, ◌<◌, ◌≤◌}
+use mathlib.Core.Path.{◌≡◌, sym, ap, ◌∙◌}
+use native.Mathlib.Omega.{arith}
+use Rattle.layout.specs.Layout.{image_of, device_in}
+use Rattle.layout.proofs.Back.{laid_out_back}
+use Rattle.layout.proofs.Once.{is_good}
+use Rattle.quiet.specs.Quiet.{ticks}
+use Rattle.advance.specs.Advance.{Advanced}
+use Rattle.advance.specs.Advance.{changing, most_ticks}
+use Rattle.imaging.specs.Advancing.{told_by, told_of, told_with}
+use Rattle.imaging.proofs.OnImages.{in_few, past_few, told_good, left_good}
 use Rattle.imaging.proofs.advancing.advance_image.Goals as goal
 
-pub returns-then-number-eq0 : goal.returns-then-number-eq0
-unfolding image_told image_advanced
-returns-then-number-eq0 c =
-    let good = eq-eqb _ _ (sym c.image_number-number.ensures ∙ c.if-number-eq0.true) in
-    let done = c.advance_good.ensures in
-    (simp good done.0, simp good done.1)
+pub returns-in_default : goal.returns-in_default
+unfolding told_by
+returns-in_default c =
+    let b = c.args.image.now in
+    let good = is_good b c.in_ok-check_image.ensures in
+    let most = c.in_default.ensures in
+    let past : most_ticks < c.args.ticks = omega (arith, most) in
+    let e = past_few c.args.ticks (device_in b) past in (
+      ap told_of (sym e) ∙ sym (told_good b c.args.ticks good),
+      sym (laid_out_back b good) ∙ ap (λ (a : Advanced). image_of a.device) (sym e) ∙ sym (left_good b c.args.ticks good),
+    )
 
-pub returns-else-number-eq0 : goal.returns-else-number-eq0
-unfolding image_told image_advanced
-returns-else-number-eq0 c =
-    let number = c.image_number-number.ensures in
-    let bad = ne_eqb _ _ (λ e. c.if-number-eq0.false (number ∙ e)) in
-    (simp bad (c.told_with.ensures ∙ ap (λ n. told_with n 0) number), simp bad)
+pub returns : goal.returns
+unfolding told_by
+returns c =
+    let b = c.args.image.now in
+    let d = device_in b in
+    let good = is_good b c.in_ok-check_image.ensures in
+    let n = c.in-Ok.ensures in
+    let few : c.args.ticks ≤ most_ticks = omega (arith, n.0) in
+    let e = in_few c.args.ticks d few in
+    let done = c.leap.ensures in (
+      ap (told_with 0) (done.0 ∙ ap (λ (k : ℕ). changing k d) n.1) ∙ ap told_of (sym e) ∙ sym (told_good b c.args.ticks good),
+      done.1 ∙ ap (λ (k : ℕ). image_of (ticks k d)) n.1 ∙ ap (λ (a : Advanced). image_of a.device) (sym e) ∙ sym (left_good b c.args.ticks good),
+    )

@@ -14,6 +14,6 @@ unfolding changes
 returns c =
     let first = slice_eq-Decides Decides-eqb _ _ _ c.eq-first.ensures in
     let rest = slice_eq-Decides Decides-eqb _ _ _ c.eq-rest.ensures in
-    let shown = c.shows_alike.ensures ∙ ap₂ (λ (d e : Device). same_shown d.bus e.bus) c.read_image.ensures
+    let shown = c.same_shown-shown.ensures ∙ ap₂ (λ (d e : Device). same_shown d.bus e.bus) c.read_image.ensures
     c.read_image-2.ensures in
     ap₂ (λ (x y : Bool). not (x && y)) (alike _ _ _ _ c.requires.0 c.requires.1 first rest) shown

@@ -3,12 +3,14 @@
 use Prim.Native.Nat.{ℕ, ◌+◌, ◌-◌, ◌≤◌}
 use mathlib.Core.Path.{◌≡◌, ap, ◌∙◌}
 use native.Mathlib.Omega.{arith}
+use Rattle.arbiter.specs.Words.{worth}
 use Rattle.layout.specs.Layout.{image_of, device_in}
 use Rattle.layout.proofs.Fits.{image_fits, image_good}
+use Rattle.layout.proofs.Flags.{one}
 use Rattle.quiet.specs.Quiet.{quiet_ticks, ticks}
 use Rattle.quiet.proofs.Counts.{least_first, least_second}
 use Rattle.advance.specs.Advance.{changing}
-use Rattle.imaging.proofs.OnImages.{changing_few}
+use Rattle.imaging.proofs.OnImages.{one_at_most, changing_few}
 use Rattle.imaging.proofs.Leaps.{at_start, so_far_image, ticked, leapt}
 use Rattle.imaging.proofs.advancing.leap.Goals as goal
 
@@ -17,8 +19,8 @@ loop-left-init c =
     let none = at_start c.args.image.now c.args.n c.requires in
     (omega arith, none.0, none.1)
 
-pub tick_on-one-requires : goal.tick_on-one-requires
-tick_on-one-requires c =
+pub tick_on-requires : goal.tick_on-requires
+tick_on-requires c =
     let here = c.loop-left in
     let good = so_far_image (device_in c.args.image.now) (c.args.n - here.left) here.image (image_fits _ c.requires) here.invariant.1 in
     (good, (image_good _ good).0)
@@ -27,7 +29,8 @@ pub overflow_add-reported : goal.overflow_add-reported
 overflow_add-reported c =
     let here = c.loop-left in
     let few = changing_few (c.args.n - here.left) (device_in c.args.image.now) in
-    omega (arith, few, here.invariant.2, c.tick_on-one.ensures.1)
+    let told = c.from-one.ensures ∙ one _ in
+    omega (arith, few, here.invariant.2, told, one_at_most c.tick_on.result)
 
 pub overflow_sub-left : goal.overflow_sub-left
 overflow_sub-left c = omega arith
@@ -38,10 +41,11 @@ loop-left-smaller-then-j-eq0 c = omega arith
 pub loop-left-preserved-then-j-eq0 : goal.loop-left-preserved-then-j-eq0
 loop-left-preserved-then-j-eq0 c =
     let here = c.loop-left in
-    let done = c.tick_on-one.ensures in
+    let done = c.tick_on.ensures in
+    let told = c.from-one.ensures ∙ one _ ∙ ap (worth 1) done.0 in
     let d = device_in c.args.image.now in
     let n = c.args.n in
-    let next = ticked d (n - here.left) here.image _ here.reported _ (image_fits _ c.requires) here.invariant.1 here.invariant.2 done.0 done.2 in
+    let next = ticked d (n - here.left) here.image _ here.reported _ (image_fits _ c.requires) here.invariant.1 here.invariant.2 told done.1 in
     let more : n - here.left + 1 ≡ n - (here.left - 1) = omega arith in
     (omega arith, next.0 ∙ ap (λ (k : ℕ). image_of (ticks k d)) more, next.1 ∙ ap (λ (k : ℕ). changing k d) more)
 

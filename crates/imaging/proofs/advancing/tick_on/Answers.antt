@@ -4,7 +4,6 @@ use Prim.Native.Nat.{ℕ}
 use mathlib.Core.Path.{◌≡◌, sym, ap, ap₂, subst, ◌∙◌}
 use mathlib.Core.Bool.{true}
 use mathlib.Core.List.{List}
-use Rattle.arbiter.specs.Words.{worth}
 use Rattle.layout.specs.Layout.{device_in}
 use Rattle.layout.specs.Images.{is_image}
 use Rattle.layout.proofs.Fits.{image_good}
@@ -27,4 +26,4 @@ returns c =
     let was = c.copy_from_slice.ensures.after in
     let left = c.step_any.ensures.1 ∙ tick_leaves _ good in
     let told = c.is_changed_in.ensures ∙ ap₂ changes (ap device_in was) (ap device_in left ∙ tick_back _ good) in
-    (c.one_if_u32.ensures.0 ∙ ap (worth 1) told, c.one_if_u32.ensures.1, left)
+    (told, left)

@@ -16,6 +16,6 @@ pub returns : goal.returns
 returns c =
     let start = c.args in
     let row = start.row.now in
-    let done = c.fresh_image.ensures.1 ∙ ap (λ (l : List ℕ). fresh_after start.kind l) (part_is start.i row) in
+    let done = c.fresh_image-fresh.ensures.1 ∙ ap (λ (l : List ℕ). fresh_after start.kind l) (part_is start.i row) in
     ap (λ (l : List ℕ). put_mid (image_place start.i) (image_place start.i + image_length - image_place start.i) row l) done
     ∙ ap (λ (n : ℕ). put_mid (image_place start.i) n row (fresh_after start.kind (image_in (drop (record_bytes * start.i) row)))) (part_size start.i)

@@ -1,6 +1,6 @@
--- `rowimage::slots::put_slots` meets its contract: after i turns the records of the first i slots stand before the untouched rest.
+-- `rowimage::slots::put_slots` meets its contract: at each place the records of the slots before it stand before the untouched rest.
 -- Assumes nothing.
-use Prim.Native.Nat.{◌*◌, ◌≤◌, ◌-◌}
+use Prim.Native.Nat.{◌*◌}
 use mathlib.Core.Path.{◌≡◌}
 use mathlib.Core.List.{◌++◌}
 use lib.ListN.{length, drop}
@@ -11,7 +11,4 @@ use Rattle.rowimage.proofs.slots.put_slots.Given as goal
 
 abbrev pub invariant-loop-i : goal.invariant-loop-i
 invariant-loop-i l =
-    (l.i ≤ l.n) × (length l.row ≡ length l.initial.row) × (l.row ≡ bytes_of_row (fresh_row (slots_to l.i l.slots)) ++ drop (record_bytes * l.i) l.initial.row)
-
-abbrev pub decreases-loop-i : goal.decreases-loop-i
-decreases-loop-i l = l.n - l.i
+    (length l.row ≡ length l.initial.row) × (l.row ≡ bytes_of_row (fresh_row (slots_to l.i l.slots)) ++ drop (record_bytes * l.i) l.initial.row)

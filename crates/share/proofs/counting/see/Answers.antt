@@ -8,11 +8,7 @@ unfolding seen_of
 returns c =
     simp (
       c.closed_for-2.ensures,
-      c.switch_of-2.ensures,
       c.closed_for.ensures,
-      c.switch_of.ensures,
       c.owns_turn-owns1.ensures,
-      c.turn_of-2.ensures,
       c.owns_turn-owns0.ensures,
-      c.turn_of.ensures,
     )

@@ -6,7 +6,7 @@ use Rattle.share.proofs.lent.join_lent.Goals as goal
 pub returns-then-totals-other : goal.returns-then-totals-other
 returns-then-totals-other c =
     let start = c.args in
-    join_taken start.totals.now start.other.now _ _ _ _ c.if-totals-other.true c.totals_in.ensures c.totals_in-then-totals-other.ensures c.join-both.ensures
+    join_taken start.totals.now start.other.now _ _ _ _ _ c.if-totals-other.true c.totals_in-both.ensures c.totals_in.ensures c.join-joined.ensures
     c.put_totals.ensures
 
 pub returns : goal.returns

@@ -509,7 +509,7 @@ overflow_add-last c =
     let at = c.loop-i in
     let given = c.args in
     let ahead = c.counts_left-k in
-    let few = c.least_usize in
+    let few = c.min in
     let within = c.loop-i-test.true in
     let least = least_both ahead.result (given.n - at.i) few.result few.ensures in
     omega (arith, least.1, within, c.ranges.n)
@@ -519,7 +519,7 @@ play_ticks-j-requires c =
     let at = c.loop-i in
     let given = c.args in
     let ahead = c.counts_left-k in
-    let few = c.least_usize in
+    let few = c.min in
     let within = c.loop-i-test.true in
     let least = least_both ahead.result (given.n - at.i) few.result few.ensures in
     let some : 1 ≤ given.n - at.i = omega (arith, within) in (
@@ -536,7 +536,7 @@ overflow_cast-j c =
     let at = c.loop-i in
     let given = c.args in
     let ahead = c.counts_left-k in
-    let few = c.least_usize in
+    let few = c.min in
     let within = c.loop-i-test.true in
     let least = least_both ahead.result (given.n - at.i) few.result few.ensures in
     omega (arith, c.play_ticks-j.ensures.1, least.0, ahead.type_inv)
@@ -554,7 +554,7 @@ loop-i-preserved-else-k-eq0 c =
     let tick = sym c.is_tick.ensures ∙ c.if-is_tick.true in
     let whole = c.device_of-d in
     let ahead = c.counts_left-k in
-    let few = c.least_usize in
+    let few = c.min in
     let played = c.play_ticks-j in
     let moved = c.after_ticks-e in (
       two,

@@ -1,6 +1,6 @@
 -- `traces::playing::step_each` meets its contract: the loop holds the device after i events, and their answers stand before the untouched rest.
 -- Assumes nothing.
-use Prim.Native.Nat.{◌<◌, ◌-◌}
+use Prim.Native.Nat.{◌<◌}
 use mathlib.Core.Path.{refl, ap, ◌∙◌}
 use native.Mathlib.Omega.{arith}
 use Rattle.arbiter.specs.Steps.{step, run_from, answers_from}

@@ -11,35 +11,35 @@ returns-then-t-lt1 c = numbered _ _ _ (simp (lt-ltb _ _ c.if-t-lt1.true))
 
 pub returns-then-t-lt-PIN_BYTES : goal.returns-then-t-lt-PIN_BYTES
 unfolding read_trace read_strapped
-returns-then-t-lt-PIN_BYTES c = numbered _ _ _ (simp (lt-ltb _ _ c.if-t-lt-PIN_BYTES.true, eq-eqb _ _ c.if-t-eq-PIN_COUNT.true, le-ltb _ _ c.if-t-lt1.false))
+returns-then-t-lt-PIN_BYTES c = numbered _ _ _ (simp (lt-ltb _ _ c.if-t-lt-PIN_BYTES.true, eq-eqb _ _ c.if-t-ne-PIN_COUNT.false, le-ltb _ _ c.if-t-lt1.false))
 
-pub returns-in-Address : goal.returns-in-Address
+pub returns-in-Some : goal.returns-in-Some
 unfolding read_trace read_strapped
-returns-in-Address c =
+returns-in-Some c =
     numbered _ _ _
     (simp (
       c.read_counted.ensures,
-      c.in-Address.is,
-      ← c.address_of-strapped.ensures.value,
+      c.in-Some.is,
+      ← c.address_of.ensures.value,
       ← c.pins_in.ensures,
       le-ltb _ _ c.if-t-lt-PIN_BYTES.false,
-      eq-eqb _ _ c.if-t-eq-PIN_COUNT.true,
+      eq-eqb _ _ c.if-t-ne-PIN_COUNT.false,
       le-ltb _ _ c.if-t-lt1.false,
     ))
 
-pub returns-in-Unlisted : goal.returns-in-Unlisted
+pub returns-in-None : goal.returns-in-None
 unfolding read_trace read_strapped
-returns-in-Unlisted c =
+returns-in-None c =
     numbered _ _ _
     (simp (
-      c.in-Unlisted.is,
-      ← c.address_of-strapped.ensures.value,
+      c.in-None.is,
+      ← c.address_of.ensures.value,
       ← c.pins_in.ensures,
       le-ltb _ _ c.if-t-lt-PIN_BYTES.false,
-      eq-eqb _ _ c.if-t-eq-PIN_COUNT.true,
+      eq-eqb _ _ c.if-t-ne-PIN_COUNT.false,
       le-ltb _ _ c.if-t-lt1.false,
     ))
 
-pub returns-else-t-eq-PIN_COUNT : goal.returns-else-t-eq-PIN_COUNT
+pub returns-then-t-ne-PIN_COUNT : goal.returns-then-t-ne-PIN_COUNT
 unfolding read_trace read_strapped
-returns-else-t-eq-PIN_COUNT c = numbered _ _ _ (simp (ne_eqb _ _ c.if-t-eq-PIN_COUNT.false, le-ltb _ _ c.if-t-lt1.false))
+returns-then-t-ne-PIN_COUNT c = numbered _ _ _ (simp (ne_eqb _ _ c.if-t-ne-PIN_COUNT.true, le-ltb _ _ c.if-t-lt1.false))

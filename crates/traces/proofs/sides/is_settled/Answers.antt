@@ -8,10 +8,7 @@ unfolding is_quiet
 returns c =
     simp (
       c.no_loss.ensures,
-      c.turn_of-3.ensures,
       c.no_cut.ensures,
-      c.turn_of-2.ensures,
       c.is_calm.ensures,
-      c.turn_of.ensures,
       c.is_still.ensures,
     )

@@ -1,6 +1,6 @@
 -- `traces::ticks::play_ticks` meets its contract: the events after event i that were passed are TICKs, and as many places have the answer.
 -- Assumes nothing.
-use Prim.Native.Nat.{◌+◌, ◌-◌}
+use Prim.Native.Nat.{◌+◌}
 use mathlib.Core.Path.{refl, sym, ◌∙◌}
 use native.Mathlib.Omega.{arith}
 use Rattle.traces.proofs.Batch.{passed_none, passed_more, passed_all}

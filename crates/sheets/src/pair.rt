@@ -1,0 +1,105 @@
+// A board sheet and a house sheet that have passed every test, side by side, and what both say of a box.
+ghost use Rattle.std.specs.Prelude.{◌+◌, ◌≤◌, ◌<◌, ◌≡◌, length, IfOk, IfErr, Ok, Err};
+ghost use Rattle.sheets.specs.Sheets.{ticked, value_on, counts_right, box_right, flag_right, boxes_right, check_sheet, check_pair};
+
+use crate::Fault;
+
+// The bytes of a sheet, with room for its boxes.
+#[derive(Clone, Copy)]
+pub(crate) struct Sheet<'a> {
+    pub bytes: &'a [u8],
+    ghost long: { 15 ≤ length bytes.now },
+}
+
+impl Sheet<'_> {
+    pub(crate) fn is_ticked(self, at: usize) -> bool
+        requires { at < 15 }
+        ensures { result ≡ ticked at self.entry.bytes.now }
+    {
+        self.bytes[at] == 1
+    }
+
+    pub(crate) fn value(self, at: usize) -> u8
+        requires { at + 2 ≤ 15 }
+        ensures { result ≡ value_on at self.entry.bytes.now }
+    {
+        self.bytes[at + 1]
+    }
+
+    #[tactic(auto, unfolding(crate::specs::Sheets::counts_right))]
+    fn has_right_counts(self) -> bool
+        ensures { result ≡ counts_right self.entry.bytes.now }
+    {
+        (self.bytes[0] == 2) & (self.bytes[5] == 2) & (self.bytes[10] == 2)
+    }
+
+    // A reserve's box.
+    #[tactic(auto, unfolding(crate::specs::Sheets::box_right))]
+    fn has_right_box(self, at: usize) -> bool
+        requires { at + 2 ≤ 15 }
+        ensures { result ≡ box_right at self.entry.bytes.now }
+    {
+        let value = self.value(at);
+        (self.bytes[at] < 2) & (self.is_ticked(at) | (value == 0))
+    }
+
+    // A priority's or an idle setting's box.
+    #[tactic(auto, unfolding(crate::specs::Sheets::flag_right))]
+    fn has_right_flag(self, at: usize) -> bool
+        requires { at + 2 ≤ 15 }
+        ensures { result ≡ flag_right at self.entry.bytes.now }
+    {
+        self.has_right_box(at) & (self.value(at) < 2)
+    }
+
+    #[tactic(auto, unfolding(crate::specs::Sheets::boxes_right))]
+    fn has_right_boxes(self) -> bool
+        ensures { result ≡ boxes_right self.entry.bytes.now }
+    {
+        self.has_right_box(1)
+            & self.has_right_box(3)
+            & self.has_right_flag(6)
+            & self.has_right_flag(8)
+            & self.has_right_flag(11)
+            & self.has_right_flag(13)
+    }
+}
+
+#[tactic(auto, unfolding(crate::specs::Sheets::check_sheet))]
+fn sheet_of<'a>(bytes: &'a [u8]) -> Result<Sheet<'a>, Fault>
+    ensures value { IfOk result (λ s. (check_sheet bytes.now ≡ Ok tt) × (s.bytes.now ≡ bytes.now)) }
+    ensures refused { IfErr result (λ f. check_sheet bytes.now ≡ Err f) }
+{
+    if bytes.len() < 15 {
+        return Err(Fault::TooShort);
+    }
+    let sheet = Sheet { bytes };
+    if !sheet.has_right_counts() {
+        return Err(Fault::WrongCount);
+    }
+    if !sheet.has_right_boxes() {
+        return Err(Fault::BadBox);
+    }
+    if 15 < bytes.len() {
+        return Err(Fault::BytesAfterEnd);
+    }
+    Ok(sheet)
+}
+
+// Both sheets, once they are known to be sound.
+#[derive(Clone, Copy)]
+pub(crate) struct Pair<'a> {
+    pub board: Sheet<'a>,
+    pub house: Sheet<'a>,
+}
+
+// The board sheet first, then the house sheet.
+#[tactic(auto, unfolding(crate::specs::Sheets::check_pair))]
+pub(crate) fn pair_of<'a>(board: &'a [u8], house: &'a [u8]) -> Result<Pair<'a>, Fault>
+    ensures value { IfOk result (λ p. (check_pair board.now house.now ≡ Ok tt) × (p.board.bytes.now ≡ board.now) × (p.house.bytes.now ≡ house.now)) }
+    ensures refused { IfErr result (λ f. check_pair board.now house.now ≡ Err f) }
+{
+    let board = sheet_of(board)?;
+    let house = sheet_of(house)?;
+    Ok(Pair { board, house })
+}
