@@ -263,12 +263,18 @@ def main():
     parser.add_argument("--root", default=HERE)
     parser.add_argument("words", nargs="*")
     args = parser.parse_args()
+    paths = sorted(glob.glob(f"{args.root}/crates/*/src/**/*.rt", recursive=True))
+    if not paths:
+        parser.error(f"{args.root} has no crates/*/src, so nothing was counted")
+    known = {*POINTS, *(point[0] for point in POINTS), *os.listdir(f"{args.root}/crates")}
+    if unknown := [word for word in args.words if word not in known]:
+        parser.error(f"no point and no crate is called {', '.join(unknown)}")
     places, functions = collections.defaultdict(list), []
 
     def add(point, file, line, what):
         places[point].append((file, line, what))
 
-    for path in sorted(glob.glob(f"{args.root}/crates/*/src/**/*.rt", recursive=True)):
+    for path in paths:
         file, raw = os.path.relpath(path, args.root), COMMENT.sub(lambda m: " " * len(m.group()), open(path, encoding="utf-8").read())
         text = LITERAL.sub(lambda m: "0" * len(m.group()), raw)
         count_types(file, text, add)
