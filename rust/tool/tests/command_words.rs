@@ -214,7 +214,8 @@ fn the_mode_is_kept() {
 fn shut_folder() -> Folder {
     use std::os::unix::fs::PermissionsExt;
     let folder = Folder::new("shut");
-    fs::copy(TOOL, folder.path("tool")).unwrap();
+    // Copied by a program of its own: a file that this process has open for writing cannot be run while another test starts a program, which has it too.
+    assert!(Command::new("cp").arg(TOOL).arg(folder.path("tool")).status().unwrap().success());
     fs::copy(root().join("traces/m1.trace"), folder.path("m1.trace")).unwrap();
     fs::create_dir(folder.path("shut")).unwrap();
     let long = "old and longer than what comes, ".repeat(9);
