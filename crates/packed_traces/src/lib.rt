@@ -19,14 +19,14 @@ use writer::write_trace;
 pub fn run_packed(t: &[u8], out: &mut [u8]) -> u64
     ensures { (result ≡ packed_report (report t.now out.old)) × (out.new ≡ buffer_after t.now out.old) }
 {
-    match answer_trace(t, out) {
-        Ok(head) => {
-            256 * long_of(head.address)
-                + 65536 * (head.events as u64)
-                + 4294967296 * long_of(kind_number(head.kind))
-        }
-        Err(why) => long_of(refusal_number(why)),
-    }
+    let (number, head) = match answer_trace(t, out) {
+        Ok(head) => (0, head),
+        Err(refused) => (refusal_number(refused.refusal), refused.told),
+    };
+    long_of(number)
+        + 256 * long_of(head.address)
+        + 65536 * (head.events as u64)
+        + 4294967296 * long_of(kind_number(head.kind))
 }
 
 // The length of what was written, above the number; or the number of its refusal alone.

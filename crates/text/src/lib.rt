@@ -142,7 +142,7 @@ fn list_by(t: &[u8], answers: &mut [u8], text: &mut [u8]) -> usize
 {
     match answer_trace(t, answers) {
         Ok(head) => list_accepted(head.address, head.events, answers, text),
-        Err(why) => list_refused(refusal_number(why), text),
+        Err(refused) => list_refused(refusal_number(refused.refusal), text),
     }
 }
 

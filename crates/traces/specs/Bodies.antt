@@ -14,6 +14,8 @@ use Rattle.arbiter.specs.Types.{Report}
 use Rattle.traces.specs.declared.Head.{Head as Found}
 use Rattle.traces.specs.declared.Run.{Run}
 use Rattle.traces.specs.declared.Traced.{Traced}
+use Rattle.traces.specs.declared.Unanswered.{Unanswered}
+use Rattle.traces.specs.declared.Untraced.{Untraced}
 
 unfoldable pub kind_read : ℕ → ℕ → ℕ → ℕ → ℕ → Result Accepted Refusal
 kind_read address n len kind room =
@@ -45,10 +47,14 @@ ran_of d (Err why) = ran_with (refusal_number why) 0 d
 abbrev pub report_with : ℕ → ℕ → ℕ → Device → Report
 report_with number address events d = record { number = number; address = address; events = events; device = d }
 
--- what a run of a trace tells as `report` tells it: of a refused one no events, and a fresh device of kind 0
-abbrev pub report_of_run : Result Traced Refusal → Report
+-- a refusal and what is told with it: address 0, no events, and a fresh device of kind 0
+abbrev pub untraced : Refusal → Untraced
+untraced why = record { refusal = why; told = record { address = 0; events = 0; device = power_up Pca9641 } }
+
+-- what a run of a trace tells as `report` tells it: each part, of a refused one too, read out of what was handed back
+abbrev pub report_of_run : Result Traced Untraced → Report
 report_of_run (Ok r) = report_with 0 r.address r.events r.device
-report_of_run (Err why) = report_with (refusal_number why) 0 0 (power_up Pca9641)
+report_of_run (Err u) = report_with (refusal_number u.refusal) u.told.address u.told.events u.told.device
 
 -- a report with the kind of its device alone, by its number
 pub record Head : Type 0 where
@@ -60,6 +66,13 @@ pub record Head : Type 0 where
 abbrev pub head_of : Report → Head
 head_of r = record { number = r.number; address = r.address; events = r.events; kind = kind_number r.device.kind }
 
-abbrev pub head_of_run : Result Found Refusal → Head
+-- what is told of a refused trace, without its device
+abbrev pub unanswered : Untraced → Unanswered
+unanswered u = record {
+  refusal = u.refusal;
+  told = record { address = u.told.address; events = u.told.events; kind = u.told.device.kind };
+}
+
+abbrev pub head_of_run : Result Found Unanswered → Head
 head_of_run (Ok h) = record { number = 0; address = h.address; events = h.events; kind = kind_number h.kind }
-head_of_run (Err why) = record { number = refusal_number why; address = 0; events = 0; kind = kind_number Pca9641 }
+head_of_run (Err u) = record { number = refusal_number u.refusal; address = u.told.address; events = u.told.events; kind = kind_number u.told.kind }

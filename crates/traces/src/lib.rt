@@ -11,7 +11,7 @@ mod turns;
 ghost use Rattle.std.specs.Prelude.{◌≡◌};
 ghost use Rattle.arbiter.specs.Traces.{report, buffer_after, ran, buffer_ran};
 ghost use Rattle.light.specs.Light.{Settled};
-ghost use Rattle.traces.specs.Bodies.{with_room, ran_of, report_of_run, head_of, head_of_run};
+ghost use Rattle.traces.specs.Bodies.{with_room, ran_of, untraced, report_of_run, head_of, unanswered, head_of_run};
 
 use arbiter::{Device, Kind, Refusal};
 use format::{EVENT_BYTES, events_in};
@@ -35,12 +35,57 @@ pub struct Traced {
     pub device: Device,
 }
 
-// The same with the kind of the device alone.
+// Why a trace is refused, and what is told of it all the same.
+#[derive(Clone, Copy, PartialEq, Eq)]
+pub struct Untraced {
+    pub refusal: Refusal,
+    pub told: Traced,
+}
+
+// Nothing was run: address 0, no events, and a fresh device of kind 0.
+impl From<Refusal> for Untraced {
+    ghost from_gives = { λ why u. u ≡ untraced why };
+
+    fn from(why: Refusal) -> Untraced {
+        Untraced {
+            refusal: why,
+            told: Traced {
+                address: 0,
+                events: 0,
+                device: fresh(Kind::Pca9641),
+            },
+        }
+    }
+}
+
+// What a run of a trace tells, with the kind of the device alone.
 #[derive(Clone, Copy, PartialEq, Eq)]
 pub struct Head {
     pub address: u8,
     pub events: usize,
     pub kind: Kind,
+}
+
+// Why a trace is refused, and what is told of it all the same, with the kind of the device alone.
+#[derive(Clone, Copy, PartialEq, Eq)]
+pub struct Unanswered {
+    pub refusal: Refusal,
+    pub told: Head,
+}
+
+impl From<Untraced> for Unanswered {
+    ghost from_gives = { λ refused a. a ≡ unanswered refused };
+
+    fn from(refused: Untraced) -> Unanswered {
+        Unanswered {
+            refusal: refused.refusal,
+            told: Head {
+                address: refused.told.address,
+                events: refused.told.events,
+                kind: refused.told.device.kind,
+            },
+        }
+    }
 }
 
 // How many events these bytes are, where they are in fours and the answers have room.
@@ -83,9 +128,10 @@ pub fn run_settled(d: Device, events: &[u8], answers: &mut [u8]) -> Result<Run, 
     Ok(Run { events: n, device })
 }
 
-// A whole trace: what is told of it, and each answer in the lent buffer. A refused trace leaves the buffer as it was.
+// A whole trace: what is told of it, and each answer in the lent buffer. A refused trace leaves the buffer as it was, and tells its refusal, no
+// events and a fresh device of kind 0.
 #[tactic(auto, using(crate::proofs::Accepted::refused_report, crate::proofs::Accepted::refused_buffer))]
-pub fn run_trace(t: &[u8], out: &mut [u8]) -> Result<Traced, Refusal>
+pub fn run_trace(t: &[u8], out: &mut [u8]) -> Result<Traced, Untraced>
     ensures { (report_of_run result ≡ report t.now out.old) × (out.new ≡ buffer_after t.now out.old) }
 {
     let read = read_trace(t, out.len())?;
@@ -98,7 +144,7 @@ pub fn run_trace(t: &[u8], out: &mut [u8]) -> Result<Traced, Refusal>
 }
 
 // The same without the device, for callers that want the answers alone: the step is faster where nobody asks for the last state.
-pub fn answer_trace(t: &[u8], out: &mut [u8]) -> Result<Head, Refusal>
+pub fn answer_trace(t: &[u8], out: &mut [u8]) -> Result<Head, Unanswered>
     ensures { (head_of_run result ≡ head_of (report t.now out.old)) × (out.new ≡ buffer_after t.now out.old) }
 {
     let run = run_trace(t, out)?;

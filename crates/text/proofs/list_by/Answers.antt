@@ -23,7 +23,7 @@ pub list_refused-requires : goal.list_refused-requires
 list_refused-requires c =
     let start = c.args in
     let head = sym (ap head_of_run c.in-Err.is) ∙ c.answer_trace.ensures.0 in
-    rw c.refusal_number.ensures (told-refused start.t.now start.answers.now c.requires _ head (no_refusal c.in-Err.why)).1
+    rw c.refusal_number.ensures (told-refused start.t.now start.answers.now c.requires _ head (no_refusal c.in-Err.refused.refusal)).1
 
 pub returns-in-Ok : goal.returns-in-Ok
 returns-in-Ok c =
@@ -38,6 +38,6 @@ pub returns-in-Err : goal.returns-in-Err
 returns-in-Err c =
     let start = c.args in
     let head = sym (ap head_of_run c.in-Err.is) ∙ c.answer_trace.ensures.0 in
-    let same = (told-refused start.t.now start.answers.now c.requires _ head (no_refusal c.in-Err.why)).0 in
+    let same = (told-refused start.t.now start.answers.now c.requires _ head (no_refusal c.in-Err.refused.refusal)).0 in
     let listed = rw c.refusal_number.ensures at c.list_refused.ensures in
     (listed.0 ∙ ap length same, listed.1 ∙ ap (λ (w : List ℕ). fitted w start.text.now) same)
