@@ -1,6 +1,6 @@
 -- Request #113: "Add an advance by up to 65,535 ticks, equal in its end state to as many TICK events."
 -- Assumes nothing.
-use Rattle.std.specs.Prelude.{ℕ, zero, suc, ◌+◌, ◌-◌, ◌≤◌, List, eqb, ltb, Option, Some, None, if◌then◌else◌}
+use Rattle.std.specs.Prelude.{ℕ, zero, suc, ◌+◌, ◌-◌, ◌≤◌, List, eqb, ltb, Result, Ok, Err, if◌then◌else◌}
 use Rattle.arbiter.specs.Words.{worth}
 use Rattle.arbiter.specs.Steps.{step, run}
 use Rattle.arbiter.specs.declared.Kind.{Kind}
@@ -9,6 +9,8 @@ use Rattle.arbiter.specs.declared.Raw.{Raw}
 use Rattle.quiet.specs.Counts.{least, after_ticks}
 use Rattle.quiet.specs.Quiet.{quiet_ticks, tick, ticks}
 use Rattle.advance.specs.declared.Moved.{Moved}
+use Rattle.advance.specs.declared.Refused.{Refused}
+use Rattle.advance.specs.declared.Refused.TheVariants.{TooManyTicks}
 use Rattle.advance.specs.declared.Way.{Way}
 use Rattle.advance.specs.Changes.{changes}
 
@@ -33,13 +35,17 @@ advanced_with number device reported = record { number = number; device = device
 unfoldable pub advanced : ℕ → Device → Advanced
 advanced n d = if ltb most_ticks n then advanced_with 3 d 0 else advanced_with 0 (ticks n d) (changing n d)
 
+-- the number of a refusal
+abbrev pub refused_number : Refused → ℕ
+refused_number TooManyTicks = 3
+
 -- the code's answer as it is told: what is moved has number 0, and an advance that is refused leaves the device
 abbrev pub moved_told : Moved → Advanced
 moved_told m = advanced_with 0 m.device m.reported
 
-abbrev pub told : Device → Option Moved → Advanced
-told d (Some m) = moved_told m
-told d None = advanced_with 3 d 0
+abbrev pub told : Device → Result Moved Refused → Advanced
+told d (Ok m) = moved_told m
+told d (Err r) = advanced_with (refused_number r) d 0
 
 -- ---- what is never exceeded
 

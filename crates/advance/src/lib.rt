@@ -5,7 +5,7 @@ ghost use Rattle.std.specs.Prelude.{◌+◌, ◌≤◌, ◌<◌, ◌≡◌};
 ghost use Rattle.quiet.specs.Quiet.{tick, ticks};
 ghost use Rattle.arbiter.specs.Steps.{step};
 ghost use Rattle.advance.specs.Changes.{changes};
-ghost use Rattle.advance.specs.Advance.{changing, most_ticks, advanced_with, advanced, moved_told, told, way_with, tick_on, jump_on, onward};
+ghost use Rattle.advance.specs.Advance.{changing, most_ticks, advanced_with, advanced, moved_told, refused_number, told, way_with, tick_on, jump_on, onward};
 
 use arbiter::{Device, Raw};
 use changes::is_changed;
@@ -102,14 +102,31 @@ fn leap(from: Device, n: u16) -> Moved
 
 // ---- the call
 
+// Why an advance is refused: it would go more than 65,535 ticks.
+#[derive(Clone, Copy, PartialEq, Eq)]
+pub enum Refused {
+    TooManyTicks,
+}
+
+// Document 02's number of a refusal.
+impl From<Refused> for u8 {
+    ghost from_gives = { λ r n. n ≡ refused_number r };
+
+    fn from(r: Refused) -> u8 {
+        match r {
+            Refused::TooManyTicks => 3,
+        }
+    }
+}
+
 // The device after n ticks, and how many of them changed anything but counts: the same as by n TICK events, and as fast for many as for few.
 // More than 65,535 are refused, which is number 3; the device stays.
-pub fn advance(d: Device, n: u32) -> Option<Moved>
+pub fn advance(d: Device, n: u32) -> Result<Moved, Refused>
     ensures { told d result ≡ advanced n d }
 {
     if MOST_TICKS < n {
-        None
+        Err(Refused::TooManyTicks)
     } else {
-        Some(leap(d, n as u16))
+        Ok(leap(d, n as u16))
     }
 }
