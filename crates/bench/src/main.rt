@@ -10,16 +10,21 @@ ghost use Rattle.arbiter.specs.Traces.{most_events, raws_in, event_count};
 ghost use Rattle.format.specs.Places.{events_part, event_at, kind_in};
 
 use arbiter::{Accepted, Answer, Device, Raw, Refusal};
+use arrayvec::ArrayVec;
 use format::{ANSWER_ROOM, MOST_BYTES, count_in, event_at, events_in, kind_at, kind_of};
 use lent::step_lent;
 use printing::{Hex, print_listing, read_full};
 use std::io;
+use std::io::Write;
 use step::fresh;
 use traces::reading::read_trace;
 
 const NAME: &str = "bench";
 
-// ---- printing
+// ---- printing: each line is put together and then written at once
+
+// An answer's line, the longest one: eight digits and the line end.
+const LINE_ROOM: usize = 9;
 
 fn print_head<W: io::Write>(out: &mut W, address: u8, n: usize) -> io::Result<()>
     requires { n ≤ most_events }
@@ -27,20 +32,24 @@ fn print_head<W: io::Write>(out: &mut W, address: u8, n: usize) -> io::Result<()
 {
     let high = (n / 256) as u8;
     let low = (n % 256) as u8;
-    writeln!(out, "{} {}{}", Hex(address), Hex(high), Hex(low))
+    let mut line = ArrayVec::<u8, LINE_ROOM>::new();
+    writeln!(line, "{} {}{}", Hex(address), Hex(high), Hex(low))?;
+    out.write_all(line.as_slice())
 }
 
 fn print_answer<W: io::Write>(out: &mut W, a: Answer) -> io::Result<()>
     ensures { OnOk result (Appends (W.contents out.old) (W.contents out.new) (answer_line a)) }
 {
+    let mut line = ArrayVec::<u8, LINE_ROOM>::new();
     writeln!(
-        out,
+        line,
         "{}{}{}{}",
         Hex(a.outcome),
         Hex(a.read),
         Hex(a.owner),
         Hex(a.lines)
-    )
+    )?;
+    out.write_all(line.as_slice())
 }
 
 // ---- the standing device

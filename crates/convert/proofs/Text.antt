@@ -1,7 +1,7 @@
 -- The text that is written, from what the call answers: the program's buffer has room for every converted trace, so a trace is refused by its own
 -- number alone.
 -- Assumes nothing.
-use Rattle.std.proofs.Common.{arith, ℕ, ◌≤◌, ◌<◌, ◌≡◌, refl, sym, ap, ◌∙◌, subst, List, ◌∷◌}
+use Rattle.std.proofs.Common.{arith, ℕ, ◌≤◌, ◌<◌, ◌≡◌, refl, sym, ap, ◌∙◌, subst, List, [], ◌∷◌}
 use Rattle.std.proofs.Common.{◌++◌, length, take, drop, Bool, true, false, not, eqb, ltb, None, Some}
 use Rattle.std.proofs.Common.{IfSome, Result, Ok, Err, OnOk}
 use Rattle.std.specs.declared.option.Option.{Option}
@@ -90,6 +90,12 @@ digits_of UnknownPart = refl
 
 pub line_of : (n : ℕ) (r : Refusal) → n ≡ refusal_number r → 0x52 ∷ Fmt.decimal n ++ newline ≡ refused_line (refusal_number r)
 line_of n r e = ap (λ (k : ℕ). 0x52 ∷ Fmt.decimal k ++ newline) e ∙ ap (λ (l : List ℕ). 0x52 ∷ l ++ newline) (digits_of r)
+
+-- what was put into an empty buffer is all that it holds
+pub line_in : (n : ℕ) (r : Refusal) (empty filled shown : List ℕ) → n ≡ refusal_number r → empty ≡ [] → filled ≡ empty ++ (0x52 ∷ Fmt.decimal n ++ newline)
+    → shown ≡ filled → shown ≡ refused_line (refusal_number r)
+line_in n r empty filled shown e none put same =
+    same ∙ put ∙ ap (λ (l : List ℕ). l ++ (0x52 ∷ Fmt.decimal n ++ newline)) none ∙ line_of n r e
 
 -- where the bytes of a stream are known, what was read are its first ones
 pub text_of_input : {T E : Type 0} (r : Result T E) (a : Option (List ℕ)) (bs : List ℕ) (room : ℕ) (x y : Option (List ℕ)) → room ≡ most_bytes

@@ -8,19 +8,26 @@ ghost use Rattle.arbiter.specs.Traces.{most_bytes, refusal_number};
 ghost use Rattle.convert.specs.Text.{refused_line, conversion_text};
 
 use arbiter::Refusal;
+use arrayvec::ArrayVec;
 use converter::convert_trace;
 use format::{MOST_BYTES, refusal_number};
 use printing::read_full;
 use std::io;
+use std::io::Write;
 
 const NAME: &str = "convert";
+
+// The longest line of a refusal: R, two digits and the line end.
+const LINE_ROOM: usize = 4;
 
 // R and the number of the refusal, in decimal.
 fn write_refusal<W: io::Write>(out: &mut W, refusal: Refusal) -> io::Result<()>
     ensures { OnOk result (Appends (W.contents out.old) (W.contents out.new) (refused_line (refusal_number refusal))) }
 {
     let number = refusal_number(refusal);
-    writeln!(out, "R{number}")
+    let mut line = ArrayVec::<u8, LINE_ROOM>::new();
+    writeln!(line, "R{number}")?;
+    out.write_all(line.as_slice())
 }
 
 fn write_conversion<W: io::Write>(out: &mut W, t: &[u8]) -> io::Result<()>

@@ -8,15 +8,18 @@
 
 ghost use Rattle.std.specs.Prelude.{◌++◌, OnOk};
 ghost use Rattle.std.specs.Io.KnownBytes.{Appends};
-ghost use Rattle.arbiter.specs.Listing.{hex2, space};
+ghost use Rattle.arbiter.specs.Listing.{hex2, space, newline};
+ghost use Rattle.shelf.specs.Shelf.{ShelfStepped};
 
 use arbiter::{Answer, Kind, Raw};
+use arrayvec::ArrayVec;
 use lent::step_standing;
 use printing::{Hex, read_full};
 use rows::{fresh_record, reset_all, route_event, tick_all};
 use sheets::lookup::look_up;
 use shelf::Record;
 use std::io;
+use std::io::Write;
 use step::fresh;
 
 const NAME: &str = "forms";
@@ -78,10 +81,16 @@ fn print_box<'a, W: io::Write>(
     section: u8,
     controller: u8,
 ) -> io::Result<()> {
-    write!(out, "{section:X}{controller:X} ")?;
+    // The two digits and the space go out at once.
+    let mut which = ArrayVec::<u8, 3>::new();
+    write!(which, "{section:X}{controller:X} ")?;
+    out.write_all(which.as_slice())?;
     match look_up(board, house, section, controller) {
         [first, second, ..] => writeln!(out, "{}{}", Hex(*first), Hex(*second)),
-        _ => writeln!(out, "-"),
+        _ => {
+            write!(out, "-")?;
+            out.write_all(&[b'\n'])
+        }
     }
 }
 
@@ -104,7 +113,9 @@ fn fresh_row() -> [Record; DEVICES] {
 
 // A tick and a reset have calls of their own; whatever else comes, a TICK or RESET with other fields too, is routed. (A match, since these three
 // calls are what this program is to run.)
-fn on_shelf(row: &mut [Record; DEVICES], name: u8, r: Raw) -> Answer {
+fn on_shelf(row: &mut [Record; DEVICES], name: u8, r: Raw) -> Answer
+    ensures { ShelfStepped row.old name r row.new result }
+{
     match r {
         Raw {
             kind: TICK,
@@ -124,18 +135,35 @@ fn on_shelf(row: &mut [Record; DEVICES], name: u8, r: Raw) -> Answer {
 
 // ---- the events
 
+// An event's line: its five bytes, what the shelf answers, and what the device by itself answers.
+fn print_step<W: io::Write>(
+    out: &mut W,
+    name: u8,
+    r: Raw,
+    shelf: Answer,
+    alone: Answer,
+) -> io::Result<()>
+    ensures { OnOk result (Appends (W.contents out.old) (W.contents out.new)
+        ((hex2 name ++ space ++ hex2 r.kind ++ hex2 r.x ++ hex2 r.y ++ hex2 r.z)
+        ++ (space ++ hex2 shelf.outcome ++ hex2 shelf.read ++ hex2 shelf.owner ++ hex2 shelf.lines)
+        ++ (space ++ hex2 alone.outcome ++ hex2 alone.read ++ hex2 alone.owner ++ hex2 alone.lines) ++ newline)) }
+{
+    print_event(out, name, r)?;
+    print_answer(out, shelf)?;
+    print_answer(out, alone)?;
+    writeln!(out)
+}
+
 fn run_events<W: io::Write>(out: &mut W, events: &[u8]) -> io::Result<()> {
     let mut row = fresh_row();
     let mut device = fresh(Kind::Pca9641);
     let (whole, _) = events.as_chunks::<NAMED_BYTES>();
     for &[name, kind, x, y, z] in whole {
         let r = Raw { kind, x, y, z };
-        print_event(out, name, r)?;
-        print_answer(out, on_shelf(&mut row, name, r))?;
+        let answer = on_shelf(&mut row, name, r);
         let stepped = step_standing(device, r);
         device = stepped.device;
-        print_answer(out, stepped.answer)?;
-        writeln!(out)?;
+        print_step(out, name, r, answer, stepped.answer)?;
     }
     Ok(())
 }

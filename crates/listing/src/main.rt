@@ -8,17 +8,25 @@ ghost use Rattle.std.specs.Io.KnownBytes.{Appends};
 ghost use Rattle.arbiter.specs.Listing.{listing};
 
 use arbiter::{Accepted, Refusal};
+use arrayvec::ArrayVec;
 use format::{ANSWER_ROOM, MOST_BYTES};
 use printing::{print_listing, read_full};
 use std::io;
+use std::io::Write;
 use traces::reading::read_trace;
 use why::Reason;
 
 const NAME: &str = "listing";
 
+// The longest reason on standard error, and the line end.
+const REASON_ROOM: usize = 10;
+
 fn say_if_refused<W: io::Write>(errors: &mut W, read: Result<Accepted, Refusal>) -> io::Result<()> {
     if let Err(refusal) = read {
-        writeln!(errors, "refused: {}", Reason(refusal))?;
+        write!(errors, "refused: ")?;
+        let mut reason = ArrayVec::<u8, REASON_ROOM>::new();
+        writeln!(reason, "{}", Reason(refusal))?;
+        errors.write_all(reason.as_slice())?;
     }
     Ok(())
 }

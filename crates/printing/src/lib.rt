@@ -5,8 +5,8 @@ ghost use Rattle.std.specs.Prelude.{◌≡◌, ◌≤◌, ◌<◌, length, take,
 ghost use Rattle.std.specs.Io.KnownBytes.{Appends, Consumes, IsAtEnd};
 ghost use Rattle.arbiter.specs.Listing.{hex2, listing};
 
-use std::{fmt, io};
-use text::{LISTING_ROOM, list_trace};
+use std::{fmt, io, str};
+use text::{LISTING_ROOM, high_digit, list_trace, low_digit};
 
 // A byte in two digits of capital hex.
 #[derive(Clone, Copy)]
@@ -16,8 +16,11 @@ impl fmt::Display for Hex {
     ghost output = { λ h. Some (hex2 h.0) };
 
     fn fmt<W: fmt::Write>(&self, f: &mut fmt::Formatter<W>) -> fmt::Result {
-        let v = self.0;
-        write!(f, "{v:02X}")
+        let digits = [high_digit(self.0), low_digit(self.0)];
+        match str::from_utf8(&digits) {
+            Ok(text) => f.write_str(text),
+            Err(_) => Err(fmt::Error),
+        }
     }
 }
 

@@ -7,6 +7,7 @@ ghost use Rattle.std.specs.Io.KnownBytes.{Appends};
 ghost use Rattle.report.specs.Input.{length_in};
 ghost use Rattle.report.specs.Report.{line, report_text};
 
+use arrayvec::ArrayVec;
 use printing::read_full;
 use share::{MOST_TRACES, Totals, add_trace, empty_totals};
 use std::io;
@@ -15,6 +16,9 @@ const NAME: &str = "report";
 
 // The largest length that two bytes hold.
 const MOST_BYTES: usize = 65535;
+
+// The longest text: two lines of 65 bytes, and R6 with its line end.
+const TEXT_ROOM: usize = 133;
 
 // The totals of what was read: has a trace come past the last that is taken? (A flag, since the totals are printed in either case.)
 #[derive(Clone, Copy)]
@@ -88,7 +92,7 @@ fn print_line<W: io::Write>(
     writeln!(out, "{m} {owned} {connected} {waited}")
 }
 
-fn print_report<W: io::Write>(out: &mut W, x: Totals, past: bool) -> io::Result<()>
+fn print_lines<W: io::Write>(out: &mut W, x: Totals, past: bool) -> io::Result<()>
     ensures { OnOk result (Appends (W.contents out.old) (W.contents out.new) (report_text x past)) }
 {
     print_line(out, 0, x.owned0, x.connected0, x.waited0)?;
@@ -97,6 +101,15 @@ fn print_report<W: io::Write>(out: &mut W, x: Totals, past: bool) -> io::Result<
         writeln!(out, "R6")?;
     }
     Ok(())
+}
+
+// The text goes out at once.
+fn print_report<W: io::Write>(out: &mut W, x: Totals, past: bool) -> io::Result<()>
+    ensures { OnOk result (Appends (W.contents out.old) (W.contents out.new) (report_text x past)) }
+{
+    let mut text = ArrayVec::<u8, TEXT_ROOM>::new();
+    print_lines(&mut text, x, past)?;
+    out.write_all(text.as_slice())
 }
 
 fn run<R: io::Read, W: io::Write>(from: &mut R, out: &mut W) -> io::Result<()> {

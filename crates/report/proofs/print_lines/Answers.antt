@@ -1,7 +1,7 @@
--- `report::print_report` meets its contract: a line a controller, and R6 after them past 65,535 traces (`Lines.antt`).
+-- `report::print_lines` meets its contract: a line a controller, and R6 after them past 65,535 traces (`Lines.antt`).
 -- Assumes nothing.
 use Rattle.report.proofs.Lines.{without_past, with_past}
-use Rattle.report.proofs.print_report.Goals as goal
+use Rattle.report.proofs.print_lines.Goals as goal
 
 pub returns-in_ok-writeln : goal.returns-in_ok-writeln
 returns-in_ok-writeln g c =
