@@ -93,12 +93,15 @@ pub fn put_head(out: &mut [u8], p: Pins, n: u16)
 
 // ---- bytes as they are
 
-// These bytes from a place on.
+// These bytes from a place on, one after the other: `copy_from_slice` between two lent buffers is a `memmove`, which the archive for C would then need from
+// whoever links it.
 fn copy_bytes(out: &mut [u8], at: usize, bytes: &[u8])
     requires { at + length bytes.now ≤ length out.old }
     ensures { out.new ≡ paste out.old at bytes.now (length bytes.now) }
 {
-    out[at..at + bytes.len()].copy_from_slice(bytes);
+    for i in 0..bytes.len() {
+        out[at + i] = bytes[i];
+    }
 }
 
 // The same in a buffer that has room for them.

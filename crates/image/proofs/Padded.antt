@@ -1,13 +1,16 @@
 -- A short buffer and the same with 0 after it are read as one device, and so are a long one and its first 38 bytes.
 -- Assumes nothing.
-use Prim.Native.Nat.{ℕ, zero, suc, ◌<◌}
-use mathlib.Core.Path.{◌≡◌, refl}
+use Prim.Native.Nat.{ℕ, zero, suc, ◌<◌, ◌/◌}
+use mathlib.Core.Path.{◌≡◌, refl, sym, ap, ◌∙◌}
 use mathlib.Core.List.{List, [], ◌∷◌, ◌++◌}
 use native.Mathlib.Omega.{arith}
-use lib.ListN.{length, take, drop, replicate}
-use lib.Seq.{get_or-take}
+use lib.ListN.{length, take, drop, replicate, get_or}
+use lib.Seq.{get_or-take, take-length}
+use Rattle.std.specs.Simd.{first_chunks}
 use Rattle.arbiter.specs.Traces.{byte_at}
-use Rattle.layout.specs.Layout.{side_in, bus_in, arb_in, device_in}
+use Rattle.std.specs.Prelude.{Bool, if◌then◌else◌}
+use Rattle.layout.specs.Layout.{side_in, bus_in, arb_in, device_in, image_in_range}
+use Rattle.layout.specs.Images.{image_number}
 
 -- n times 0
 abbrev pub none : ℕ → List ℕ
@@ -81,3 +84,17 @@ padded b n = same_device (b ++ drop (length b) (none n)) b (λ i p. followed b n
 -- and so off the image that a longer buffer begins with
 pub begun : (b : List ℕ) → device_in (take 38 b) ≡ device_in b
 begun b = same_device (take 38 b) b (λ i p. get_or-take 38 b i 0 p)
+
+-- a buffer of 38 bytes begins with itself
+whole : (b : List ℕ) → length b ≡ 38 → take 38 b ≡ b
+whole b e = ap (λ (n : ℕ). take n b) (sym e) ∙ take-length b
+
+-- of 38 bytes there is one chunk, and it is these bytes
+pub only_chunk : (xs : List ℕ) → length xs ≡ 38 → get_or (first_chunks 38 (length xs / 38) xs) 0 [] ≡ xs
+only_chunk xs e = ap (λ (n : ℕ). get_or (first_chunks 38 (n / 38) xs) 0 []) e ∙ whole xs e
+
+-- and the number of a buffer of that length goes by the ranges of what it begins with
+pub number_of_front : (b front : List ℕ) (good : Bool) → length b ≡ 38 → front ≡ take 38 b → good ≡ image_in_range front
+    → (if good then 0 else 16) ≡ image_number b
+unfolding image_number
+number_of_front b front good e f r = rw (e, r ∙ ap image_in_range (f ∙ whole b e)) refl

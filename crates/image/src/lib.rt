@@ -5,9 +5,9 @@
 mod fitting;
 mod numbers;
 
-ghost use Rattle.std.specs.Prelude.{◌<◌, ◌≡◌};
+ghost use Rattle.std.specs.Prelude.{◌<◌, ◌≤◌, ◌≡◌, length, take};
 ghost use Rattle.arbiter.specs.Registers.{register_byte, reads_at};
-ghost use Rattle.layout.specs.Layout.{kind_in, word_at, flag_at, side_in, bus_in, arb_in, device_in};
+ghost use Rattle.layout.specs.Layout.{image_length, kind_in, word_at, flag_at, side_in, bus_in, arb_in, device_in};
 ghost use Rattle.layout.specs.Images.{image_number, shown};
 ghost use Rattle.layout.specs.Refusals.{number_of, shown_of};
 
@@ -118,17 +118,25 @@ fn device_in(b: &[u8; IMAGE_LENGTH]) -> Device
     }
 }
 
+// The image that a buffer begins with, as it lies there: a copy of it costs a microcontroller half a step. By `as_chunks`, since compiled for wasm32 a
+// slice that is tried as an array of its length is refused.
+fn front(b: &[u8]) -> &[u8; IMAGE_LENGTH]
+    requires { image_length ≤ length b.now }
+    ensures { result.now ≡ take image_length b.now }
+{
+    &b[..IMAGE_LENGTH].as_chunks::<IMAGE_LENGTH>().0[0]
+}
+
 // The device of an image. A shorter buffer is taken as if 0 followed it; whoever steps or shows a device has asked for the length first.
 pub fn read_image(b: &[u8]) -> Device
     ensures { result ≡ device_in b.now }
 {
-    let mut image = [0; IMAGE_LENGTH];
     if b.len() < IMAGE_LENGTH {
+        let mut image = [0; IMAGE_LENGTH];
         image[..b.len()].copy_from_slice(b);
         device_in(&image)
     } else {
-        image.copy_from_slice(&b[..IMAGE_LENGTH]);
-        device_in(&image)
+        device_in(front(b))
     }
 }
 
@@ -142,10 +150,7 @@ pub fn check_image(b: &[u8]) -> Result<(), ImageRefusal>
     if b.len() != IMAGE_LENGTH {
         return Err(ImageRefusal::Length);
     }
-    // Copied: compiled for wasm32, a slice that is tried as an array of its length is refused.
-    let mut image = [0; IMAGE_LENGTH];
-    image.copy_from_slice(b);
-    if in_range(&image) {
+    if in_range(front(b)) {
         Ok(())
     } else {
         Err(ImageRefusal::Range)

@@ -224,7 +224,7 @@ pub(crate) fn step_any(image: &mut [u8], r: Raw) -> Answer
 // a field outside its range, with 00, 00, 00 after the number, and the buffer is left as it was.
 //
 // Each kind has a call of its own, so that a compiler with room makes of each what is left of the step for that kind (docs/SPEED.md, "Single
-// steps"): 480 to 537 instructions, and 625 to 695 with one arm for all. For a microcontroller the calls are one.
+// steps"). For a microcontroller the calls are one.
 pub fn step_image(image: &mut [u8], r: Raw) -> Answer
     ensures { (result ≡ image_answer image.old r) × (image.new ≡ image_after image.old r) }
 {

@@ -3,6 +3,7 @@ ghost use Rattle.std.specs.Prelude.{◌≤◌, ◌<◌, ◌≡◌, length};
 ghost use Rattle.sheets.specs.Sheets.{box_place, place_at, box_on, place_of, place_number, look_up_number, part_of, start_of};
 
 use crate::pair::{Pair, pair_of};
+use crate::sheet::check_pair;
 use crate::{Fault, Place};
 
 #[tactic(auto, unfolding(crate::specs::Sheets::place_at))]
@@ -43,7 +44,8 @@ pub fn place_of(board: &[u8], house: &[u8], section: u8, controller: u8) -> Resu
     ensures value { result ≡ place_of section controller board.now house.now }
     ensures result_value { place_number result ≡ look_up_number section controller board.now house.now }
 {
-    box_on(pair_of(board, house)?, section, controller)
+    check_pair(board, house)?;
+    box_on(pair_of(board, house), section, controller)
 }
 
 // That box: the two bytes, tick and value, of the sheet that it is taken from.

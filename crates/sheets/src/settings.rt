@@ -5,27 +5,29 @@ ghost use Rattle.arbiter.specs.Marks.{command, write, stop};
 ghost use Rattle.arbiter.specs.Writing.{raws_bytes};
 ghost use Rattle.sheets.specs.Settings.{ticked_on_either, is_complete, value_at, setting_of, order_of, read_complete, read_order, control_byte, setting_events, order_events, ordered, ordered_buffer, order_told};
 
-use crate::pair::{Pair, pair_of};
+use crate::pair::{Pair, Sheet, pair_of};
+use crate::sheet::check_pair;
 use crate::{Fault, Order, Setting};
 
 #[tactic(auto, unfolding(crate::specs::Settings::ticked_on_either))]
-fn is_ticked_on_either(pair: Pair, at: usize) -> bool
+fn is_ticked_on_either(board: Sheet, house: Sheet, at: usize) -> bool
     requires { at < 15 }
-    ensures { result ≡ ticked_on_either at pair.entry.board.bytes.now pair.entry.house.bytes.now }
+    ensures { result ≡ ticked_on_either at board.entry.bytes.now house.entry.bytes.now }
 {
-    pair.board.is_ticked(at) | pair.house.is_ticked(at)
+    board.is_ticked(at) | house.is_ticked(at)
 }
 
+// Each sheet apart, and no pair: two callers share this one, and a pair would be put into memory for it.
 #[tactic(auto, unfolding(crate::specs::Settings::is_complete))]
-pub(crate) fn is_complete(pair: Pair) -> bool
-    ensures { result ≡ is_complete pair.entry.board.bytes.now pair.entry.house.bytes.now }
+pub(crate) fn is_complete(board: Sheet, house: Sheet) -> bool
+    ensures { result ≡ is_complete board.entry.bytes.now house.entry.bytes.now }
 {
-    is_ticked_on_either(pair, 1)
-        & is_ticked_on_either(pair, 3)
-        & is_ticked_on_either(pair, 6)
-        & is_ticked_on_either(pair, 8)
-        & is_ticked_on_either(pair, 11)
-        & is_ticked_on_either(pair, 13)
+    is_ticked_on_either(board, house, 1)
+        & is_ticked_on_either(board, house, 3)
+        & is_ticked_on_either(board, house, 6)
+        & is_ticked_on_either(board, house, 8)
+        & is_ticked_on_either(board, house, 11)
+        & is_ticked_on_either(board, house, 13)
 }
 
 // The value of a box that is ticked on one sheet or the other.
@@ -67,7 +69,7 @@ fn order_of(pair: Pair) -> Order
 fn read_complete(pair: Pair, room: usize) -> Result<Order, Fault>
     ensures { result ≡ read_complete pair.entry.board.bytes.now pair.entry.house.bytes.now room }
 {
-    if !is_complete(pair) {
+    if !is_complete(pair.board, pair.house) {
         return Err(Fault::Unticked);
     }
     if room < 48 {
@@ -80,7 +82,8 @@ fn read_complete(pair: Pair, room: usize) -> Result<Order, Fault>
 fn read_order(board: &[u8], house: &[u8], room: usize) -> Result<Order, Fault>
     ensures { result ≡ read_order board.now house.now room }
 {
-    read_complete(pair_of(board, house)?, room)
+    check_pair(board, house)?;
+    read_complete(pair_of(board, house), room)
 }
 
 // ---- its events
@@ -93,11 +96,25 @@ fn control_byte(s: Setting) -> u8
     0x01 + 0x80 * u8::from(s.priority) + 0x20 * u8::from(s.idle)
 }
 
-// Master m sets register p to v: COMMAND, WRITE, STOP, four bytes each.
-fn register_events(m: u8, p: u8, v: u8) -> [u8; 12]
-    ensures { result ≡ raws_bytes (command m p ∷ write m v ∷ stop m ∷ []) }
+// An event of master m whose last field is unused. Byte by byte, since a microcontroller calls its runtime for a copy.
+fn put_event(event: &mut [u8], kind: u8, m: u8, v: u8)
+    requires { length event.old ≡ 4 }
+    ensures { event.new ≡ kind ∷ m ∷ v ∷ 0 ∷ [] }
 {
-    [0, m, p, 0, 1, m, v, 0, 3, m, 0, 0]
+    event[0] = kind;
+    event[1] = m;
+    event[2] = v;
+    event[3] = 0;
+}
+
+// Master m sets register p to v: COMMAND, WRITE, STOP, four bytes each.
+fn put_register(events: &mut [u8], m: u8, p: u8, v: u8)
+    requires { length events.old ≡ 12 }
+    ensures { events.new ≡ raws_bytes (command m p ∷ write m v ∷ stop m ∷ []) }
+{
+    put_event(&mut events[..4], 0, m, p);
+    put_event(&mut events[4..8], 1, m, v);
+    put_event(&mut events[8..], 3, m, 0);
 }
 
 // The six events of one master: its reserve, then its CONTR.
@@ -105,8 +122,8 @@ fn put_setting(events: &mut [u8], m: u8, s: Setting)
     requires { length events.old ≡ 24 }
     ensures { events.new ≡ raws_bytes (setting_events m s) }
 {
-    events[..12].copy_from_slice(&register_events(m, 0x03, s.reserve));
-    events[12..].copy_from_slice(&register_events(m, 0x01, control_byte(s)));
+    put_register(&mut events[..12], m, 0x03, s.reserve);
+    put_register(&mut events[12..], m, 0x01, control_byte(s));
 }
 
 #[tactic(auto, unfolding(crate::specs::Settings::order_events))]

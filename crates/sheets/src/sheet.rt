@@ -3,16 +3,16 @@ ghost use Rattle.std.specs.Prelude.{◌+◌, ◌≤◌, ◌<◌, ◌≡◌, leng
 ghost use Rattle.sheets.specs.Sheets.{check_pair, fault_number, checked_number, pair_number};
 
 use crate::Fault;
-use crate::pair::pair_of;
+use crate::pair::check_sheet;
 
 // The board sheet first, then the house sheet.
-#[tactic(auto, using(crate::proofs::Numbers::pair_passed, crate::proofs::Numbers::pair_refused))]
+#[tactic(auto, using(crate::proofs::Numbers::pair_passed, crate::proofs::Numbers::pair_refused), unfolding(crate::specs::Sheets::check_pair))]
 pub fn check_pair(board: &[u8], house: &[u8]) -> Result<(), Fault>
     ensures value { result ≡ check_pair board.now house.now }
     ensures result_value { checked_number result ≡ pair_number board.now house.now }
 {
-    pair_of(board, house)?;
-    Ok(())
+    check_sheet(board)?;
+    check_sheet(house)
 }
 
 // Document 02's number of a refusal.

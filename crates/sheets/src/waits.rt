@@ -4,6 +4,7 @@ ghost use Rattle.sheets.specs.Waits.{wait_behind, wait_on, wait_of, wait_told};
 
 use crate::pair::{Pair, pair_of};
 use crate::settings::{is_complete, setting_of};
+use crate::sheet::check_pair;
 use crate::{Bound, Fault, Setting};
 use arbiter::Kind;
 use fields::limit_of;
@@ -34,7 +35,7 @@ fn wait_on(pair: Pair, controller: u8, kind: u8) -> Result<Bound, Fault>
     if !is_kind(kind) {
         return Err(Fault::BadBox);
     }
-    if !is_complete(pair) {
+    if !is_complete(pair.board, pair.house) {
         return Err(Fault::Unticked);
     }
     Ok(wait_behind(kind_of(kind), setting_of(pair, 1 - usize::from(controller))))
@@ -45,5 +46,6 @@ fn wait_on(pair: Pair, controller: u8, kind: u8) -> Result<Bound, Fault>
 pub fn wait_of(board: &[u8], house: &[u8], controller: u8, kind: u8) -> Result<Bound, Fault>
     ensures { wait_told result ≡ wait_of controller kind board.now house.now }
 {
-    wait_on(pair_of(board, house)?, controller, kind)
+    check_pair(board, house)?;
+    wait_on(pair_of(board, house), controller, kind)
 }

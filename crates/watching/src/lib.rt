@@ -45,9 +45,10 @@ fn count_still(samples: &[u8], from: usize, x: u8, room: usize) -> usize
     requires { from ≤ length samples.now }
     ensures { (result ≤ room) × (from + result ≤ length samples.now) × (are_all x (take result (drop from samples.now)) ≡ true) }
 {
-    samples[from..]
+    // The room is taken off the slice, and not by `take`: a bus at rest spends its time here, and `take` asks again at each sample.
+    let most = room.min(samples.len() - from);
+    samples[from..from + most]
         .iter()
-        .take(room)
         .take_while(|&&y| y == x)
         .count()
 }

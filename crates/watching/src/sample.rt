@@ -29,14 +29,11 @@ fn follow(e: Event, w: Watcher) -> Watcher
     }
 }
 
-#[tactic(auto, unfolding(watch::specs::Stream::followed_all))]
-fn follow_one(event: Option<Event>, w: Watcher) -> Watcher
-    ensures { result ≡ followed_all (one_listed event) w }
+// An event with none beside it: all three kinds of events of a sample go one way, which a microcontroller has once.
+fn alone(event: Option<Event>) -> Option<(Event, Option<Event>)>
+    ensures { listed result ≡ one_listed event }
 {
-    match event {
-        None => w,
-        Some(e) => follow(e, w),
-    }
+    event.map(|e| (e, None))
 }
 
 #[tactic(auto, unfolding(watch::specs::Stream::followed_all))]
@@ -45,7 +42,8 @@ fn follow_few(few: Option<(Event, Option<Event>)>, w: Watcher) -> Watcher
 {
     match few {
         None => w,
-        Some((first, second)) => follow_one(second, follow(first, w)),
+        Some((e, None)) => follow(e, w),
+        Some((first, Some(second))) => follow(second, follow(first, w)),
     }
 }
 
@@ -190,8 +188,8 @@ pub(crate) fn watch_sample(x: u8, w: Watcher) -> Watcher
     ensures { result ≡ watched_at x w }
 {
     let heard = heard_now(w.settings, x, w.ear);
-    let moved = follow_one(lines_given(w.settings, x, w.ear), w);
+    let moved = follow_few(alone(lines_given(w.settings, x, w.ear)), w);
     let spoken = follow_few(few_of(heard.given0, heard.given1), moved);
-    let passed = follow_one(ticks_given(w.settings, w.ear), spoken);
+    let passed = follow_few(alone(ticks_given(w.settings, w.ear)), spoken);
     heard_by(x, w, passed, heard.both)
 }

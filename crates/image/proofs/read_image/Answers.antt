@@ -12,4 +12,4 @@ returns-then-b-lt-IMAGE_LENGTH c =
     ∙ padded _ 38
 
 pub returns-else-b-lt-IMAGE_LENGTH : goal.returns-else-b-lt-IMAGE_LENGTH
-returns-else-b-lt-IMAGE_LENGTH c = c.device_in-else-b-lt-IMAGE_LENGTH.ensures ∙ ap device_in c.copy_from_slice-else-b-lt-IMAGE_LENGTH.ensures.after ∙ begun _
+returns-else-b-lt-IMAGE_LENGTH c = c.device_in-else-b-lt-IMAGE_LENGTH.ensures ∙ ap device_in c.front.ensures ∙ begun _
