@@ -21,7 +21,7 @@ use traces::reading::read_trace;
 
 const NAME: &str = "bench";
 
-// ---- printing: each line is put together and then written at once
+// ---- printing: each line is put together and then written at once, since a stream has no buffer
 
 // An answer's line, the longest one: eight digits and the line end.
 const LINE_ROOM: usize = 9;

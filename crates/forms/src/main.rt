@@ -41,6 +41,12 @@ const DEVICES: usize = 2;
 
 // ---- printing
 
+fn print_end<W: io::Write>(out: &mut W) -> io::Result<()>
+    ensures { OnOk result (Appends (W.contents out.old) (W.contents out.new) newline) }
+{
+    writeln!(out)
+}
+
 // The four bytes of an answer, after a space.
 fn print_answer<W: io::Write>(out: &mut W, a: Answer) -> io::Result<()>
     ensures { OnOk result (Appends (W.contents out.old) (W.contents out.new)
@@ -86,12 +92,10 @@ fn print_box<'a, W: io::Write>(
     write!(which, "{section:X}{controller:X} ")?;
     out.write_all(which.as_slice())?;
     match look_up(board, house, section, controller) {
-        [first, second, ..] => writeln!(out, "{}{}", Hex(*first), Hex(*second)),
-        _ => {
-            write!(out, "-")?;
-            out.write_all(&[b'\n'])
-        }
+        [first, second, ..] => write!(out, "{}{}", Hex(*first), Hex(*second))?,
+        _ => write!(out, "-")?,
     }
+    print_end(out)
 }
 
 // Every box there is, and one that is not.
@@ -151,7 +155,7 @@ fn print_step<W: io::Write>(
     print_event(out, name, r)?;
     print_answer(out, shelf)?;
     print_answer(out, alone)?;
-    writeln!(out)
+    print_end(out)
 }
 
 fn run_events<W: io::Write>(out: &mut W, events: &[u8]) -> io::Result<()> {

@@ -24,6 +24,7 @@ const REASON_ROOM: usize = 10;
 fn say_if_refused<W: io::Write>(errors: &mut W, read: Result<Accepted, Refusal>) -> io::Result<()> {
     if let Err(refusal) = read {
         write!(errors, "refused: ")?;
+        // Written at once, since a stream has no buffer.
         let mut reason = ArrayVec::<u8, REASON_ROOM>::new();
         writeln!(reason, "{}", Reason(refusal))?;
         errors.write_all(reason.as_slice())?;
